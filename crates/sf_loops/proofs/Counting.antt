@@ -1,18 +1,21 @@
 -- How many records a loop has answered: what a caller that counts them keeps in its loop, and has at the end.
-use Rattle.std.proofs.Common.{◌≡◌, ℕ, ◌+◌, Bool, true, false, List, [], ◌∷◌, ◌++◌, length, Option, Some, None, Result, Ok, Err}
+use Rattle.std.proofs.Common.{◌≡◌, ℕ, ◌+◌, ◌⊎◌, inl, inr, Bool, true, false, cond, ◌&&◌, nat_eq, List, [], ◌∷◌, ◌++◌, length, Option, Some, None, Result, Ok, Err}
 use Rattle.std.proofs.Common.{refl, sym, ap, subst, ◌∙◌, arith, length-append}
+use Rattle.std.proofs.lemmas.Bool.Decides.{nat_tests}
 use Rattle.sf_base.specs.Data.{Datum}
 use Rattle.sf_base.specs.declared.values.Kind.{Kind}
 use Rattle.sf_format.specs.declared.directive.Directive.{Directive}
+use Rattle.sf_format.specs.Proper.{has_optional}
 use Rattle.sf_run.specs.outcome.Ending.{Ending}
-use Rattle.sf_run.specs.outcome.Ending.TheVariants.{End}
+use Rattle.sf_run.specs.outcome.Ending.TheVariants.{End, Fault}
 use Rattle.sf_run.specs.outcome.Outcome.{Outcome}
 use Rattle.sf_run.specs.outcome.Status.{Status}
-use Rattle.sf_run.specs.outcome.Status.TheVariants.{InputFailure}
+use Rattle.sf_run.specs.outcome.Status.TheVariants.{Done, InputFailure, MatchingFailure, OutOfRange, TooLong, NoMemory}
 use Rattle.sf_run.specs.Limits.{RunTold}
 use Rattle.sf_read.specs.Ahead.{input_of}
 use Rattle.sf_read.specs.Scan.{is_fault}
 use Rattle.sf_loops.specs.declared.fault.RecordFault.{RecordFault}
+use Rattle.sf_loops.specs.declared.fault.RecordWhy.TheVariants as why
 use Rattle.sf_loops.specs.declared.turn.Turn.{Turn}
 use Rattle.sf_loops.specs.declared.turn.Turn.TheVariants.{Goes, Cut, Ends, Stops}
 use Rattle.sf_loops.specs.Laws.{AnswersInTurn}
@@ -55,9 +58,9 @@ module _ {S T : Type 0} (to_come : S → Option (List ℕ)) (reads failures : S 
   after was mid new (Stops why) h same = let never = h.0 in absurd cc
 
   after_row : (was mid new : Loop S) (turn : Result Bool RecordFault) (row : T) → RowAnswers kinds listed mid new turn (Ok (Some row))
-      → Advances was mid (turn_of mid.report) turn
+      → Advances was mid (turn_of was.format mid.report) turn
       → (new.over ≡ Some None → ⊥) × (new.over ≡ None → (new.format ≡ was.format) × (new.limit ≡ was.limit))
-  after_row was mid new (Ok true) row h advances = after was mid new (turn_of mid.report) advances h.0
+  after_row was mid new (Ok true) row h advances = after was mid new (turn_of was.format mid.report) advances h.0
   after_row was mid new (Ok false) row h advances = absurd h
   after_row was mid new (Err fault) row h advances = absurd h
 
@@ -84,9 +87,48 @@ module _ {S T : Type 0} (to_come : S → Option (List ℕ)) (reads failures : S 
             unended = left.0;
           }
 
-  fine : (o : Outcome) (status : Status) (met : Option Ending) → turn_for o status met ≡ Ends → (is_fault met ≡ false) ×
-      (status ≡ InputFailure) × (o.converted ≡ 0) × (met ≡ Some End)
-  fine o status met e = (grind arith, grind arith, grind arith, grind arith)
+  fine : (optional : Bool) (o : Outcome) (status : Status) (met : Option Ending)
+      → turn_for optional o status met ≡ Ends
+      → (is_fault met ≡ false) × ((status ≡ InputFailure) ⊎ (status ≡ Done) × (optional ≡ true)) × (o.converted ≡ 0) × (met ≡ Some End)
+  fine optional o InputFailure (Some End) e = (refl, inl refl, grind arith, refl)
+  fine optional o Done (Some End) e = by optional (nat_eq o.converted 0) (nat_eq o.used 0) refl refl e
+    where
+      by : (v c u : Bool) → optional ≡ v → nat_eq o.converted 0 ≡ c
+          → cond (v && c) Ends (cond u (Stops why.Stalled) Goes) ≡ Ends
+          → (is_fault (Some End) ≡ false) × ((Done ≡ InputFailure) ⊎ (Done ≡ Done) × (optional ≡ true)) × (o.converted ≡ 0)
+          × (Some End ≡ Some End)
+      by true true u is none h = (refl, inr (refl, is), grind (arith, nat_tests), refl)
+      by true false true is none h = absurd cc
+      by true false false is none h = absurd cc
+      by false c true is none h = absurd cc
+      by false c false is none h = absurd cc
+  fine optional o Done None e = by (nat_eq o.used 0) e
+    where
+      by : (u : Bool) → cond u (Stops why.Stalled) Goes ≡ Ends
+          → (is_fault None ≡ false) × ((Done ≡ InputFailure) ⊎ (Done ≡ Done) × (optional ≡ true)) × (o.converted ≡ 0) × (None ≡ Some End)
+      by true h = absurd cc
+      by false h = absurd cc
+  fine optional o Done (Some Fault) e = by (nat_eq o.used 0) e
+    where
+      by : (u : Bool) → cond u (Stops why.Read) Cut ≡ Ends
+          → (is_fault (Some Fault) ≡ false) × ((Done ≡ InputFailure) ⊎ (Done ≡ Done) × (optional ≡ true)) × (o.converted ≡ 0)
+          × (Some Fault ≡ Some End)
+      by true h = absurd cc
+      by false h = absurd cc
+  fine optional o InputFailure None e = absurd cc
+  fine optional o InputFailure (Some Fault) e = absurd cc
+  fine optional o MatchingFailure None e = absurd cc
+  fine optional o MatchingFailure (Some End) e = absurd cc
+  fine optional o MatchingFailure (Some Fault) e = absurd cc
+  fine optional o OutOfRange None e = absurd cc
+  fine optional o OutOfRange (Some End) e = absurd cc
+  fine optional o OutOfRange (Some Fault) e = absurd cc
+  fine optional o TooLong None e = absurd cc
+  fine optional o TooLong (Some End) e = absurd cc
+  fine optional o TooLong (Some Fault) e = absurd cc
+  fine optional o NoMemory None e = absurd cc
+  fine optional o NoMemory (Some End) e = absurd cc
+  fine optional o NoMemory (Some Fault) e = absurd cc
 
   ends_turn : (was mid : Loop S) (turn : Turn) → Advances was mid turn (Ok false) → turn ≡ Ends
   ends_turn was mid Ends h = refl
@@ -95,8 +137,8 @@ module _ {S T : Type 0} (to_come : S → Option (List ℕ)) (reads failures : S 
   ends_turn was mid (Stops why) h = let never = h.0 in absurd cc
 
   none_turn : (was mid new : Loop S) (turn : Result Bool RecordFault) → RowAnswers kinds listed mid new turn (Ok None)
-      → Advances was mid (turn_of mid.report) turn → turn_of mid.report ≡ Ends
-  none_turn was mid new (Ok false) h advances = ends_turn was mid (turn_of mid.report) advances
+      → Advances was mid (turn_of was.format mid.report) turn → turn_of was.format mid.report ≡ Ends
+  none_turn was mid new (Ok false) h advances = ends_turn was mid (turn_of was.format mid.report) advances
   none_turn was mid new (Ok true) h advances = absurd h
   none_turn was mid new (Err fault) h advances = absurd h
 
@@ -115,7 +157,7 @@ module _ {S T : Type 0} (to_come : S → Option (List ℕ)) (reads failures : S 
           let (left, records, rest) = answers_are_records to_come reads failures N kinds listed old now c.rows before.0 t input in
           let turn = none_turn now is.advanced new is.turn is.answers is.is.advances in
           let o = outcome_of is.advanced.report in
-          let end = fine o is.advanced.report.status is.advanced.report.met turn in
+          let end = fine (has_optional now.format) o is.advanced.report.status is.advanced.report.met turn in
           let told = (is.is.run.scan left rest).whole end.0 in
           record {
             rows = c.rows;
@@ -126,7 +168,8 @@ module _ {S T : Type 0} (to_come : S → Option (List ℕ)) (reads failures : S 
               report = is.advanced.report;
               told = subst (λ (ds : List Directive). RunTold ds old.limit left End is.advanced.report) before.1
                   (subst (λ m. RunTold now.format m left End is.advanced.report) before.2 told);
-              status = end.1;
+              status = subst (λ (ds : List Directive). (is.advanced.report.status ≡ InputFailure)
+                  ⊎ (is.advanced.report.status ≡ Done) × (has_optional ds ≡ true)) before.1 end.1;
               converted = end.2;
               met = end.3;
             };

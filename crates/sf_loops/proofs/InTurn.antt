@@ -3,6 +3,7 @@ use Rattle.std.proofs.Common.{◌≡◌, ℕ, Bool, true, false, List, [], ◌�
 use Rattle.sf_base.specs.Data.{Datum}
 use Rattle.sf_base.specs.declared.values.Kind.{Kind}
 use Rattle.sf_format.specs.declared.directive.Directive.{Directive}
+use Rattle.sf_format.specs.Proper.{has_optional}
 use Rattle.sf_run.specs.outcome.Ending.{Ending}
 use Rattle.sf_run.specs.outcome.Outcome.{Outcome}
 use Rattle.sf_run.specs.outcome.Status.{Status}
@@ -17,8 +18,9 @@ use Rattle.sf_loops.specs.Loops.{Advances, Loop, RowAnswers}
 use Rattle.sf_loops.specs.Turns.{outcome_of, turn_for, turn_of}
 
 -- a run after which the loop goes on met no fault
-goes_on : (o : Outcome) (status : Status) (met : Option Ending) → turn_for o status met ≡ Goes → is_fault met ≡ false
-goes_on o status met e = grind arith
+goes_on : (optional : Bool) (o : Outcome) (status : Status) (met : Option Ending)
+    → turn_for optional o status met ≡ Goes → is_fault met ≡ false
+goes_on optional o status met e = grind arith
 
 -- the loop goes on only after such a run
 goes_by : {S : Type 0} (old new : Loop S) (turn : Turn) (result : Result Bool RecordFault) → Advances old new turn result → new.over ≡ None
@@ -44,8 +46,10 @@ answers_are_records {S} to_come reads failures N kinds listed old new [] is t e 
 answers_are_records {S} to_come reads failures N kinds listed old new (row ∷ rows) (mid, next, open', more) t e =
     let own = row_of kinds listed next.advanced mid next.turn row next.answers in
     let after : Loop S = next.advanced in
-    let goes = goes_by old after (turn_of after.report) next.turn next.is.advances (ap (λ (l : Loop S). l.over) (sym own.0) ∙ open') in
-    let fine : is_fault after.report.met ≡ false = goes_on (outcome_of after.report) after.report.status after.report.met goes.0 in
+    let goes = goes_by old after (turn_of old.format after.report) next.turn next.is.advances (ap (λ (l : Loop S). l.over) (sym own.0)
+    ∙ open') in
+    let fine : is_fault after.report.met ≡ false = goes_on (has_optional old.format) (outcome_of after.report) after.report.status
+    after.report.met goes.0 in
     let scan = next.is.run.scan t e in
     let rest : input_of to_come mid.ahead ≡ Some (drop after.report.used t) =
     ap (λ (l : Loop S). input_of to_come l.ahead) own.0 ∙ scan.rest in

@@ -2,7 +2,7 @@
 use Rattle.std.proofs.Common.{◌≡◌, ℕ, Bool, true, false, List, Option, Some, None, Result, Ok, Err, refl, sym, ap, subst, ◌∙◌}
 use Rattle.sf_base.specs.Data.{Datum}
 use Rattle.sf_base.specs.declared.values.Kind.{Kind}
-use Rattle.sf_format.specs.Proper.{AreKinded}
+use Rattle.sf_format.specs.Proper.{IsAccepted}
 use Rattle.sf_run.specs.outcome.Ending.TheVariants.{End}
 use Rattle.sf_run.specs.Rows.{AreGiven}
 use Rattle.sf_read.specs.RowScans.{HasShape}
@@ -37,10 +37,11 @@ reported {to_come = to_come} {reads = reads} {failures = failures} {N = N} old n
 -- its report has a value of its kind for each slot of the row
 pub given_line : {S : Type 0} {to_come : S → Option (List ℕ)} {reads failures : S → ℕ} {N : ℕ} (kinds : List Kind) (old new : LineLoop S)
     (result : Result Bool LineFault) → StaysEnded old new result → (old.over ≡ None → IsNextLine to_come reads failures N old new result)
-    → result ≡ Ok true → AreKinded new.format → HasShape kinds old.format → AreGiven kinds new.report.values
-given_line {to_come = to_come} {reads = reads} {failures = failures} {N = N} kinds old new result over next e kinded shape =
+    → result ≡ Ok true → IsAccepted new.format → HasShape kinds old.format → AreGiven kinds new.report.values
+given_line {to_come = to_come} {reads = reads} {failures = failures} {N = N} kinds old new result over next e is_accepted shape =
     let r = reported {to_come = to_come} {reads = reads} {failures = failures} {N = N} old new result over next e in
-    given kinds old.format old.limit r.0 End new.report (subst AreKinded r.1.goes.format kinded) shape r.1.scanned r.1.done
+    let accepted = subst IsAccepted r.1.goes.format is_accepted in
+    given kinds old.format old.limit r.0 End new.report accepted.kinded accepted.slots shape r.1.scanned r.1.done
 
 -- the next line as a row, of a loop that is known by another name
 pub as_line_row : {S T : Type 0} (to_come : S → Option (List ℕ)) (reads failures : S → ℕ) (N : ℕ) (kinds : List Kind)

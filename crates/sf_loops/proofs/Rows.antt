@@ -2,7 +2,7 @@
 use Rattle.std.proofs.Common.{◌≡◌, ℕ, ◌⊎◌, inl, inr, Bool, true, false, List, Option, Some, None, Result, Ok, Err, refl, sym, ap, subst, ◌∙◌, arith, true≢false}
 use Rattle.sf_base.specs.Data.{Datum}
 use Rattle.sf_base.specs.declared.values.Kind.{Kind}
-use Rattle.sf_format.specs.Proper.{AreKinded}
+use Rattle.sf_format.specs.Proper.{IsAccepted, has_optional}
 use Rattle.sf_run.specs.outcome.Ending.{Ending}
 use Rattle.sf_run.specs.outcome.Outcome.{Outcome}
 use Rattle.sf_run.specs.outcome.Status.{Status}
@@ -24,11 +24,13 @@ err_is a b e = cc
 
 -- ---- a record is there only where the run of it is Done
 
-goes_done : (o : Outcome) (status : Status) (met : Option Ending) → turn_for o status met ≡ Goes → status ≡ Done
-goes_done o status met e = grind arith
+goes_done : (optional : Bool) (o : Outcome) (status : Status) (met : Option Ending)
+    → turn_for optional o status met ≡ Goes → status ≡ Done
+goes_done optional o status met e = grind arith
 
-cut_done : (o : Outcome) (status : Status) (met : Option Ending) → turn_for o status met ≡ Cut → status ≡ Done
-cut_done o status met e = grind arith
+cut_done : (optional : Bool) (o : Outcome) (status : Status) (met : Option Ending)
+    → turn_for optional o status met ≡ Cut → status ≡ Done
+cut_done optional o status met e = grind arith
 
 true_done : {S : Type 0} (old new : Loop S) (turn : Turn) (result : Result Bool RecordFault) → Advances old new turn result
     → result ≡ Ok true
@@ -50,24 +52,30 @@ done_of {to_come = to_come} {reads = reads} {failures = failures} {N = N} old ne
     by None open' =
         let r = outcome_of new.report in (
           next open',
-          elim (true_done old new (turn_of new.report) result (next open').advances e) [
-            | inl goes ↦ goes_done r r.status r.met goes
-            | inr cut ↦ cut_done r r.status r.met cut
+          elim (true_done old new (turn_of old.format new.report) result (next open').advances e) [
+            | inl goes ↦ goes_done (has_optional old.format) r r.status r.met goes
+            | inr cut ↦ cut_done (has_optional old.format) r r.status r.met cut
           ],
         )
     by (Some None) ended = absurd (true≢false (ok_is true false (sym e ∙ (over None ended).1)))
     by (Some (Some fault)) ended = let never = sym e ∙ (over (Some fault) ended).1 in absurd cc
+
+-- by what the loop does after the run
+pub advances_by : {S : Type 0} (old new : Loop S) (turn other : Turn) (result : Result Bool RecordFault) → other ≡ turn
+    → Advances old new turn result → Advances old new other result
+advances_by old new turn other result e h = subst (λ t. Advances old new t result) (sym e) h
 
 -- its report has a value of its kind for each slot of the row
 pub given_row : {S : Type 0} {to_come : S → Option (List ℕ)} {reads failures : S → ℕ} {N : ℕ} (kinds : List Kind) (old new : Loop S)
     (result : Result Bool RecordFault)
     → ((end : Option RecordFault) → old.over ≡ Some end → (new ≡ old) × (result ≡ ended_with false end))
     → (old.over ≡ None → IsNext to_come reads failures N old new result) → result ≡ Ok true
-    → new.format ≡ old.format → AreKinded new.format → HasShape kinds old.format → AreGiven kinds new.report.values
-given_row {to_come = to_come} {reads = reads} {failures = failures} {N = N} kinds old new result over next e same kinded shape =
+    → new.format ≡ old.format → IsAccepted new.format → HasShape kinds old.format → AreGiven kinds new.report.values
+given_row {to_come = to_come} {reads = reads} {failures = failures} {N = N} kinds old new result over next e same is_accepted shape =
     let d = done_of {to_come = to_come} {reads = reads} {failures = failures} {N = N} old new result over next e in
     let told = d.0.run.told in
-    given kinds old.format old.limit told.0 told.1 new.report (subst AreKinded same kinded) shape told.2 d.1
+    let accepted = subst IsAccepted same is_accepted in
+    given kinds old.format old.limit told.0 told.1 new.report accepted.kinded accepted.slots shape told.2 d.1
 
 -- ---- the next record as a row, of a loop that is known by another name
 

@@ -1,10 +1,11 @@
 -- How many records an input has.
-use Rattle.std.specs.Prelude.{◌≡◌, ◌+◌, ℕ, List, length, Option, Some, None, Result, Ok}
+use Rattle.std.specs.Prelude.{◌≡◌, ◌+◌, ℕ, List, length, Option, Some, None, Result, Ok, ◌⊎◌, true}
 use Rattle.sf_base.specs.Data.{Datum}
 use Rattle.sf_base.specs.declared.values.Kind.{Kind}
 use Rattle.sf_format.specs.declared.directive.Directive.{Directive}
+use Rattle.sf_format.specs.Proper.{has_optional}
 use Rattle.sf_run.specs.outcome.Ending.TheVariants.{End}
-use Rattle.sf_run.specs.outcome.Status.TheVariants.{InputFailure}
+use Rattle.sf_run.specs.outcome.Status.TheVariants.{Done, InputFailure}
 use Rattle.sf_run.specs.Limits.{RunTold}
 use Rattle.sf_run.specs.Runs.{RunReport}
 use Rattle.sf_loops.specs.Laws.{AnswersInTurn, AreRecords}
@@ -12,11 +13,11 @@ use Rattle.sf_read.specs.Ahead.{input_of}
 use Rattle.sf_loops.specs.declared.fault.RecordFault.{RecordFault}
 use Rattle.sf_loops.specs.Loops.{IsNextRow, Loop, ended_with}
 
--- the run over t ends where fscanf would return EOF at the end of the input (C11 7.21.6.2p16)
+-- the run over t ends where fscanf would return EOF at the end of the input (C11 7.21.6.2p16), or where each item is missing at the end
 pub record EndsAt (ds : List Directive) (m : ℕ) (t : List ℕ) : Type 0 where
   pub report : RunReport
   pub told : RunTold ds m t End report
-  pub status : report.status ≡ InputFailure
+  pub status : (report.status ≡ InputFailure) ⊎ (report.status ≡ Done) × (has_optional ds ≡ true)
   pub converted : report.converted ≡ 0
   pub met : report.met ≡ Some End
 

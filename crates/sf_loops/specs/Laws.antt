@@ -24,7 +24,7 @@ AnswersInTurn {S} to_come reads failures N kinds listed old (row ∷ rows) new =
 abbrev pub AreRecords : {T : Type 0} → List Kind → (T → List Datum) → List Directive → ℕ → List ℕ → List T → List ℕ → Type 0
 AreRecords kinds listed ds m t [] left = t ≡ left
 AreRecords kinds listed ds m t (row ∷ rows) left =
-    (r : RunReport) × RunTold ds m t End r × (turn_of r ≡ Goes) × AreRowOf (length kinds) (listed row) r.values
+    (r : RunReport) × RunTold ds m t End r × (turn_of ds r ≡ Goes) × AreRowOf (length kinds) (listed row) r.values
     × AreRecords kinds listed ds m (drop r.used t) rows left
 
 -- whatever the blocks in which the input came

@@ -61,7 +61,7 @@ Advances old new (Stops why) result =
 pub record IsNext {S : Type 0} (to_come : S → Option (List ℕ)) (reads failures : S → ℕ) (N : ℕ) (old new : Loop S)
     (result : Result Bool RecordFault) : Type 0 where
   pub run : IsNextRun to_come reads failures N old.format old.limit old.ahead new.ahead old.lines new.lines new.report
-  pub advances : Advances old new (turn_of new.report) result
+  pub advances : Advances old new (turn_of old.format new.report) result
 
 -- ---- rows
 

@@ -11,13 +11,14 @@ use sf_format::{Directive, ScanFormat, Shape};
 use sf_run::laws::{done_runs_stay, open_inputs_are_used};
 use sf_run::{Ending, Outcome, quick_run};
 
-/// Whether the last directive is a conversion whose item ends only where a byte doesn't match.
+/// Whether the last directive is a conversion without a `?` whose item ends only where a byte doesn't match.
 fn ends_unbounded(directives: &[Directive]) -> bool
     ensures { IsTrue result → EndsUnbounded directives.now }
 {
     match directives.last() {
         Some(Directive::Conv(conversion)) => {
             conversion.width.is_none()
+                && !conversion.optional
                 && matches!(
                     conversion.shape,
                     Shape::Int(_) | Shape::Text | Shape::Set(_)

@@ -1,6 +1,6 @@
 //! The lines of an input, one after the other, as reports.
 ghost use Rattle.std.specs.Prelude.{◌≡◌, ◌≤◌, ◌<◌, ◌⊎◌, ◌↔◌, [], false, Option, None, Some, IfErr, IfOk, IfSome, IsErrOf, IsSome};
-ghost use Rattle.sf_format.specs.Proper.{AreKinded};
+ghost use Rattle.sf_format.specs.Proper.{AreKinded, IsAccepted};
 ghost use Rattle.sf_format.specs.Widths.{width_sum};
 ghost use Rattle.sf_run.specs.Limits.{RunTold, RunWithin};
 ghost use Rattle.sf_run.specs.outcome.Ending.TheVariants.{End};
@@ -250,6 +250,7 @@ impl<'f, S: Source, const N: usize> LineReports<'f, S, N> {
     pub fn report(&self) -> Report<'_, HeapStore>
         ensures value { result ≡ self.now.report }
         ensures kinded { AreKinded self.now.format }
+        ensures accepted { IsAccepted self.now.format }
     {
         let _directives = self.format.directives();
         match &self.store {

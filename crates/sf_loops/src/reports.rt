@@ -1,6 +1,6 @@
 //! The records of an input, one after the other, as reports.
 ghost use Rattle.std.specs.Prelude.{◌≡◌, ◌≤◌, ◌<◌, ◌⊎◌, ◌↔◌, [], true, false, Option, None, Some, IfErr, IfOk, IsErrOf};
-ghost use Rattle.sf_format.specs.Proper.{AreKinded};
+ghost use Rattle.sf_format.specs.Proper.{AreKinded, IsAccepted};
 ghost use Rattle.sf_read.specs.Counts.{counted_on};
 ghost use Rattle.sf_loops.specs.Loops.{IsNext, ended_with, fault_of};
 ghost use Rattle.sf_loops.specs.Runs.{IsNextRun};
@@ -176,8 +176,9 @@ impl<'f, S: Source, const N: usize> Reports<'f, S, N> {
             Some(Some(fault)) => return Err(fault),
             None => {}
         }
+        let optional = self.format.has_optional();
         self.scan();
-        match next_turn(self.outcome) {
+        match next_turn(self.outcome, optional) {
             Turn::Goes => {
                 self.answered = self.answered.saturating_add(1);
                 Ok(true)
@@ -203,6 +204,7 @@ impl<'f, S: Source, const N: usize> Reports<'f, S, N> {
     pub fn report(&self) -> Report<'_, HeapStore>
         ensures value { result ≡ self.now.report }
         ensures kinded { AreKinded self.now.format }
+        ensures accepted { IsAccepted self.now.format }
     {
         let _directives = self.format.directives();
         match &self.store {

@@ -18,22 +18,23 @@ pub(crate) enum Turn {
     Stops(RecordWhy),
 }
 
-/// What the loop does after a run. After most it goes on, which is answered first.
+/// What the loop does after a run; `optional` says whether items of the format may be missing. After most it goes on,
+/// which is answered first.
 #[inline(always)]
-pub(crate) fn next_turn(outcome: Outcome) -> Turn
-    ensures { result ≡ turn_by outcome }
+pub(crate) fn next_turn(outcome: Outcome, optional: bool) -> Turn
+    ensures { result ≡ turn_by optional outcome }
 {
     if let (Status::Done, None) = (outcome.status, outcome.met)
         && outcome.used > 0
     {
         return Turn::Goes;
     }
-    turn_after(outcome)
+    turn_after(outcome, optional)
 }
 
 #[inline(never)]
-fn turn_after(outcome: Outcome) -> Turn
-    ensures { result ≡ turn_by outcome }
+fn turn_after(outcome: Outcome, optional: bool) -> Turn
+    ensures { result ≡ turn_by optional outcome }
 {
     match (outcome.status, outcome.met) {
         (Status::NoMemory, _) => Turn::Stops(RecordWhy::NoMemory),
@@ -45,6 +46,7 @@ fn turn_after(outcome: Outcome) -> Turn
             }
         }
         (_, Some(Ending::Fault)) => Turn::Stops(RecordWhy::Read),
+        (Status::Done, Some(Ending::End)) if optional && outcome.converted == 0 => Turn::Ends,
         (Status::Done, _) => {
             if outcome.used == 0 {
                 Turn::Stops(RecordWhy::Stalled)

@@ -2,12 +2,12 @@
 use Rattle.std.proofs.Common.{ℕ, ◌+◌, ◌<◌, ◌≤◌, List, [], ◌∷◌, ◌++◌, length, drop, inl, inr, arith, length-drop}
 use Rattle.std.proofs.lemmas.List.Sums.{sum_by-cons, sum_by-append}
 use Rattle.sf_format.specs.declared.directive.Shape.{Shape}
-use Rattle.sf_format.specs.declared.directive.Shape.TheVariants.{Int, Text, Set, Chars, Count}
+use Rattle.sf_format.specs.declared.directive.Shape.TheVariants.{Int, Text, Set, Chars, Float, Count}
 use Rattle.sf_format.specs.declared.directive.Conversion.{Conversion}
 use Rattle.sf_format.specs.declared.directive.Directive.{Directive}
 use Rattle.sf_format.specs.declared.directive.Directive.TheVariants.{Space, Byte, Percent, Conv}
 use Rattle.sf_run.specs.outcome.Ending.{Ending}
-use Rattle.sf_run.specs.Steps.{StepEnd, Passes, Stores, Fails, Step, ByteStep, ItemStep, ConversionStep, IsSkipBefore}
+use Rattle.sf_run.specs.Steps.{StepEnd, Passes, Stores, Misses, Fails, Step, ByteStep, ItemStep, ConversionStep, IsSkipBefore}
 use Rattle.sf_run.specs.Runs.{Ran, RunReport, GoesOn, Steps, used}
 use Rattle.sf_run.specs.Limits.{IsCut, RunWithin}
 
@@ -21,6 +21,7 @@ skip_within (Int base) x s h = h.holds.0
 skip_within Text x s h = h.holds.0
 skip_within (Set members) x s h = omega (arith, h)
 skip_within Chars x s h = omega (arith, h)
+skip_within Float x s h = h.holds.0
 skip_within Count x s h = omega (arith, h)
 
 item_within : (c : Conversion) (x : List ℕ) (k : ℕ) (end : StepEnd) → ItemStep c x k end → k ≤ length x
@@ -33,6 +34,7 @@ conversion_within c (Int base) x n k end h = item_within c x k end h
 conversion_within c Text x n k end h = item_within c x k end h
 conversion_within c (Set members) x n k end h = item_within c x k end h
 conversion_within c Chars x n k end h = item_within c x k end h
+conversion_within c Float x n k end h = item_within c x k end h
 conversion_within c Count x n k end h = omega (arith, h.0)
 
 step_within : (d : Directive) (x : List ℕ) (n k : ℕ) (end : StepEnd) → Step d x n k end → k ≤ length x
@@ -48,6 +50,8 @@ rest_within : (d : Directive) (ds : List Directive) (x : List ℕ) (n : ℕ) (r 
 rest_within d ds x n r ran Passes within h low =
     omega (arith, sum_by-cons (λ (q : Ran). q.bytes) r ran, within (drop r.bytes x) (n + r.bytes) ran h, length-drop r.bytes x)
 rest_within d ds x n r ran (Stores slot v) within h low =
+    omega (arith, sum_by-cons (λ (q : Ran). q.bytes) r ran, within (drop r.bytes x) (n + r.bytes) ran h, length-drop r.bytes x)
+rest_within d ds x n r ran Misses within h low =
     omega (arith, sum_by-cons (λ (q : Ran). q.bytes) r ran, within (drop r.bytes x) (n + r.bytes) ran h, length-drop r.bytes x)
 rest_within d ds x n r ran (Fails status) within h low =
     rw h (omega (arith, sum_by-cons (λ (q : Ran). q.bytes) r []))

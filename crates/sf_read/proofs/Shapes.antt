@@ -1,15 +1,17 @@
 -- Rows and the destinations of formats.
-use Rattle.std.proofs.Common.{◌≡◌, ℕ, ◌+◌, ◌-◌, ◌≤◌, Bool, true, false, cond, not, nat_eq, List, length, take, drop, Option, Some, None, Result, Err, is_some, if◌then◌else◌, refl, sym, ap, subst, ◌∙◌, arith}
+use Rattle.std.proofs.Common.{◌≡◌, ℕ, ◌+◌, ◌-◌, ◌≤◌, Bool, true, false, cond, not, ◌&&◌, ◌||◌, nat_eq, List, [], ◌∷◌, length, take, drop, Option, Some, None, Result, Err, is_some, if◌then◌else◌, refl, sym, ap, subst, ◌∙◌, arith}
 use Rattle.std.proofs.Math.Nat.{lt_of_not-le}
 use Rattle.std.proofs.lemmas.List.{take-append-drop, length-take-le}
 use Rattle.std.proofs.lemmas.Option.{slice_get_past}
 use Rattle.std.proofs.lemmas.Bool.Decides.{nat_tests}
 use Rattle.std.specs.Prelude.{IfSome, slice_get}
+use Rattle.std.specs.List.{cons_option}
 use Rattle.std.specs.Option.{option_eq}
 use Rattle.sf_base.specs.declared.values.Kind.{Kind}
 use Rattle.sf_format.specs.declared.directive.Directive.{Directive}
-use Rattle.sf_format.specs.Proper.{AreKinded, destinations_of, kind_at}
-use Rattle.sf_format.specs.Slots.{AreSlots}
+use Rattle.sf_format.specs.declared.directive.Directive.TheVariants.{Space, Byte, Percent, Conv}
+use Rattle.sf_format.specs.Proper.{AreKinded, destinations_of, kind_at, may_miss}
+use Rattle.sf_format.specs.Slots.{AreSlots, kind_with}
 use Rattle.sf_format.proofs.Outcomes.{by_test}
 use Rattle.sf_format.proofs.SlotLookups.{kinds_are}
 use Rattle.sf_run.specs.outcome.Ending.{Ending}
@@ -18,7 +20,8 @@ use Rattle.sf_run.specs.Stopping.{is_memory_status}
 use Rattle.sf_run.specs.Limits.{RunTold}
 use Rattle.sf_run.specs.Rows.{AreGiven, at_slot}
 use Rattle.sf_run.specs.Runs.{RunReport}
-use Rattle.sf_run.proofs.Filling.{done_fills}
+use Rattle.sf_report.proofs.Filling.{done_fills, each_given}
+use Rattle.sf_report.proofs.Values.{readable_at}
 use Rattle.sf_run.specs.declared.feeding.StartFault.{StartFault}
 use Rattle.sf_base.specs.Data.{Datum}
 use Rattle.sf_base.specs.Kept.{Kept}
@@ -48,16 +51,55 @@ no_kind shape slot out =
     let past = lt_of_not-le {n = slot} {m = length shape} (λ h. out (low, h)) in
     slice_get_past shape (slot - 1) (omega (arith, low, past)))
 
+-- a slot that may be missing has a kind
+no_may : (slot : ℕ) (ds : List Directive) → is_some (kind_at slot ds) ≡ false → may_miss slot ds ≡ false
+no_may slot [] unkinded = refl
+no_may slot (Space ∷ ds) unkinded = no_may slot ds unkinded
+no_may slot (Byte b ∷ ds) unkinded = no_may slot ds unkinded
+no_may slot (Percent ∷ ds) unkinded = no_may slot ds unkinded
+no_may slot (Conv c ∷ ds) unkinded = by c.slot refl (no_may slot ds)
+  where
+    and_nothing : (v : Bool) → (v && false || false) ≡ false
+    and_nothing true = refl
+    and_nothing false = refl
+
+    -- the kind of the slot, by that of the conversion
+    kinds : (o : Option ℕ) → c.slot ≡ o → is_some (kind_with slot (cons_option
+        (elim o [ None ↦ None | Some n ↦ Some (n, c.kind) ]) (destinations_of ds))) ≡ false
+    kinds o own = subst (λ (e : Option ℕ). is_some (kind_with slot (cons_option
+        (elim e [ None ↦ None | Some n ↦ Some (n, c.kind) ]) (destinations_of ds))) ≡ false) own unkinded
+
+    own_kind : (n : ℕ) → c.slot ≡ Some n → nat_eq n slot ≡ true → ⊥
+    own_kind n own e = let h = kinds (Some n) own in
+        let some : is_some (kind_with slot ((n, c.kind) ∷ destinations_of ds)) ≡ true = rw e refl in absurd cc
+
+    later : (n : ℕ) → c.slot ≡ Some n → nat_eq n slot ≡ false → is_some (kind_at slot ds) ≡ false
+    later n own e = let h = kinds (Some n) own in
+        let same : kind_with slot ((n, c.kind) ∷ destinations_of ds) ≡ kind_at slot ds = rw e refl in ap is_some (sym same) ∙ h
+
+    by : (o : Option ℕ) → c.slot ≡ o → (is_some (kind_at slot ds) ≡ false → may_miss slot ds ≡ false)
+        → may_miss slot (Conv c ∷ ds) ≡ false
+    by None own rest = rw (own, rest (kinds None own)) (and_nothing c.optional)
+    by (Some n) own rest =
+        by_test (nat_eq n slot) (λ v. nat_eq n slot ≡ v → may_miss slot (Conv c ∷ ds) ≡ false)
+        (λ same e. absurd (own_kind n own e)) (λ other e. rw (own, e, rest (later n own e)) (and_nothing c.optional)) refl
+
 -- what was compared slot by slot
 pub has_shape : (shape : List Kind) (ds : List Directive) → AreSlots (destinations_of ds) → length shape ≡ length (destinations_of ds)
-    → ((slot : ℕ) → 1 ≤ slot → slot ≤ length (destinations_of ds) → at_slot slot shape ≡ kind_at slot ds) → HasShape shape ds
-has_shape shape ds slots same each = (same, λ slot. by slot)
+    → ((slot : ℕ) → 1 ≤ slot → slot ≤ length (destinations_of ds)
+    → (at_slot slot shape ≡ kind_at slot ds) × (may_miss slot ds ≡ false)) → HasShape shape ds
+has_shape shape ds slots same each = record { count = same; each = λ slot. by slot; whole = λ slot. missing slot }
   where
+    missing : (slot : ℕ) → may_miss slot ds ≡ false
+    missing slot = by_test (is_some (kind_at slot ds)) (λ v. may_miss slot ds ≡ false)
+        (λ some. let known = (kinds_are slot (destinations_of ds) slots).0 some in (each slot known.0 known.1).1)
+        (λ no. no_may slot ds no)
+
     by : (slot : ℕ) → at_slot slot shape ≡ kind_at slot ds
     by slot =
         let known = kinds_are slot (destinations_of ds) slots in
         by_test (is_some (kind_at slot ds)) (λ v. at_slot slot shape ≡ kind_at slot ds)
-        (λ some. each slot (known.0 some).0 (known.0 some).1)
+        (λ some. (each slot (known.0 some).0 (known.0 some).1).0)
         (λ none. no_kind shape slot (λ h. let some = known.1 (h.0, omega (arith, same, h.1)) in absurd cc)
         ∙ sym (none_is (kind_at slot ds) none))
 
@@ -67,12 +109,17 @@ same_number a b same = grind (arith, nat_tests)
 lower : (slot n : ℕ) → nat_eq slot (n + 1) ≡ false → slot ≤ n + 1 → slot ≤ n
 lower slot n other high = grind (arith, nat_tests)
 
+-- such a slot, which isn't missing
+abbrev IsSame : List Kind → List Directive → ℕ → Type 0
+IsSame shape ds slot = (at_slot slot shape ≡ kind_at slot ds) × (may_miss slot ds ≡ false)
+
 pub one_more_slot : (shape : List Kind) (ds : List Directive) (n : ℕ)
-    → ((slot : ℕ) → 1 ≤ slot → slot ≤ n → at_slot slot shape ≡ kind_at slot ds)
-    → at_slot (n + 1) shape ≡ kind_at (n + 1) ds → (slot : ℕ) → 1 ≤ slot → slot ≤ n + 1 → at_slot slot shape ≡ kind_at slot ds
-one_more_slot shape ds n each last slot low high =
-    by_test (nat_eq slot (n + 1)) (λ v. at_slot slot shape ≡ kind_at slot ds)
-    (λ same. rw (same_number slot (n + 1) same) last) (λ other. each slot low (lower slot n other high))
+    → ((slot : ℕ) → 1 ≤ slot → slot ≤ n → (at_slot slot shape ≡ kind_at slot ds) × (may_miss slot ds ≡ false))
+    → at_slot (n + 1) shape ≡ kind_at (n + 1) ds → may_miss (n + 1) ds ≡ false → (slot : ℕ) → 1 ≤ slot → slot ≤ n + 1
+    → (at_slot slot shape ≡ kind_at slot ds) × (may_miss slot ds ≡ false)
+one_more_slot shape ds n each last whole slot low high =
+    by_test (nat_eq slot (n + 1)) (λ v. IsSame shape ds slot)
+    (λ same. rw (same_number slot (n + 1) same) (last, whole)) (λ other. each slot low (lower slot n other high))
 
 -- the answers of the test whether two options differ
 pub same_option : {A : Type 0} (eq : A → A → Bool) → ((a b : A) → eq a b ≡ true → a ≡ b) → (a b : Option A) {differ : Bool}
@@ -88,9 +135,12 @@ same_option eq same (Some a) (Some b) test is = ap Some (same a b (not_false (eq
 
 -- where the shapes are the same, these are the values that a row is made of
 pub given : (shape : List Kind) (ds : List Directive) (m : ℕ) (x : List ℕ) (ending : Ending) (report : RunReport) → AreKinded ds
-    → HasShape shape ds
+    → AreSlots (destinations_of ds) → HasShape shape ds
     → RunTold ds m x ending report → report.status ≡ Done → AreGiven shape report.values
-given shape ds m x ending report kinded same told done = λ slot. done_fills ds m x ending report kinded told done slot ∙ sym (same.1 slot)
+given shape ds m x ending report kinded slots same told done = λ slot. (
+  each_given ds report.values same.whole (done_fills ds m x ending report kinded slots told done) slot ∙ sym (same.each slot),
+  readable_at ds m x ending report told done slot,
+)
 
 -- a run that was made isn't answered with a fault of its start
 pub no_start : {T : Type 0} (kinds : List Kind) (listed : T → List Datum) (report : RunReport) (r : Result T ScanRowFault)

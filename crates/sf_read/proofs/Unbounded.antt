@@ -8,7 +8,7 @@ use Rattle.std.proofs.lemmas.Grind.{common_steps}
 use Rattle.std.specs.List.{list_all}
 use Rattle.sf_base.specs.Sets.{has_byte}
 use Rattle.sf_format.specs.declared.directive.Shape.{Shape}
-use Rattle.sf_format.specs.declared.directive.Shape.TheVariants.{Int, Text, Set, Chars, Count}
+use Rattle.sf_format.specs.declared.directive.Shape.TheVariants.{Int, Text, Set, Chars, Float, Count}
 use Rattle.sf_format.specs.declared.directive.Conversion.{Conversion}
 use Rattle.sf_format.specs.declared.directive.Directive.{Directive}
 use Rattle.sf_format.specs.declared.directive.Directive.TheVariants.{Conv}
@@ -19,7 +19,7 @@ use Rattle.sf_report.specs.declared.outcome.Ending.{Ending}
 use Rattle.sf_report.specs.declared.outcome.Ending.TheVariants.{End}
 use Rattle.sf_report.specs.declared.outcome.Status.{Status}
 use Rattle.sf_report.specs.declared.outcome.Status.TheVariants.{Done, InputFailure}
-use Rattle.sf_report.specs.Steps.{StepEnd, Passes, Stores, Fails}
+use Rattle.sf_report.specs.Steps.{StepEnd, Passes, Stores, Misses, Fails}
 use Rattle.sf_report.specs.Runs.{RunReport, IsOpen, Run}
 use Rattle.sf_report.specs.Limits.{RunWithin}
 use Rattle.sf_report.specs.Laws.{EachDoneRunStays, EachOpenInputIsUsed}
@@ -46,6 +46,7 @@ shape_goes_on (Int base) width proper goes f h = (48, lit< tt, zero_begins base 
 shape_goes_on Text width proper goes f h = (65, lit< tt, all_more is_ink f 65 h refl)
 shape_goes_on (Set members) width proper goes f h = (proper.0, proper.1, all_more (has_byte members) f proper.0 h proper.2)
 shape_goes_on Chars width proper goes f h = absurd goes
+shape_goes_on Float width proper goes f h = absurd goes
 shape_goes_on Count width proper goes f h = absurd goes
 
 no_width_within : (width : Option ℕ) (n : ℕ) → width ≡ None → is_within width n ≡ true
@@ -170,16 +171,23 @@ goes_to_rest d ds at t p passed = by p.end refl
     by : (o : StepEnd) → p.end ≡ o → by_end p.end rest (λ s. out_of s at (with_used p.used t)) ≡ rest
     by Passes e = ap (λ o. by_end o rest (λ s. out_of s at (with_used p.used t))) e
     by (Stores slot v) e = ap (λ o. by_end o rest (λ s. out_of s at (with_used p.used t))) e
+    by Misses e = ap (λ o. by_end o rest (λ s. out_of s at (with_used p.used t))) e
     by (Fails status) e = absurd (passed status e)
 
 -- ---- a run that ends with such a conversion
 
-shape_lacks : (c : Conversion) (shape : Shape) (n : ℕ) → GoesOn shape → conversion_finished c shape Skipping n false ≡ Fails InputFailure
-shape_lacks c (Int base) n goes = refl
-shape_lacks c Text n goes = refl
-shape_lacks c (Set members) n goes = refl
-shape_lacks c Chars n goes = absurd goes
-shape_lacks c Count n goes = absurd goes
+-- the item goes on, and has to be there
+abbrev IsNeeded : Conversion → Type 0
+IsNeeded c = GoesOn c.shape × (c.optional ≡ false)
+
+shape_lacks : (c : Conversion) (shape : Shape) (n : ℕ) → GoesOn shape → c.optional ≡ false
+    → conversion_finished c shape Skipping n false ≡ Fails InputFailure
+shape_lacks c (Int base) n goes needed = rw needed refl
+shape_lacks c Text n goes needed = rw needed refl
+shape_lacks c (Set members) n goes needed = rw needed refl
+shape_lacks c Chars n goes needed = absurd goes
+shape_lacks c Float n goes needed = absurd goes
+shape_lacks c Count n goes needed = absurd goes
 
 -- the part of a directive that takes all
 whole_part : (d : Directive) (q r : Stage) (n : ℕ) (x : List ℕ) → stepped_all d q x ≡ Some r
@@ -198,9 +206,10 @@ fails_alone c at t p e done =
     absurd cc
 
 -- with nothing left for it, the run isn't Done
-lacks_an_item : (c : Conversion) → GoesOn c.shape → (ds : List Directive) (at : ℕ) (t : Tally)
+lacks_an_item : (c : Conversion) → IsNeeded c → (ds : List Directive) (at : ℕ) (t : Tally)
     → (run_of None (ds ++ Conv c ∷ []) at t []).status ≡ Done → ⊥
-lacks_an_item c goes [] at t done = fails_alone c at t (one_from (Conv c) Skipping t.used []) (shape_lacks c c.shape t.used goes) done
+lacks_an_item c goes [] at t done = fails_alone c at t (one_from (Conv c) Skipping t.used []) (shape_lacks c c.shape t.used goes.0
+    goes.1) done
 lacks_an_item c goes (d ∷ ds) at t done =
     let p : Part = one_from d Skipping t.used [] in
     let passed = first_passed d (ds ++ Conv c ∷ []) at t p (one_never_done d Skipping t.used []) done in
@@ -217,7 +226,7 @@ alone_uses c at t p =
 abbrev TakesNext : List Directive → ℕ → Tally → List ℕ → Type 0
 TakesNext ds at t x = (b : ℕ) × (b < 256) × ((run_of None ds at t (x ++ b ∷ [])).used ≡ t.used + length x + 1)
 
-last_takes : (c : Conversion) → IsProperShape c.shape → GoesOn c.shape → c.width ≡ None → (at : ℕ) (t : Tally) (x : List ℕ)
+last_takes : (c : Conversion) → IsProperShape c.shape → IsNeeded c → c.width ≡ None → (at : ℕ) (t : Tally) (x : List ℕ)
     → (run_of None (Conv c ∷ []) at t x).status ≡ Done → (run_of None (Conv c ∷ []) at t x).used ≡ t.used + length x
     → TakesNext (Conv c ∷ []) at t x
 last_takes c proper goes none at t x done all = by (stepped_all (Conv c) Skipping x) refl
@@ -226,10 +235,10 @@ last_takes c proper goes none at t x done all = by (stepped_all (Conv c) Skippin
     staged Skipping is e =
         let part = whole_part (Conv c) Skipping Skipping t.used x e in
         absurd (fails_alone c at t (one_from (Conv c) Skipping t.used x)
-        (ap (λ (p : Part). p.end) part ∙ shape_lacks c c.shape (t.used + length x) goes) done)
+        (ap (λ (p : Part). p.end) part ∙ shape_lacks c c.shape (t.used + length x) goes.0 goes.1) done)
     staged Taken is e = absurd is
     staged (Item f) is e =
-        let byte = can_take_one (Conv c) (Item f) (item_open c proper goes none f is) in
+        let byte = can_take_one (Conv c) (Item f) (item_open c proper goes.0 none f is) in
         let b : ℕ = byte.0 in
         let next : one_from (Conv c) Skipping t.used
         (x ++ b ∷ []) ≡ record
@@ -242,7 +251,7 @@ last_takes c proper goes none at t x done all = by (stepped_all (Conv c) Skippin
         (arith, stops_before (Conv c) Skipping t.used x e, alone_uses c at t (one_from (Conv c) Skipping t.used x), all))
     by (Some r) e = staged r (last_stage c Skipping x r tt e) e
 
-takes_next : (c : Conversion) → IsProperShape c.shape → GoesOn c.shape → c.width ≡ None
+takes_next : (c : Conversion) → IsProperShape c.shape → IsNeeded c → c.width ≡ None
     → (ds : List Directive) (at : ℕ) (t : Tally) (x : List ℕ)
     → (run_of None (ds ++ Conv c ∷ []) at t x).status ≡ Done → (run_of None (ds ++ Conv c ∷ []) at t x).used ≡ t.used + length x
     → TakesNext (ds ++ Conv c ∷ []) at t x
@@ -307,7 +316,8 @@ is_open_after ds proper ends x done all =
     let front : List Directive = take (length ds - 1) ds in
     let is : ds ≡ front ++ Conv c ∷ [] = last_is ds (Conv c) ends.last in
     let own : IsProper (Conv c) = proper_last front (Conv c) (subst AreProper is proper) in
-    let takes : TakesNext (front ++ Conv c ∷ []) 1 nothing_yet x = takes_next c own.0 ends.goes_on ends.no_width front 1 nothing_yet x
+    let takes : TakesNext (front ++ Conv c ∷ []) 1 nothing_yet x = takes_next c own.0 (ends.goes_on, ends.needed) ends.no_width front 1
+    nothing_yet x
     (subst (λ es. (run_of None es 1 nothing_yet x).status ≡ Done) is done)
     (subst (λ es. (run_of None es 1 nothing_yet x).used ≡ length x) is all ∙ omega arith) in
     let here : TakesNext ds 1 nothing_yet x = subst (λ es. TakesNext es 1 nothing_yet x) (sym is) takes in

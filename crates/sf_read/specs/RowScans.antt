@@ -3,7 +3,7 @@ use Rattle.std.specs.Prelude.{◌≡◌, ◌≢◌, ◌≤◌, ◌+◌, ℕ, Lis
 use Rattle.sf_base.specs.declared.values.Kind.{Kind}
 use Rattle.sf_base.specs.Data.{Datum}
 use Rattle.sf_format.specs.declared.directive.Directive.{Directive}
-use Rattle.sf_format.specs.Proper.{destinations_of, kind_at}
+use Rattle.sf_format.specs.Proper.{destinations_of, kind_at, may_miss}
 use Rattle.sf_format.specs.Widths.{width_sum}
 use Rattle.sf_run.specs.outcome.Ending.{Ending}
 use Rattle.sf_run.specs.outcome.Ending.TheVariants.{End}
@@ -20,9 +20,11 @@ use Rattle.sf_read.specs.Counts.{counted_on}
 use Rattle.sf_read.specs.Reads.{WaitedFor}
 use Rattle.sf_read.specs.Scan.{Scan, is_fault}
 
--- the slots with these kinds are the destinations of the format, with theirs
-abbrev pub HasShape : List Kind → List Directive → Type 0
-HasShape kinds ds = (length kinds ≡ length (destinations_of ds)) × ((slot : ℕ) → at_slot slot kinds ≡ kind_at slot ds)
+-- the slots with these kinds are the destinations of the format, with theirs, and none may be missing
+pub record HasShape (kinds : List Kind) (ds : List Directive) : Type 0 where
+  pub count : length kinds ≡ length (destinations_of ds)
+  pub each : (slot : ℕ) → at_slot slot kinds ≡ kind_at slot ds
+  pub whole : (slot : ℕ) → may_miss slot ds ≡ false
 
 -- the format stores eight numbers or fewer, and no texts
 abbrev pub IsOfFew : List Directive → Type 0

@@ -1,22 +1,24 @@
 -- Formats whose last item ends only where a byte doesn't match.
-use Rattle.std.specs.Prelude.{◌≡◌, ◌-◌, List, length, slice_get, Some, None}
+use Rattle.std.specs.Prelude.{◌≡◌, ◌-◌, false, List, length, slice_get, Some, None}
 use Rattle.sf_format.specs.declared.directive.Shape.{Shape}
-use Rattle.sf_format.specs.declared.directive.Shape.TheVariants.{Int, Text, Set, Chars, Count}
+use Rattle.sf_format.specs.declared.directive.Shape.TheVariants.{Int, Text, Set, Chars, Float, Count}
 use Rattle.sf_format.specs.declared.directive.Conversion.{Conversion}
 use Rattle.sf_format.specs.declared.directive.Directive.{Directive}
 use Rattle.sf_format.specs.declared.directive.Directive.TheVariants.{Conv}
 
--- an item of the shape, if no width bounds it, can go on after any of its bytes
+-- an item of the shape, if no width bounds it, can go on after any of its bytes; that of a float can't after `infinity`
 abbrev pub GoesOn : Shape → Type 0
 GoesOn (Int base) = Unit {0}
 GoesOn Text = Unit {0}
 GoesOn (Set members) = Unit {0}
 GoesOn Chars = ⊥
+GoesOn Float = ⊥
 GoesOn Count = ⊥
 
--- the last directive is such a conversion, without a width
+-- the last directive is such a conversion, without a width and without a ?
 pub record EndsUnbounded (ds : List Directive) : Type 0 where
   pub conversion : Conversion
   pub last : slice_get ds (length ds - 1) ≡ Some (Conv conversion)
   pub goes_on : GoesOn conversion.shape
   pub no_width : conversion.width ≡ None
+  pub needed : conversion.optional ≡ false

@@ -1,16 +1,18 @@
 //! What one slot of a row holds.
-ghost use Rattle.std.specs.Prelude.{◌≡◌, IfOk, IsErr, Some};
+ghost use Rattle.std.specs.Prelude.{◌≡◌, IfOk, IfSome, IsErr, Some};
 ghost use Rattle.std.specs.Option.{option_map};
 ghost use Rattle.sf_base.specs.declared.values.Kind.{Kind};
 ghost use Rattle.sf_base.specs.declared.values.Kind.TheVariants.{Text};
 ghost use Rattle.sf_base.specs.Data.{Datum, datum_at, datum_of, kind_of};
+ghost use Rattle.sf_run.specs.Rows.{IsReadable};
 
 use crate::rows::RowFault;
 use sf_base::{Kind, Store, Value};
 use sf_run::Report;
 use std::alloc::{AllocError, Global};
 
-/// A type that a slot of a row may have: one of the eight integers, or a text of bytes that is the row's own. Each type
+/// A type that a slot of a row may have: one of the eight integers, `f32` or `f64`, or a text of bytes that is the
+/// row's own. Each type
 /// has its own impl: beside one for all of `ScanInt` a caller's proof can't tell which of the two `Vec<u8>` has.
 pub trait Field: Sized + Drop {
     // The kind of the slot.
@@ -23,9 +25,11 @@ pub trait Field: Sized + Drop {
     fn kind() -> Kind
         ensures { result ≡ own_kind };
 
-    /// The value as this type. It has to be of its kind. Fails where memory for a text was refused.
+    /// The value as this type. It has to be of its kind, and of a NaN the one that a scan stores. Fails where memory
+    /// for a text was refused.
     fn from_value(alloc: Global, value: Value<'_>) -> Result<Self, AllocError>
-        requires { kind_of (datum_of value) ≡ own_kind }
+        requires kind { kind_of (datum_of value) ≡ own_kind }
+        requires readable { IsReadable (datum_of value) }
         ensures value { IfOk result (λ field. datum field ≡ datum_of value.entry) }
         ensures refused { IsErr result → own_kind ≡ Text };
 
@@ -230,6 +234,60 @@ impl Field for u64 {
     }
 }
 
+impl Field for f32 {
+    ghost use Rattle.std.specs.Prelude.{to_bits};
+    ghost use Rattle.std.specs.Float.{binary32};
+    ghost use Rattle.sf_base.specs.declared.real.Real.TheVariants as reals;
+    ghost use Rattle.sf_base.specs.declared.values.Kind.TheVariants.{F32};
+    ghost use Rattle.sf_base.specs.Data.Datum.{Real};
+
+    ghost own_kind = { F32 };
+
+    ghost datum = { λ x. Real (reals.F32 (to_bits binary32 x)) };
+
+    fn kind() -> Kind {
+        Kind::F32
+    }
+
+    fn from_value(_alloc: Global, value: Value<'_>) -> Result<f32, AllocError> {
+        let Some(x) = value.f32() else {
+            unreachable!();
+        };
+        Ok(x)
+    }
+
+    fn value(&self) -> Value<'_> {
+        Value::of_f32(*self)
+    }
+}
+
+impl Field for f64 {
+    ghost use Rattle.std.specs.Prelude.{to_bits};
+    ghost use Rattle.std.specs.Float.{binary64};
+    ghost use Rattle.sf_base.specs.declared.real.Real.TheVariants as reals;
+    ghost use Rattle.sf_base.specs.declared.values.Kind.TheVariants.{F64};
+    ghost use Rattle.sf_base.specs.Data.Datum.{Real};
+
+    ghost own_kind = { F64 };
+
+    ghost datum = { λ x. Real (reals.F64 (to_bits binary64 x)) };
+
+    fn kind() -> Kind {
+        Kind::F64
+    }
+
+    fn from_value(_alloc: Global, value: Value<'_>) -> Result<f64, AllocError> {
+        let Some(x) = value.f64() else {
+            unreachable!();
+        };
+        Ok(x)
+    }
+
+    fn value(&self) -> Value<'_> {
+        Value::of_f64(*self)
+    }
+}
+
 impl Field for Vec<u8> {
     ghost use Rattle.sf_base.specs.declared.values.Kind.TheVariants.{Text};
     ghost use Rattle.sf_base.specs.Data.Datum.{Bytes};
@@ -263,7 +321,8 @@ pub(crate) fn taken_from<T: Field, S: Store>(
     report: &Report<'_, S>,
     slot: u8,
 ) -> Result<T, RowFault>
-    requires { option_map kind_of (datum_at slot report.now.values) ≡ Some T.own_kind }
+    requires kind { option_map kind_of (datum_at slot report.now.values) ≡ Some T.own_kind }
+    requires readable { IfSome (datum_at slot report.now.values) IsReadable }
     ensures value { IfOk result (λ field. Some (T.datum field) ≡ datum_at slot report.now.values) }
     ensures refused { IsErr result → T.own_kind ≡ Text }
 {

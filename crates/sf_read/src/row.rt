@@ -1,7 +1,7 @@
 //! Rows of what a source gives.
 ghost use Rattle.std.specs.Prelude.{◌≡◌, length, ◌≤◌, ◌<◌, ◌+◌, ◌⊎◌, ◌↔◌, ℕ, List, true, false, Some, IfErr, IfOk, IfSome, IsErrOf, IsNone, IsOk, IsSome, unwrap_or, if◌then◌else◌};
 ghost use Rattle.sf_base.specs.Kept.{nothing_kept};
-ghost use Rattle.sf_format.specs.Proper.{AreKinded, destinations_of};
+ghost use Rattle.sf_format.specs.Proper.{AreKinded, IsAccepted, destinations_of};
 ghost use Rattle.sf_format.specs.Widths.{width_sum};
 ghost use Rattle.sf_run.specs.Limits.{RunTold};
 ghost use Rattle.sf_run.specs.Memory.{capacity_of};
@@ -30,7 +30,8 @@ pub(crate) const FEW_NUMBERS: usize = 8;
 /// Why there is no row.
 #[derive(Clone, Copy, Debug, PartialEq, Eq)]
 pub enum ScanRowFault {
-    /// The slots of the row and their kinds are not the destinations of the format and theirs.
+    /// The slots of the row and their kinds are not the destinations of the format and theirs, or one of these may be
+    /// missing.
     ShapeDiffers,
     /// The run was not started.
     Start(StartFault),
@@ -64,10 +65,12 @@ impl fmt::Display for ScanRowFault {
 
 impl Error for ScanRowFault {}
 
-/// Whether the slots of the row and their kinds are the destinations of the format and theirs.
+/// Whether the slots of the row and their kinds are the destinations of the format and theirs, none of which may be
+/// missing.
 pub fn has_shape<T: Row>(format: &ScanFormat) -> bool
     ensures same { (result ≡ true) ↔ HasShape T.kinds format.now }
     ensures kinded { AreKinded format.now }
+    ensures accepted { IsAccepted format.now }
 {
     let count = format.destinations();
     if T::slots() != count {
@@ -75,6 +78,9 @@ pub fn has_shape<T: Row>(format: &ScanFormat) -> bool
     }
     for before in 0..count {
         if T::shape(before + 1) != format.kind(before + 1) {
+            return false;
+        }
+        if format.may_miss(before + 1) {
             return false;
         }
     }
@@ -161,7 +167,7 @@ fn row_held_into<T: Row, K: Store, S: Source, const N: usize>(
 ) -> Option<Result<T, ScanRowFault>>
     requires empty { K.kept store.old ≡ nothing_kept (K.kept store.old).room }
     requires slots { length (destinations_of format.now) ≤ K.slots }
-    requires kinded { AreKinded format.now }
+    requires accepted { IsAccepted format.now }
     requires shape { HasShape T.kinds format.now }
     ensures run { IfSome result (λ row. RowScan S.to_come S.reads S.failures N T.kinds T.listed format.now limit
         from.old from.new row) }
@@ -190,7 +196,7 @@ fn row_held<T: Row, S: Source, const N: usize>(
     format: &ScanFormat,
     limit: u32,
 ) -> Option<Result<T, ScanRowFault>>
-    requires kinded { AreKinded format.now }
+    requires accepted { IsAccepted format.now }
     requires shape { HasShape T.kinds format.now }
     ensures run { IfSome result (λ row. RowScan S.to_come S.reads S.failures N T.kinds T.listed format.now limit
         from.old from.new row) }
@@ -214,7 +220,7 @@ fn row_of_few<T: Row, S: Source, const N: usize>(
     format: &ScanFormat,
     limit: u32,
 ) -> Option<Result<T, ScanRowFault>>
-    requires kinded { AreKinded format.now }
+    requires accepted { IsAccepted format.now }
     requires shape { HasShape T.kinds format.now }
     ensures run { IfSome result (λ row. RowScan S.to_come S.reads S.failures N T.kinds T.listed format.now limit
         from.old from.new row) }
@@ -245,7 +251,7 @@ fn row_by_scan<T: Row, S: Source, const N: usize>(
     format: &ScanFormat,
     limit: u32,
 ) -> Result<T, ScanRowFault>
-    requires kinded { AreKinded format.now }
+    requires accepted { IsAccepted format.now }
     requires shape { HasShape T.kinds format.now }
     ensures shape { IsErrOf result ScanRowFault.ShapeDiffers → ⊥ }
     ensures limit { IsErrOf result (ScanRowFault.Start StartFault.BadLimit) ↔ (2147483647 < limit) }
@@ -280,7 +286,7 @@ fn row_over<T: Row, S: Source, const N: usize>(
     format: &ScanFormat,
     limit: u32,
 ) -> Result<T, ScanRowFault>
-    requires kinded { AreKinded format.now }
+    requires accepted { IsAccepted format.now }
     requires shape { HasShape T.kinds format.now }
     ensures shape { IsErrOf result ScanRowFault.ShapeDiffers → ⊥ }
     ensures limit { IsErrOf result (ScanRowFault.Start StartFault.BadLimit) ↔ (2147483647 < limit) }
@@ -314,10 +320,10 @@ fn row_over<T: Row, S: Source, const N: usize>(
 /// Scans as `fscan` does (C11 7.21.6.2), and makes a row of the values.
 ///
 /// Refuses with ShapeDiffers where the slots of the row and their kinds are not the destinations of the format and
-/// theirs; then with Start where `fscan` refuses; nothing was read then. A run that doesn't end as Done is reported by
-/// Failed, and its bytes are consumed. Last comes NoMemory, where memory for the row was refused; its bytes are
-/// consumed too. The numbers of a format that stores at most eight, and no texts, are kept without memory where the
-/// record is held whole.
+/// theirs, or one of these may be missing; then with Start where `fscan` refuses; nothing was read then. A run that
+/// doesn't end as Done is reported by Failed, and its bytes are consumed. Last comes NoMemory, where memory for the row
+/// was refused; its bytes are consumed too. The numbers of a format that stores at most eight, and no texts, are kept
+/// without memory where the record is held whole.
 pub fn scan_row<T: Row, S: Source, const N: usize>(
     alloc: Global,
     from: &mut Lookahead<S, N>,

@@ -1,6 +1,6 @@
 //! Rows of whole texts.
 ghost use Rattle.std.specs.Prelude.{◌≡◌, ◌≤◌, ◌<◌, ◌⊎◌, ◌↔◌, length, true, IfSome, IsErrOf, IsSome};
-ghost use Rattle.sf_format.specs.Proper.{AreKinded};
+ghost use Rattle.sf_format.specs.Proper.{IsAccepted};
 ghost use Rattle.sf_read.specs.RowScans.{HasShape, TextRow, is_run};
 
 use crate::row::{FEW_NUMBERS, row_of};
@@ -20,7 +20,7 @@ fn row_of_short<T: Row>(
     format: &ScanFormat,
     limit: u32,
 ) -> Option<Result<T, ScanRowFault>>
-    requires kinded { AreKinded format.now }
+    requires accepted { IsAccepted format.now }
     requires shape { HasShape T.kinds format.now }
     ensures run { IfSome result (λ row. TextRow T.kinds T.listed format.now limit text.now row) }
     ensures is_run { IfSome result (λ row. is_run row ≡ true) }
@@ -48,7 +48,7 @@ fn row_by_sscan<T: Row>(
     format: &ScanFormat,
     limit: u32,
 ) -> Result<T, ScanRowFault>
-    requires kinded { AreKinded format.now }
+    requires accepted { IsAccepted format.now }
     requires shape { HasShape T.kinds format.now }
     ensures shape { IsErrOf result ScanRowFault.ShapeDiffers → ⊥ }
     ensures limit { IsErrOf result (ScanRowFault.Start StartFault.BadLimit) ↔ (2147483647 < limit) }

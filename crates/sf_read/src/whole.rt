@@ -31,13 +31,14 @@ const SHORT: usize = 47;
 /// How many bytes a short text is laid down in.
 const SHORT_BLOCK: usize = 64;
 
-/// Whether the last directive is a conversion whose item ends only where a byte doesn't match.
+/// Whether the last directive is a conversion without a `?` whose item ends only where a byte doesn't match.
 fn ends_unbounded(directives: &[Directive]) -> bool
     ensures { IsTrue result → EndsUnbounded directives.now }
 {
     match directives.last() {
         Some(Directive::Conv(conversion)) => {
             conversion.width.is_none()
+                && !conversion.optional
                 && matches!(
                     conversion.shape,
                     Shape::Int(_) | Shape::Text | Shape::Set(_)

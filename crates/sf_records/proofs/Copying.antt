@@ -7,7 +7,7 @@ use Rattle.std.proofs.lemmas.Bool.{le-leb, ne_eqb}
 use Rattle.sf_base.specs.Data.{Assigned, Datum, datum_at}
 use Rattle.sf_format.specs.declared.directive.Directive.{Directive}
 use Rattle.sf_format.specs.declared.unit.Unit.{Unit as PrintUnit}
-use Rattle.sf_format.specs.Proper.{destinations_of}
+use Rattle.sf_format.specs.Proper.{destinations_of, has_optional}
 use Rattle.sf_format.specs.Slots.{slots_from}
 use Rattle.sf_pair.specs.Fits.{Fit, FitsIsFit, fits}
 use Rattle.sf_pair.specs.Laws.{AlignedEndsOnNothing, AlignedSlotsAgree, PrintsSome, RoundTrip, read_back}
@@ -43,7 +43,7 @@ RoundTrips units ds =
 pub record CarriesOver (units : List PrintUnit) (ds : List Directive) : Type 0 where
   pub back : RoundTrips units ds
   pub some : (row : List Datum) → Fit units ds row → 0 < length (printed units row)
-  pub ends : (m : ℕ) → (r : RunReport) × RunWithin ds m [] End r × (turn_of r ≡ Ends) × (r.used ≡ 0)
+  pub ends : (m : ℕ) → (r : RunReport) × RunWithin ds m [] End r × (turn_of (has_optional ds) r ≡ Ends) × (r.used ≡ 0)
 
 pub carries_over : RoundTrip → AlignedSlotsAgree → PrintsSome → AlignedEndsOnNothing → (units : List PrintUnit) (ds : List Directive)
     → IsPair units ds → CarriesOver units ds
@@ -95,8 +95,8 @@ row_is n row values e = somes (λ slot. datum_at slot values) (slots_from 1 n) r
 -- ---- turns
 
 -- what was read back and has bytes is no last record
-goes_back : (r : RunReport) → r.status ≡ Done → r.met ≡ None → 0 < r.used → turn_of r ≡ Goes
-goes_back r done met some =
+goes_back : (optional : Bool) (r : RunReport) → r.status ≡ Done → r.met ≡ None → 0 < r.used → turn_of optional r ≡ Goes
+goes_back optional r done met some =
     let bytes : nat_eq r.used 0 ≡ false = ne_eqb r.used 0 (λ e. omega (arith, e, some)) in
     rw (done, met, bytes) refl
 
@@ -133,7 +133,7 @@ fit_ends fit turn e = ap (fit_turn fit) e
 
 module _ (units : List PrintUnit) (ds : List Directive) (pair : CarriesOver units ds) (w : Work) (m : ℕ)
     (goes : (r : RunReport) (row : List Datum) → Fit units ds row → length (printed units row) ≤ m
-    → IsReadBack (length (destinations_of ds)) (printed units row) row r → turn_in w r ≡ Goes)
+    → IsReadBack (length (destinations_of ds)) (printed units row) row r → turn_in w ds r ≡ Goes)
   where
     abbrev n : ℕ
     n = length (destinations_of ds)
@@ -167,7 +167,7 @@ module _ (units : List PrintUnit) (ds : List Directive) (pair : CarriesOver unit
     reads_rows rows few fit =
         let all = read rows fit in
         let last = pair.ends m in
-        let stops : turn_in w last.0 ≡ Ends = fit_ends (w.fits last.0) (turn_of last.0) last.2 in
+        let stops : turn_in w ds last.0 ≡ Ends = fit_ends (w.fits last.0) (turn_of (has_optional ds) last.0) last.2 in
         record {
           reports = all.reports;
           are = all.are;
@@ -205,20 +205,21 @@ module _ (tests : FitsIsFit) (units : List PrintUnit) (ds : List Directive) (pai
   abbrev given : RunReport → List Datum
   given r = row_of slots r.values
 
-  back_goes : (r : RunReport) (row : List Datum) → Fit units ds row → IsReadBack slots (printed units row) row r → turn_of r ≡ Goes
-  back_goes r row fit back = goes_back r back.status back.met (omega (arith, pair.some row fit, back.used))
+  back_goes : (r : RunReport) (row : List Datum) → Fit units ds row → IsReadBack slots (printed units row) row r
+      → turn_of (has_optional ds) r ≡ Goes
+  back_goes r row fit back = goes_back (has_optional ds) r back.status back.met (omega (arith, pair.some row fit, back.used))
 
   scan_goes : (m : ℕ) (r : RunReport) (row : List Datum) → Fit units ds row → length (printed units row) ≤ m
-      → IsReadBack slots (printed units row) row r → turn_in (scanning ds) r ≡ Goes
-  scan_goes m r row fit short back = fit_is true (turn_of r) refl ∙ back_goes r row fit back
+      → IsReadBack slots (printed units row) row r → turn_in (scanning ds) ds r ≡ Goes
+  scan_goes m r row fit short back = fit_is true (turn_of (has_optional ds) r) refl ∙ back_goes r row fit back
 
   is_copied_so : (row : List Datum) → Fit units ds row → length (printed units row) ≤ most_bytes → is_copied units ds row ≡ true
   is_copied_so row fit short = ap₂ (λ a b. a && b) ((tests units ds row).1 fit) (le-leb (length (printed units row)) most_bytes short)
 
   copy_goes : (m : ℕ) → m ≤ most_bytes → (r : RunReport) (row : List Datum) → Fit units ds row → length (printed units row) ≤ m
-      → IsReadBack slots (printed units row) row r → turn_in copies r ≡ Goes
+      → IsReadBack slots (printed units row) row r → turn_in copies ds r ≡ Goes
   copy_goes m most r row fit short back =
-      fit_is (copies.fits r) (turn_of r) (ap (is_copied units ds) (row_is slots row r.values back.values)
+      fit_is (copies.fits r) (turn_of (has_optional ds) r) (ap (is_copied units ds) (row_is slots row r.values back.values)
       ∙ is_copied_so row fit (omega arith)) ∙ back_goes r row fit back
 
   copied_texts : (rows : List (List Datum)) (rs : List RunReport) → AreReadBack slots units rows rs
@@ -250,7 +251,8 @@ module _ (tests : FitsIsFit) (units : List PrintUnit) (ds : List Directive) (pai
   fitting m most ending x y [] passed short = tt
   fitting m most ending x y (r ∷ rs) passed short = (
     (
-      (tests units ds (given r)).0 (and_left (fits units ds (given r)) _ (fit_goes (copies.fits r) (turn_of r) passed.1).1),
+      (tests units ds (given r)).0 (and_left (fits units ds
+          (given r)) _ (fit_goes (copies.fits r) (turn_of (has_optional ds) r) passed.1).1),
       short.0,
     ),
     fitting m most ending (drop r.used x) y rs passed.2 short.1,
@@ -271,7 +273,7 @@ module _ (tests : FitsIsFit) (units : List PrintUnit) (ds : List Directive) (pai
   twice m x output ending used end h none most within short = elim h.stops [
     | inl full ↦ no_fault (sym (ap (λ (e : ToolEnd). e.fault) full.end_is) ∙ none)
     | inr stops ↦
-        let turn : Turn = turn_in copies stops.last in
+        let turn : Turn = turn_in copies ds stops.last in
         let ends : turn ≡ Ends = clean turn (0 + length h.written) stops.last (sym (ap (λ (e : ToolEnd). e.fault) stops.end_is) ∙ none) in
         let nothing : h.tail ≡ [] = stops.tail_is ∙ ap (λ t. cond (writes t) (copies.text stops.last) []) ends in
         let rows : List (List Datum) = map given h.written in

@@ -127,18 +127,18 @@ short_of_memory one w ds proper m x left ending front spent answer few passed re
 cut_in_line : (one : EachHasOneReport) (w : Work) (ds : List Directive) → AreProper ds
     → (m : ℕ) (x left : List ℕ) (ending : Ending) (front : List RunReport) (answer : ToolEnd)
     → length front < most_records → Passed w ds m x ending front left → (next : RunReport) → RunWithin ds m left ending next
-    → writes (turn_in w next) ≡ true
+    → writes (turn_in w ds next) ≡ true
     → (part rest : List ℕ) (missing : ℕ) → w.text next ≡ part ++ missing ∷ rest → answer ≡ ended (length front) (Some faults.Write)
     → (output : List ℕ) × (used : ℕ) × (end : ToolEnd) × EndsWith w ds m x ending output used end
     × ((missing : List ℕ) × (output ≡ texts w front ++ part ++ missing))
     × IsCutShort w ds m x ending (texts w front ++ part) (uses front + next.used) answer
 cut_in_line one w ds proper m x left ending front answer few passed next ran due part rest missing begun is =
     let h = has_end_after one w ds proper m ending (0 + length front) (omega (arith, few)) left next ran in
-    let text : last_text w next ≡ part ++ missing ∷ rest = ap (λ b. cond b (w.text next) []) due ∙ begun in (
-      texts w front ++ (last_text w next ++ h.more),
+    let text : last_text w ds next ≡ part ++ missing ∷ rest = ap (λ b. cond b (w.text next) []) due ∙ begun in (
+      texts w front ++ (last_text w ds next ++ h.more),
       uses front + h.used,
       h.end,
-      joined 0 w ds m x left ending front (last_text w next ++ h.more) h.used h.end passed h.is,
+      joined 0 w ds m x left ending front (last_text w ds next ++ h.more) h.used h.end passed h.is,
       (
         missing ∷ rest ++ h.more,
         ap (λ (t : List ℕ). texts w front ++ (t ++ h.more)) text
@@ -268,11 +268,11 @@ module _ {S : Type 0} {w : Work} {to_come : S → Option (List ℕ)} {ds : List 
     failures_are : after ≡ cond (is_fault r.met) (counted_on failures) failures
     failures_are = count ∙ ap (λ (k : ℕ). cond (is_fault r.met) (counted_on k) k) g.no_failure
 
-    pub next : (wrote : Option (List ℕ)) → turn_in w r ≡ Goes → Appends is wrote (w.text r)
+    pub next : (wrote : Option (List ℕ)) → turn_in w ds r ≡ Goes → Appends is wrote (w.text r)
         → Going w to_come ds m t new was wrote failures after (n + 1)
     next wrote goes wrote_is =
-        let f : is_fault r.met ≡ false = goes_is_no_fault w r goes in
-        let fine : is_memory_status r.status ≡ false = not_ran_out w r Goes goes refl in
+        let f : is_fault r.met ≡ false = goes_is_no_fault w ds r goes in
+        let fine : is_memory_status r.status ≡ false = not_ran_out w ds r Goes goes refl in
         let took : length (take r.used g.left) ≡ r.used = length-take-le r.used g.left scan.within in
         record {
           front = g.front ++ r ∷ [];
@@ -306,11 +306,11 @@ module _ {S : Type 0} {w : Work} {to_come : S → Option (List ℕ)} {ds : List 
     unstored : is_memory_status r.status ≡ true → IsRefusedBehind g.front w ds m reached.left (ending_by (is_fault r.met)) r.used
     unstored out = refused_by (is_fault r.met) refl reached out
 
-    unmade : writes (turn_in w r) ≡ true → IsRefusedBehind g.front w ds m reached.left (ending_by (is_fault r.met)) r.used
+    unmade : writes (turn_in w ds r) ≡ true → IsRefusedBehind g.front w ds m reached.left (ending_by (is_fault r.met)) r.used
     unmade due = inl (record {
       next = r;
-      ran = reached.ran (not_ran_out w r (turn_in w r) refl
-          (written_is_no_memory (turn_in w r) due));
+      ran = reached.ran (not_ran_out w ds r (turn_in w ds r) refl
+          (written_is_no_memory (turn_in w ds r) due));
       spent_is = refl;
       due = due;
     })
@@ -340,14 +340,14 @@ module _ {S : Type 0} {w : Work} {to_come : S → Option (List ℕ)} {ds : List 
         }
 
     -- the sink failed within the line
-    pub unwritten : n < most_records → (answer : ToolEnd) (wrote : Option (List ℕ)) → writes (turn_in w r) ≡ true
-        → is_ran_out (turn_in w r) ≡ false
+    pub unwritten : n < most_records → (answer : ToolEnd) (wrote : Option (List ℕ)) → writes (turn_in w ds r) ≡ true
+        → is_ran_out (turn_in w ds r) ≡ false
         → TakesPart is wrote (w.text r) → answer ≡ ended n (Some faults.Write) → Loops w to_come ds m t new failures after was wrote answer
     unwritten few answer wrote due fine (part, missing, rest, begun, took) is_end =
         let at = reached in
         let s = cut_in_line one w ds proper m (input_by (is_fault r.met) (uses g.front + r.used) t) at.left
         (ending_by (is_fault r.met)) g.front answer (omega (arith, few, g.count)) at.passed
-        r (at.ran (not_ran_out w r (turn_in w r) refl fine)) due part rest missing begun
+        r (at.ran (not_ran_out w ds r (turn_in w ds r) refl fine)) due part rest missing begun
         (is_end ∙ ap (λ (k : ℕ). ended k (Some faults.Write)) (sym g.count)) in
         record {
           failed = is_fault r.met;
@@ -365,9 +365,10 @@ module _ {S : Type 0} {w : Work} {to_come : S → Option (List ℕ)} {ds : List 
         }
 
     -- the loop stops here
-    pub stopped : n < most_records → (answer : ToolEnd) (wrote : Option (List ℕ)) → (turn_in w r ≡ Goes → ⊥)
-        → is_ran_out (turn_in w r) ≡ false
-        → Appends is wrote (last_text w r) → answer ≡ end_by (turn_in w r) n r → Loops w to_come ds m t new failures after was wrote answer
+    pub stopped : n < most_records → (answer : ToolEnd) (wrote : Option (List ℕ)) → (turn_in w ds r ≡ Goes → ⊥)
+        → is_ran_out (turn_in w ds r) ≡ false
+        → Appends is wrote (last_text w ds r) → answer ≡ end_by (turn_in w ds r) n r
+        → Loops w to_come ds m t new failures after was wrote answer
     stopped few answer wrote stops fine took is_end =
         let at = reached in
         record {
@@ -376,42 +377,42 @@ module _ {S : Type 0} {w : Work} {to_come : S → Option (List ℕ)} {ds : List 
           nothing_held = λ f. (scan.nothing_held f).0;
           consumed = uses g.front + r.used;
           rest = rest_is;
-          output = texts w g.front ++ last_text w r;
+          output = texts w g.front ++ last_text w ds r;
           used = uses g.front + r.used;
           end = answer;
           is = record {
             written = g.front;
             left = at.left;
-            tail = last_text w r;
+            tail = last_text w ds r;
             spent = r.used;
             passed = at.passed;
             stops = inr (record {
               few = omega (arith, few, g.count);
               last = r;
-              ran = at.ran (not_ran_out w r (turn_in w r) refl fine);
+              ran = at.ran (not_ran_out w ds r (turn_in w ds r) refl fine);
               stops = stops;
               tail_is = refl;
               spent_is = refl;
-              end_is = is_end ∙ ap (λ (k : ℕ). end_by (turn_in w r) k r) {x = n} {y = 0 + length g.front} (omega (arith, g.count));
+              end_is = is_end ∙ ap (λ (k : ℕ). end_by (turn_in w ds r) k r) {x = n} {y = 0 + length g.front} (omega (arith, g.count));
             });
             output_is = refl;
             used_is = refl;
           };
-          written = texts w g.front ++ last_text w r;
+          written = texts w g.front ++ last_text w ds r;
           appends = Appends-then _ _ _ _ _ g.appends took;
           told = inl (refl, refl, refl);
         }
 
     -- the loop stops, in whichever way
     pub ends_at : n < most_records → (answer : ToolEnd) (wrote : Option (List ℕ))
-        → Concludes n (w.text r) (turn_in w r) r is wrote answer ⊎ Interrupts n (w.text r) (turn_in w r) is wrote answer
+        → Concludes n (w.text r) (turn_in w ds r) r is wrote answer ⊎ Interrupts n (w.text r) (turn_in w ds r) is wrote answer
         → Loops w to_come ds m t new failures after was wrote answer
-    ends_at few answer wrote (inl (stops, took, is_end)) = by (turn_in w r) refl
+    ends_at few answer wrote (inl (stops, took, is_end)) = by (turn_in w ds r) refl
       where
-        by : (turn : Turn) → turn_in w r ≡ turn → Loops w to_come ds m t new failures after was wrote answer
+        by : (turn : Turn) → turn_in w ds r ≡ turn → Loops w to_come ds m t new failures after was wrote answer
         by Goes e = absurd (stops e)
         by RanOut e =
-            ran_out (omega (arith, few)) answer wrote (unstored (ran_out_status w r e))
+            ran_out (omega (arith, few)) answer wrote (unstored (ran_out_status w ds r e))
             (subst (λ (text : List ℕ). Appends is wrote text) (ap (λ v. cond (writes v) (w.text r) []) e) took)
             (is_end ∙ ap (λ v. end_by v n r) e)
         by Ends e = stopped few answer wrote stops (ap is_ran_out e) took is_end
@@ -419,6 +420,6 @@ module _ {S : Type 0} {w : Work} {to_come : S → Option (List ℕ)} {ds : List 
         by Failed e = stopped few answer wrote stops (ap is_ran_out e) took is_end
         by Unfit e = stopped few answer wrote stops (ap is_ran_out e) took is_end
         by Stalled e = stopped few answer wrote stops (ap is_ran_out e) took is_end
-    ends_at few answer wrote (inr (due, inl (is_end, took))) = unwritten few answer wrote due (written_is_no_memory (turn_in w r) due)
+    ends_at few answer wrote (inr (due, inl (is_end, took))) = unwritten few answer wrote due (written_is_no_memory (turn_in w ds r) due)
         took is_end
     ends_at few answer wrote (inr (due, inr (is_end, nothing))) = ran_out (omega (arith, few)) answer wrote (unmade due) nothing is_end

@@ -72,16 +72,16 @@ full n w ds m x ending e = record {
 module _ (one : EachHasOneReport) (w : Work) (ds : List Directive) (proper : AreProper ds) (m : ℕ) (ending : Ending) where
   -- ---- one end at least
 
-  stops_here : (n : ℕ) (x : List ℕ) (r : RunReport) → n < most_records → RunWithin ds m x ending r → (turn_in w r ≡ Goes → ⊥)
-      → HasEnd n w ds m x ending (last_text w r)
+  stops_here : (n : ℕ) (x : List ℕ) (r : RunReport) → n < most_records → RunWithin ds m x ending r → (turn_in w ds r ≡ Goes → ⊥)
+      → HasEnd n w ds m x ending (last_text w ds r)
   stops_here n x r few ran stops = record {
     more = [];
     used = r.used;
-    end = end_by (turn_in w r) n r;
+    end = end_by (turn_in w ds r) n r;
     is = record {
       written = [];
       left = x;
-      tail = last_text w r;
+      tail = last_text w ds r;
       spent = r.used;
       passed = refl;
       stops = inr (record {
@@ -91,17 +91,17 @@ module _ (one : EachHasOneReport) (w : Work) (ds : List Directive) (proper : Are
         stops = stops;
         tail_is = refl;
         spent_is = refl;
-        end_is = ap (λ (k : ℕ). end_by (turn_in w r) k r) {x = n} {y = n + 0} (omega arith);
+        end_is = ap (λ (k : ℕ). end_by (turn_in w ds r) k r) {x = n} {y = n + 0} (omega arith);
       });
-      output_is = append-nil (last_text w r);
+      output_is = append-nil (last_text w ds r);
       used_is = omega arith;
     };
   }
 
-  goes_on : (n : ℕ) (x : List ℕ) (r : RunReport) → RunWithin ds m x ending r → turn_in w r ≡ Goes
-      → HasEnd (n + 1) w ds m (drop r.used x) ending [] → HasEnd n w ds m x ending (last_text w r)
+  goes_on : (n : ℕ) (x : List ℕ) (r : RunReport) → RunWithin ds m x ending r → turn_in w ds r ≡ Goes
+      → HasEnd (n + 1) w ds m (drop r.used x) ending [] → HasEnd n w ds m x ending (last_text w ds r)
   goes_on n x r ran goes h =
-      let text : last_text w r ≡ w.text r = ap (λ t. cond (writes t) (w.text r) []) goes in
+      let text : last_text w ds r ≡ w.text r = ap (λ t. cond (writes t) (w.text r) []) goes in
       let all : EndsFrom n w ds m x ending (texts w (r ∷ []) ++ h.more) (uses (r ∷ []) + h.used) h.end =
       joined n w ds m x (drop r.used x) ending (r ∷ []) h.more h.used h.end (ran, goes, refl) h.is in
       record {
@@ -114,8 +114,8 @@ module _ (one : EachHasOneReport) (w : Work) (ds : List Directive) (proper : Are
 
   -- k records may still be written
   by_run : (k n : ℕ) → n + suc k ≡ most_records → (x : List ℕ) (r : RunReport) → RunWithin ds m x ending r
-      → ((y : List ℕ) → HasEnd (n + 1) w ds m y ending []) → HasEnd n w ds m x ending (last_text w r)
-  by_run k n e x r ran later = elim (goes_or_not (turn_in w r)) [
+      → ((y : List ℕ) → HasEnd (n + 1) w ds m y ending []) → HasEnd n w ds m x ending (last_text w ds r)
+  by_run k n e x r ran later = elim (goes_or_not (turn_in w ds r)) [
     | inl goes ↦ goes_on n x r ran goes (later (drop r.used x))
     | inr stops ↦ stops_here n x r (omega (arith, e)) ran stops
   ]
@@ -134,7 +134,7 @@ module _ (one : EachHasOneReport) (w : Work) (ds : List Directive) (proper : Are
 
   -- the same where the first run is known
   pub has_end_after : (n : ℕ) → n < most_records → (x : List ℕ) (r : RunReport) → RunWithin ds m x ending r
-      → HasEnd n w ds m x ending (last_text w r)
+      → HasEnd n w ds m x ending (last_text w ds r)
   has_end_after n few x r ran = by_run (most_records - (n + 1)) n (omega (arith, few)) x r ran (λ y. has_end (n + 1) (omega (arith, few)) y)
 
   -- ---- one end at most
@@ -164,18 +164,18 @@ module _ (one : EachHasOneReport) (w : Work) (ds : List Directive) (proper : Are
       let same : p.last ≡ q.last = same_report x p.last q.last p.ran q.ran in
       record {
         written = refl;
-        tail = p.tail_is ∙ ap (last_text w) same ∙ sym q.tail_is;
+        tail = p.tail_is ∙ ap (last_text w ds) same ∙ sym q.tail_is;
         spent = p.spent_is ∙ ap (λ (r : RunReport). r.used) same ∙ sym q.spent_is;
-        end = p.end_is ∙ ap (λ (r : RunReport). end_by (turn_in w r) n r) same ∙ sym q.end_is;
+        end = p.end_is ∙ ap (λ (r : RunReport). end_by (turn_in w ds r) n r) same ∙ sym q.end_is;
       }
 
   -- a tail doesn't begin with a record that is passed
   not_passed : {A : Type 0} (n j : ℕ) (x y t u : List ℕ) (s v : ℕ) (e f : ToolEnd) (r : RunReport) → Tail w ds m x ending n t s e
-      → RunWithin ds m x ending r → turn_in w r ≡ Goes
+      → RunWithin ds m x ending r → turn_in w ds r ≡ Goes
       → Tail w ds m y ending (n + suc j) u v f → A
   not_passed n j x y t u s v e f r (inl p) ran goes (inl q) = absurd (omega (arith, p.full, q.full))
   not_passed n j x y t u s v e f r (inl p) ran goes (inr q) = absurd (omega (arith, p.full, q.few))
-  not_passed n j x y t u s v e f r (inr p) ran goes q = absurd (p.stops (ap (turn_in w) (same_report x p.last r p.ran ran) ∙ goes))
+  not_passed n j x y t u s v e f r (inr p) ran goes q = absurd (p.stops (ap (turn_in w ds) (same_report x p.last r p.ran ran) ∙ goes))
 
   same_end : (ps qs : List RunReport) (n : ℕ) (x y z t u : List ℕ) (s v : ℕ) (e f : ToolEnd)
       → Passed w ds m x ending ps y → Tail w ds m y ending (n + length ps) t s e → Passed w ds m x ending qs z

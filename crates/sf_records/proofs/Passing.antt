@@ -1,9 +1,9 @@
 -- Records after which the loop goes on.
-use Rattle.std.proofs.Common.{◌≡◌, ℕ, ◌+◌, Bool, true, false, cond, nat_eq, List, [], ◌∷◌, ◌++◌, drop, Option, Some, None, ◌⊎◌, inl, inr}
+use Rattle.std.proofs.Common.{◌≡◌, ℕ, ◌+◌, Bool, true, false, cond, ◌&&◌, nat_eq, List, [], ◌∷◌, ◌++◌, drop, Option, Some, None, ◌⊎◌, inl, inr}
 use Rattle.std.proofs.Common.{refl, sym, ap, ◌∙◌, arith, true≢false}
 use Rattle.std.specs.Prelude.{IsSome}
 use Rattle.sf_format.specs.declared.directive.Directive.{Directive}
-use Rattle.sf_format.specs.Proper.{AreProper}
+use Rattle.sf_format.specs.Proper.{AreProper, has_optional}
 use Rattle.sf_run.specs.outcome.Ending.{Ending}
 use Rattle.sf_run.specs.outcome.Ending.TheVariants.{End, Fault}
 use Rattle.sf_run.specs.outcome.Status.{Status}
@@ -49,26 +49,27 @@ of_two test true x y p q = p
 of_two test false x y p q = q
 
 -- just where memory was refused, the turn says so
-pub ran_out_by : (status : Status) (met : Option Ending) (used converted : ℕ)
-    → is_ran_out (turn_by status met used converted) ≡ is_memory_status status
-ran_out_by NoMemory None used converted = refl
-ran_out_by NoMemory (Some End) used converted = refl
-ran_out_by NoMemory (Some Fault) used converted = refl
-ran_out_by Done None used converted = of_two is_ran_out (nat_eq used 0) Stalled Goes refl refl
-ran_out_by Done (Some End) used converted = of_two is_ran_out (nat_eq used 0) Stalled Goes refl refl
-ran_out_by Done (Some Fault) used converted = refl
-ran_out_by InputFailure None used converted = refl
-ran_out_by InputFailure (Some End) used converted = of_two is_ran_out (nat_eq converted 0) Ends Failed refl refl
-ran_out_by InputFailure (Some Fault) used converted = refl
-ran_out_by MatchingFailure None used converted = refl
-ran_out_by MatchingFailure (Some End) used converted = refl
-ran_out_by MatchingFailure (Some Fault) used converted = refl
-ran_out_by OutOfRange None used converted = refl
-ran_out_by OutOfRange (Some End) used converted = refl
-ran_out_by OutOfRange (Some Fault) used converted = refl
-ran_out_by TooLong None used converted = refl
-ran_out_by TooLong (Some End) used converted = refl
-ran_out_by TooLong (Some Fault) used converted = refl
+pub ran_out_by : (optional : Bool) (status : Status) (met : Option Ending) (used converted : ℕ)
+    → is_ran_out (turn_by optional status met used converted) ≡ is_memory_status status
+ran_out_by optional NoMemory None used converted = refl
+ran_out_by optional NoMemory (Some End) used converted = refl
+ran_out_by optional NoMemory (Some Fault) used converted = refl
+ran_out_by optional Done None used converted = of_two is_ran_out (nat_eq used 0) Stalled Goes refl refl
+ran_out_by optional Done (Some End) used converted =
+    of_two is_ran_out (optional && nat_eq converted 0) Ends _ refl (of_two is_ran_out (nat_eq used 0) Stalled Goes refl refl)
+ran_out_by optional Done (Some Fault) used converted = refl
+ran_out_by optional InputFailure None used converted = refl
+ran_out_by optional InputFailure (Some End) used converted = of_two is_ran_out (nat_eq converted 0) Ends Failed refl refl
+ran_out_by optional InputFailure (Some Fault) used converted = refl
+ran_out_by optional MatchingFailure None used converted = refl
+ran_out_by optional MatchingFailure (Some End) used converted = refl
+ran_out_by optional MatchingFailure (Some Fault) used converted = refl
+ran_out_by optional OutOfRange None used converted = refl
+ran_out_by optional OutOfRange (Some End) used converted = refl
+ran_out_by optional OutOfRange (Some Fault) used converted = refl
+ran_out_by optional TooLong None used converted = refl
+ran_out_by optional TooLong (Some End) used converted = refl
+ran_out_by optional TooLong (Some Fault) used converted = refl
 
 -- whether a record fits changes nothing of that
 fit_ran_out : (fits : Bool) (turn : Turn) → is_ran_out (fit_turn fits turn) ≡ is_ran_out turn
@@ -84,14 +85,16 @@ fit_ran_out true Unfit = refl
 fit_ran_out false Unfit = refl
 fit_ran_out fits RanOut = refl
 
-pub not_ran_out : (w : Work) (r : RunReport) (turn : Turn) → turn_in w r ≡ turn → is_ran_out turn ≡ false
+pub not_ran_out : (w : Work) (ds : List Directive) (r : RunReport) (turn : Turn) → turn_in w ds r ≡ turn → is_ran_out turn ≡ false
     → is_memory_status r.status ≡ false
-not_ran_out w r turn is fine =
-    sym (ran_out_by r.status r.met r.used r.converted) ∙ sym (fit_ran_out (w.fits r) (turn_of r)) ∙ ap is_ran_out is ∙ fine
+not_ran_out w ds r turn is fine =
+    sym (ran_out_by (has_optional ds) r.status r.met r.used r.converted)
+    ∙ sym (fit_ran_out (w.fits r) (turn_of (has_optional ds) r)) ∙ ap is_ran_out is ∙ fine
 
-pub ran_out_status : (w : Work) (r : RunReport) → turn_in w r ≡ RanOut → is_memory_status r.status ≡ true
-ran_out_status w r is =
-    sym (ran_out_by r.status r.met r.used r.converted) ∙ sym (fit_ran_out (w.fits r) (turn_of r)) ∙ ap is_ran_out is
+pub ran_out_status : (w : Work) (ds : List Directive) (r : RunReport) → turn_in w ds r ≡ RanOut → is_memory_status r.status ≡ true
+ran_out_status w ds r is =
+    sym (ran_out_by (has_optional ds) r.status r.met r.used r.converted)
+    ∙ sym (fit_ran_out (w.fits r) (turn_of (has_optional ds) r)) ∙ ap is_ran_out is
 
 -- no run by the definitions ends for want of memory
 pub within_fine : (ds : List Directive) → AreProper ds → (m : ℕ) (x : List ℕ) (ending : Ending) (r : RunReport)
@@ -120,15 +123,16 @@ written_is_no_memory Unfit due = refl
 written_is_no_memory RanOut due = absurd (true≢false (sym due))
 
 -- where the loop goes on, no source has failed
-goes_by : (status : Status) (met : Option Ending) (used converted : ℕ) → turn_by status met used converted ≡ Goes → is_fault met ≡ false
-goes_by status None used converted e = refl
-goes_by status (Some End) used converted e = refl
-goes_by Done (Some Fault) used converted e = other refl e
-goes_by InputFailure (Some Fault) used converted e = other refl e
-goes_by MatchingFailure (Some Fault) used converted e = other refl e
-goes_by OutOfRange (Some Fault) used converted e = other refl e
-goes_by TooLong (Some Fault) used converted e = other refl e
-goes_by NoMemory (Some Fault) used converted e = other refl e
+goes_by : (optional : Bool) (status : Status) (met : Option Ending) (used converted : ℕ)
+    → turn_by optional status met used converted ≡ Goes → is_fault met ≡ false
+goes_by optional status None used converted e = refl
+goes_by optional status (Some End) used converted e = refl
+goes_by optional Done (Some Fault) used converted e = other refl e
+goes_by optional InputFailure (Some Fault) used converted e = other refl e
+goes_by optional MatchingFailure (Some Fault) used converted e = other refl e
+goes_by optional OutOfRange (Some Fault) used converted e = other refl e
+goes_by optional TooLong (Some Fault) used converted e = other refl e
+goes_by optional NoMemory (Some Fault) used converted e = other refl e
 
 -- where the loop goes on, the record fits
 pub fit_goes : (fits : Bool) (turn : Turn) → fit_turn fits turn ≡ Goes → (turn ≡ Goes) × (fits ≡ true)
@@ -144,8 +148,9 @@ fit_goes true Unfit e = other refl e
 fit_goes false Unfit e = other refl e
 fit_goes fits RanOut e = other refl e
 
-pub goes_is_no_fault : (w : Work) (r : RunReport) → turn_in w r ≡ Goes → is_fault r.met ≡ false
-goes_is_no_fault w r e = goes_by r.status r.met r.used r.converted (fit_goes (w.fits r) (turn_of r) e).0
+pub goes_is_no_fault : (w : Work) (ds : List Directive) (r : RunReport) → turn_in w ds r ≡ Goes → is_fault r.met ≡ false
+goes_is_no_fault w ds r e =
+    goes_by (has_optional ds) r.status r.met r.used r.converted (fit_goes (w.fits r) (turn_of (has_optional ds) r) e).0
 
 -- ---- records
 
@@ -155,7 +160,7 @@ passed_append w ds m ending x y z [] rest p q = rw p q
 passed_append w ds m ending x y z (r ∷ rs) rest p q = (p.0, p.1, passed_append w ds m ending (drop r.used x) y z rs rest p.2 q)
 
 pub passed_more : (w : Work) (ds : List Directive) (m : ℕ) (ending : Ending) (x y : List ℕ) (front : List RunReport) (r : RunReport)
-    → Passed w ds m x ending front y → RunWithin ds m y ending r → turn_in w r ≡ Goes
+    → Passed w ds m x ending front y → RunWithin ds m y ending r → turn_in w ds r ≡ Goes
     → Passed w ds m x ending (front ++ r ∷ []) (drop r.used y)
 passed_more w ds m ending x y front r p ran goes = passed_append w ds m ending x y (drop r.used y) front (r ∷ []) p (ran, goes, refl)
 

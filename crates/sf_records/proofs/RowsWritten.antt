@@ -7,7 +7,7 @@ use Rattle.std.proofs.lemmas.Grind.{flat_map-append}
 use Rattle.sf_base.specs.Bytes.{AreBytes}
 use Rattle.sf_base.specs.Data.{Datum, kind_of}
 use Rattle.sf_format.specs.declared.directive.Directive.{Directive}
-use Rattle.sf_format.specs.Proper.{IsAccepted, destinations_of}
+use Rattle.sf_format.specs.Proper.{IsAccepted, destinations_of, has_optional}
 use Rattle.sf_run.specs.outcome.Ending.{Ending}
 use Rattle.sf_run.specs.outcome.Ending.TheVariants.{End, Fault}
 use Rattle.sf_run.specs.outcome.Status.{Status}
@@ -37,25 +37,26 @@ use Rattle.sf_records.proofs.Copying.{fit_is}
 -- ---- records that are written
 
 -- what is written is Done
-done_by : (status : Status) (met : Option Ending) (used converted : ℕ) → writes (turn_by status met used converted) ≡ true → status ≡ Done
-done_by Done met used converted e = refl
-done_by NoMemory met used converted e = absurd (true≢false (sym e))
-done_by InputFailure None used converted e = absurd (true≢false (sym e))
-done_by InputFailure (Some End) used converted e = absurd (true≢false (sym e ∙ neither (nat_eq converted 0)))
+done_by : (optional : Bool) (status : Status) (met : Option Ending) (used converted : ℕ)
+    → writes (turn_by optional status met used converted) ≡ true → status ≡ Done
+done_by optional Done met used converted e = refl
+done_by optional NoMemory met used converted e = absurd (true≢false (sym e))
+done_by optional InputFailure None used converted e = absurd (true≢false (sym e))
+done_by optional InputFailure (Some End) used converted e = absurd (true≢false (sym e ∙ neither (nat_eq converted 0)))
   where
     neither : (b : Bool) → writes (cond b Ends Failed) ≡ false
     neither true = refl
     neither false = refl
-done_by InputFailure (Some Fault) used converted e = absurd (true≢false (sym e))
-done_by MatchingFailure None used converted e = absurd (true≢false (sym e))
-done_by MatchingFailure (Some End) used converted e = absurd (true≢false (sym e))
-done_by MatchingFailure (Some Fault) used converted e = absurd (true≢false (sym e))
-done_by OutOfRange None used converted e = absurd (true≢false (sym e))
-done_by OutOfRange (Some End) used converted e = absurd (true≢false (sym e))
-done_by OutOfRange (Some Fault) used converted e = absurd (true≢false (sym e))
-done_by TooLong None used converted e = absurd (true≢false (sym e))
-done_by TooLong (Some End) used converted e = absurd (true≢false (sym e))
-done_by TooLong (Some Fault) used converted e = absurd (true≢false (sym e))
+done_by optional InputFailure (Some Fault) used converted e = absurd (true≢false (sym e))
+done_by optional MatchingFailure None used converted e = absurd (true≢false (sym e))
+done_by optional MatchingFailure (Some End) used converted e = absurd (true≢false (sym e))
+done_by optional MatchingFailure (Some Fault) used converted e = absurd (true≢false (sym e))
+done_by optional OutOfRange None used converted e = absurd (true≢false (sym e))
+done_by optional OutOfRange (Some End) used converted e = absurd (true≢false (sym e))
+done_by optional OutOfRange (Some Fault) used converted e = absurd (true≢false (sym e))
+done_by optional TooLong None used converted e = absurd (true≢false (sym e))
+done_by optional TooLong (Some End) used converted e = absurd (true≢false (sym e))
+done_by optional TooLong (Some Fault) used converted e = absurd (true≢false (sym e))
 
 bytes_behind : (x : List ℕ) (n : ℕ) → AreBytes x → AreBytes (drop n x)
 bytes_behind x zero h = h
@@ -79,18 +80,18 @@ counted Unfit n r stops = omega arith
 counted RanOut n r stops = omega arith
 
 module _ (have_rows : EachDoneRunHasItsRow) (are_rows : RecordsAreRows) (tsv_back : TsvReadsBack) (json_back : JsonReadsBack)
-    (form : OutputForm) (ds : List Directive) (accepted : IsAccepted ds) (m : ℕ) (ending : Ending) where
+    (form : OutputForm) (ds : List Directive) (accepted : IsAccepted ds) (whole : has_optional ds ≡ false) (m : ℕ) (ending : Ending) where
   abbrev w : Work
   w = writing form ds
 
   abbrev slots : ℕ
   slots = length (destinations_of ds)
 
-  turn_is : (r : RunReport) → turn_in w r ≡ turn_of r
-  turn_is r = fit_is true (turn_of r) refl
+  turn_is : (r : RunReport) → turn_in w ds r ≡ turn_of (has_optional ds) r
+  turn_is r = fit_is true (turn_of (has_optional ds) r) refl
 
-  written_done : (r : RunReport) → writes (turn_in w r) ≡ true → r.status ≡ Done
-  written_done r e = done_by r.status r.met r.used r.converted (ap writes (sym (turn_is r)) ∙ e)
+  written_done : (r : RunReport) → writes (turn_in w ds r) ≡ true → r.status ≡ Done
+  written_done r e = done_by (has_optional ds) r.status r.met r.used r.converted (ap writes (sym (turn_is r)) ∙ e)
 
   passed_done : (x y : List ℕ) (rs : List RunReport) → Passed w ds m x ending rs y → AreDone ds m x ending rs
   passed_done x y [] passed = tt
@@ -117,7 +118,7 @@ module _ (have_rows : EachDoneRunHasItsRow) (are_rows : RecordsAreRows) (tsv_bac
   rowed : (x : List ℕ) → AreBytes x → (rs : List RunReport) → AreDone ds m x ending rs → Rowed rs
   rowed x bytes [] done = record { rows = []; are = tt; count = refl; values = tt; kinds = tt; text = refl }
   rowed x bytes (r ∷ rs) done =
-      let has = have_rows ds accepted m x ending r bytes (inl done.0) done.1 in
+      let has = have_rows ds accepted whole m x ending r bytes (inl done.0) done.1 in
       let later = rowed (drop r.used x) (bytes_behind x r.used bytes) rs done.2 in
       record {
         rows = has.row ∷ later.rows;
@@ -152,21 +153,21 @@ module _ (have_rows : EachDoneRunHasItsRow) (are_rows : RecordsAreRows) (tsv_bac
   -- where the loop stopped at a run
   stopped_so : (x : List ℕ) → AreBytes x → (output : List ℕ) (end : ToolEnd) (front : List RunReport) (left : List ℕ)
       → Passed w ds m x ending front left → (last : RunReport) → RunWithin ds m left ending last
-      → (turn_in w last ≡ Goes → ⊥) → output ≡ texts w front ++ last_text w last → (n : ℕ) → n ≡ length front
-      → end ≡ end_by (turn_in w last) n last → (b : Bool) → writes (turn_in w last) ≡ b
+      → (turn_in w ds last ≡ Goes → ⊥) → output ≡ texts w front ++ last_text w ds last → (n : ℕ) → n ≡ length front
+      → end ≡ end_by (turn_in w ds last) n last → (b : Bool) → writes (turn_in w ds last) ≡ b
       → ReadsAsRows form ds m x ending output end
   stopped_so x bytes output end front left passed last ran stops is n count end_is true due =
-      let text : last_text w last ≡ w.text last = ap (λ b. cond b (w.text last) []) due in
+      let text : last_text w ds last ≡ w.text last = ap (λ b. cond b (w.text last) []) due in
       let one : texts w (last ∷ []) ≡ w.text last = append-nil (w.text last) in
       let all : output ≡ texts w (front ++ last ∷ []) ++ [] =
       is ∙ ap (λ t. texts w front ++ t) (text ∙ sym one) ∙ sym (flat_map-append w.text front (last ∷ []))
       ∙ sym (append-nil (texts w (front ++ last ∷ []))) in
-      let records : end.records ≡ n + 1 = ap (λ e. e.records) end_is ∙ counted (turn_in w last) n last stops
+      let records : end.records ≡ n + 1 = ap (λ e. e.records) end_is ∙ counted (turn_in w ds last) n last stops
       ∙ ap (λ b. n + cond b 1 0) due in
       reads x bytes (front ++ last ∷ []) (passed_last x left front last passed ran (written_done last due)) output [] all end
       (omega (arith, records, count, length-append front (last ∷ []))) (λ e. refl)
   stopped_so x bytes output end front left passed last ran stops is n count end_is false due =
-      let records : end.records ≡ n + 0 = ap (λ e. e.records) end_is ∙ counted (turn_in w last) n last stops
+      let records : end.records ≡ n + 0 = ap (λ e. e.records) end_is ∙ counted (turn_in w ds last) n last stops
       ∙ ap (λ b. n + cond b 1 0) due in
       reads x bytes front (passed_done x left front passed) output [] (is ∙ ap (λ b. texts w front ++ cond b (w.text last) []) due)
       end (omega (arith, records, count)) (λ e. refl)
@@ -182,7 +183,7 @@ module _ (have_rows : EachDoneRunHasItsRow) (are_rows : RecordsAreRows) (tsv_bac
     | inr stops ↦
         stopped_so x bytes output end h.written h.left h.passed stops.last stops.ran stops.stops
         (h.output_is ∙ ap (λ t. texts w h.written ++ t) stops.tail_is) (0 + length h.written) (omega arith) stops.end_is
-        (writes (turn_in w stops.last)) refl
+        (writes (turn_in w ds stops.last)) refl
   ]
 
   -- where it was ended before
@@ -197,7 +198,7 @@ module _ (have_rows : EachDoneRunHasItsRow) (are_rows : RecordsAreRows) (tsv_bac
 
 pub reads_back : {S : Type 0} (to_come : S → Option (List ℕ)) → EachDoneRunHasItsRow → RecordsAreRows → TsvReadsBack → JsonReadsBack
     → WrittenReadsBack to_come
-reads_back to_come have_rows are_rows tsv_back json_back form ds accepted m t bytes now failures failures' before after answer loop =
+reads_back to_come have_rows are_rows tsv_back json_back form ds accepted whole m t bytes now failures failures' before after answer loop =
     by loop.told
   where
     bytes_in : (failed : Bool) → AreBytes (input_by failed loop.consumed t)
@@ -212,8 +213,8 @@ reads_back to_come have_rows are_rows tsv_back json_back form ds accepted m t by
     by (inl (text, used, end)) =
         subst (λ a. ReadsAsRows form ds m (input_by loop.failed loop.consumed t) (ending_by loop.failed) loop.written a) (sym end)
         (subst (λ y. ReadsAsRows form ds m (input_by loop.failed loop.consumed t) (ending_by loop.failed) y loop.end) (sym text)
-        (ended_so have_rows are_rows tsv_back json_back form ds accepted m (ending_by loop.failed)
+        (ended_so have_rows are_rows tsv_back json_back form ds accepted whole m (ending_by loop.failed)
         (input_by loop.failed loop.consumed t) (bytes_in loop.failed) loop.output loop.used loop.end loop.is))
     by (inr (missing, cut)) =
-        cut_so have_rows are_rows tsv_back json_back form ds accepted m (ending_by loop.failed) (input_by loop.failed loop.consumed t)
+        cut_so have_rows are_rows tsv_back json_back form ds accepted whole m (ending_by loop.failed) (input_by loop.failed loop.consumed t)
         (bytes_in loop.failed) loop.written loop.consumed answer cut

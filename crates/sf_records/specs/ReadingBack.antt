@@ -5,7 +5,7 @@ use Rattle.sf_base.specs.Bytes.{AreBytes}
 use Rattle.sf_base.specs.Data.{Datum}
 use Rattle.sf_run.specs.Rows.{AreRowOf, kinds_of}
 use Rattle.sf_format.specs.declared.directive.Directive.{Directive}
-use Rattle.sf_format.specs.Proper.{IsAccepted, destinations_of}
+use Rattle.sf_format.specs.Proper.{IsAccepted, destinations_of, has_optional}
 use Rattle.sf_run.specs.outcome.Ending.{Ending}
 use Rattle.sf_run.specs.outcome.Status.TheVariants.{Done}
 use Rattle.sf_run.specs.Limits.{RunWithin}
@@ -49,10 +49,10 @@ pub record ReadsAsRows (form : OutputForm) (ds : List Directive) (m : ℕ) (x : 
   pub tsv : form ≡ Tsv → tsv_rows (kinds_of ds) (flat_map (row_text form) rows) ≡ rows
   pub json : form ≡ Json → json_rows (flat_map (row_text form) rows) ≡ Some (map (map element_of) rows)
 
--- so does what a loop wrote by an accepted format, in this form, of the records of an input of bytes
+-- so does what a loop wrote by an accepted format without a ?, in this form, of the records of an input of bytes
 abbrev pub WrittenReadsBack : {S : Type 0} → (S → Option (List ℕ)) → Type 0
 WrittenReadsBack {S} to_come =
-    (form : OutputForm) (ds : List Directive) → IsAccepted ds → (m : ℕ) (t : List ℕ) → AreBytes t
+    (form : OutputForm) (ds : List Directive) → IsAccepted ds → has_optional ds ≡ false → (m : ℕ) (t : List ℕ) → AreBytes t
     → (now : Ahead S) (failures failures' : ℕ) (before after : Option (List ℕ)) (answer : ToolEnd)
     (loop : Loops (writing form ds) to_come ds m t now failures failures' before after answer)
     → ReadsAsRows form ds m (input_by loop.failed loop.consumed t) (ending_by loop.failed) loop.written answer

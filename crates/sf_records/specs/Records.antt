@@ -25,7 +25,7 @@ most_records = 2147483647
 -- each report is that of what the ones before it left of x, the loop goes on after each, and y is left
 abbrev pub Passed : Work → List Directive → ℕ → List ℕ → Ending → List RunReport → List ℕ → Type 0
 Passed w ds m x ending [] y = x ≡ y
-Passed w ds m x ending (r ∷ rs) y = RunWithin ds m x ending r × (turn_in w r ≡ Goes) × Passed w ds m (drop r.used x) ending rs y
+Passed w ds m x ending (r ∷ rs) y = RunWithin ds m x ending r × (turn_in w ds r ≡ Goes) × Passed w ds m (drop r.used x) ending rs y
 
 -- the bytes that the runs used
 abbrev pub uses : List RunReport → ℕ
@@ -71,10 +71,10 @@ pub record StopsAt (w : Work) (ds : List Directive) (m : ℕ) (y : List ℕ) (en
   pub few : n < most_records
   pub last : RunReport
   pub ran : RunWithin ds m y ending last
-  pub stops : turn_in w last ≡ Goes → ⊥
-  pub tail_is : tail ≡ last_text w last
+  pub stops : turn_in w ds last ≡ Goes → ⊥
+  pub tail_is : tail ≡ last_text w ds last
   pub spent_is : spent ≡ last.used
-  pub end_is : end ≡ end_by (turn_in w last) n last
+  pub end_is : end ≡ end_by (turn_in w ds last) n last
 
 -- The records of the input x with its ending, by runs of at most m bytes, n records having been written before: their
 -- lines, the bytes that the runs use, and how the loop ends.
@@ -100,7 +100,7 @@ pub record IsUnwritten (w : Work) (ds : List Directive) (m : ℕ) (y : List ℕ)
   pub next : RunReport
   pub ran : RunWithin ds m y ending next
   pub spent_is : spent ≡ next.used
-  pub due : writes (turn_in w next) ≡ true
+  pub due : writes (turn_in w ds next) ≡ true
   pub missing : ℕ
   pub rest : List ℕ
   pub begun : w.text next ≡ part ++ missing ∷ rest
@@ -110,7 +110,7 @@ pub record IsUnmade (w : Work) (ds : List Directive) (m : ℕ) (y : List ℕ) (e
   pub next : RunReport
   pub ran : RunWithin ds m y ending next
   pub spent_is : spent ≡ next.used
-  pub due : writes (turn_in w next) ≡ true
+  pub due : writes (turn_in w ds next) ≡ true
 
 -- the run over y used `spent` bytes, and then the storing of a byte was refused, which happens where the format has no width sum
 pub record IsUnstored (ds : List Directive) (m : ℕ) (y : List ℕ) (spent : ℕ) : Type 0 where

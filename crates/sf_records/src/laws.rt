@@ -38,9 +38,9 @@ pub fn copied_twice()
     fits_is_fit();
 }
 
-/// What `run_scan_as` wrote of the records of an input of bytes, by an accepted format, is the records of the values
-/// that the input's runs gave; as a table or as arrays of JSON it reads back as these values. Where the sink failed, a
-/// part of one more record follows.
+/// What `run_scan_as` wrote of the records of an input of bytes, by an accepted format without a `?`, is the records of
+/// the values that the input's runs gave; as a table or as arrays of JSON it reads back as these values. Where the sink
+/// failed, a part of one more record follows.
 pub fn written_reads_back<S: Source>()
     ensures { WrittenReadsBack S.to_come }
 {

@@ -76,12 +76,13 @@ fn judge<M: Maker, K: Sink, T: Store>(
     requires { records < 2147483647 }
     ensures same { M.work maker.new ≡ M.work maker.old }
     ensures judged { Judges records ((M.work maker.old 1 format.now).text report.now)
-        (turn_in (M.work maker.old 1 format.now) report.now) report.now (K.contents to.old) (K.contents to.new) result }
+        (turn_in (M.work maker.old 1 format.now) format.now report.now) report.now (K.contents to.old) (K.contents
+        to.new) result }
     ensures status { IfSome result (λ end. end.status ≡ status_by end.fault) }
     ensures failures { K.failures to.new
         ≡ (if is_write (fault_of result) then counted_on (K.failures to.old) else K.failures to.old) }
 {
-    let turn = next_turn(report.outcome());
+    let turn = next_turn(report.outcome(), format.has_optional());
     if turn.writes()
         && let Err(why) = maker.write(to, format, ONLY_FORMAT, report)
     {
@@ -109,9 +110,11 @@ fn write_held<M: Maker, K: Sink, T: Store>(
     requires used { 0 < report.now.used }
     ensures same { M.work maker.new ≡ M.work maker.old }
     ensures written { IfOk result (λ _. Judges records ((M.work maker.old 1 format.now).text report.now)
-        (turn_in (M.work maker.old 1 format.now) report.now) report.now (K.contents to.old) (K.contents to.new) None) }
+        (turn_in (M.work maker.old 1 format.now) format.now report.now) report.now (K.contents to.old) (K.contents
+        to.new) None) }
     ensures unwritten { IfErr result (λ fault. Judges records ((M.work maker.old 1 format.now).text report.now)
-        (turn_in (M.work maker.old 1 format.now) report.now) report.now (K.contents to.old) (K.contents to.new)
+        (turn_in (M.work maker.old 1 format.now) format.now report.now) report.now (K.contents to.old) (K.contents
+        to.new)
         (Some (ended records (Some fault)))) }
     ensures failures { K.failures to.new
         ≡ (if is_write (result_err result) then counted_on (K.failures to.old) else K.failures to.old) }

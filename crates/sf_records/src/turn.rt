@@ -9,7 +9,7 @@ use sf_run::{Ending, Outcome, Status};
 pub(crate) enum Turn {
     /// The record's line is written, and the next run follows.
     Goes,
-    /// The input has no further record.
+    /// The input has no further record: it ended before the first item, or each item is missing at its end.
     Ends,
     /// The source failed; a record that was complete by then is written.
     Cut { written: bool },
@@ -33,22 +33,23 @@ impl Turn {
     }
 }
 
-/// What the record loop does after a run. After most it goes on, which is answered first.
+/// What the record loop does after a run; `optional` says whether items of the format may be missing. After most it
+/// goes on, which is answered first.
 #[inline(always)]
-pub(crate) fn next_turn(outcome: Outcome) -> Turn
-    ensures { result ≡ turn_by outcome.status outcome.met outcome.used outcome.converted }
+pub(crate) fn next_turn(outcome: Outcome, optional: bool) -> Turn
+    ensures { result ≡ turn_by optional outcome.status outcome.met outcome.used outcome.converted }
 {
     if let (Status::Done, None) = (outcome.status, outcome.met)
         && outcome.used > 0
     {
         return Turn::Goes;
     }
-    turn_after(outcome)
+    turn_after(outcome, optional)
 }
 
 #[inline(never)]
-fn turn_after(outcome: Outcome) -> Turn
-    ensures { result ≡ turn_by outcome.status outcome.met outcome.used outcome.converted }
+fn turn_after(outcome: Outcome, optional: bool) -> Turn
+    ensures { result ≡ turn_by optional outcome.status outcome.met outcome.used outcome.converted }
 {
     match (outcome.status, outcome.met) {
         (Status::NoMemory, _) => Turn::RanOut,
@@ -56,6 +57,7 @@ fn turn_after(outcome: Outcome) -> Turn
             written: outcome.used > 0,
         },
         (_, Some(Ending::Fault)) => Turn::Cut { written: false },
+        (Status::Done, Some(Ending::End)) if optional && outcome.converted == 0 => Turn::Ends,
         (Status::Done, _) => {
             if outcome.used == 0 {
                 Turn::Stalled

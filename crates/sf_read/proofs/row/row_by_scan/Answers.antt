@@ -12,7 +12,8 @@ use Rattle.sf_read.proofs.row.row_by_scan.Goals as goal
 pub row_of-row-requires : goal.row_of-row-requires
 row_of-row-requires g c =
     let told = c.in-Ok.ensures.told in
-    given g.T.Row.kinds c.args.format.now c.args.limit told.0 told.1 c.in-Ok.scanned.report c.requires.kinded
+    given g.T.Row.kinds c.args.format.now c.args.limit told.0 told.1 c.in-Ok.scanned.report c.requires.accepted.kinded
+    c.requires.accepted.slots
     c.requires.shape told.2
 
 pub returns-in-Err-clause-limit : goal.returns-in-Err-clause-limit

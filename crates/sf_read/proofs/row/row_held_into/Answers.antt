@@ -10,7 +10,8 @@ from_report-requires-clause-given g c =
     let told = c.in_ok-outcome.ensures.told in
     let report : RunReport = report_by c.in_ok-outcome.outcome (g.K.Store.kept c.held_into.new.store).values in
     rw (c.new-report.ensures)
-    (given g.T.Row.kinds c.args.format.now c.args.limit told.0 told.1 report c.requires.kinded c.requires.shape told.2
+    (given g.T.Row.kinds c.args.format.now c.args.limit told.0 told.1 report c.requires.accepted.kinded c.requires.accepted.slots
+    c.requires.shape told.2
     c.in_ok-outcome.ensures.done)
 
 pub returns-in-Ok-clause-run : goal.returns-in-Ok-clause-run

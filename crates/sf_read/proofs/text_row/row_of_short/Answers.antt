@@ -11,7 +11,8 @@ from_report-requires-clause-given g c =
     let e = c.in_ok-outcome.ensures in
     let report : RunReport = report_by c.in_ok-outcome.outcome c.scan_short.new.store.values in
     rw (c.new.ensures)
-    (given g.T.Row.kinds c.args.format.now c.args.limit c.args.text.now End report c.requires.kinded c.requires.shape (inl e.run) e.done)
+    (given g.T.Row.kinds c.args.format.now c.args.limit c.args.text.now End report c.requires.accepted.kinded c.requires.accepted.slots
+    c.requires.shape (inl e.run) e.done)
 
 pub returns-in-Ok-clause-run : goal.returns-in-Ok-clause-run
 returns-in-Ok-clause-run g c =

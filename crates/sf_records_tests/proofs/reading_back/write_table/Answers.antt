@@ -15,14 +15,14 @@ returns g c =
     ap (λ h. Some (h ++ c.new-from.result.source.to_come)) c.new-from.ensures.held
     ∙ ap (λ s. Some s.to_come) (c.new-from.ensures.source ∙ c.new.ensures) in
     let loop = c.run_scan_as.ensures.loops c.args.text.now input in
-    let back = c.written_reads_back.ensures Tsv c.args.format.now c.destinations-destinations.ensures.accepted 2000000000 c.args.text.now
-    (are_bytes c.args.text.now c.type_inv.text) _ _ _ _ _ _ loop in
     record {
-      reads = (
-        back.rows,
-        back.part,
-        subst (Appends (g.K.Sink.contents c.args.to.now) (g.K.Sink.contents c.run_scan_as.new.to)) back.text_is loop.appends,
-        back.whole,
-        back.tsv refl,
-      );
+      reads = λ whole.
+          let back = c.written_reads_back.ensures Tsv c.args.format.now c.destinations-destinations.ensures.accepted whole
+          2000000000 c.args.text.now (are_bytes c.args.text.now c.type_inv.text) _ _ _ _ _ _ loop in (
+            back.rows,
+            back.part,
+            subst (Appends (g.K.Sink.contents c.args.to.now) (g.K.Sink.contents c.run_scan_as.new.to)) back.text_is loop.appends,
+            back.whole,
+            back.tsv refl,
+          );
     }

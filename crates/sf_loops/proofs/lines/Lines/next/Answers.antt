@@ -32,7 +32,7 @@ from_report-requires-clause-given g c =
     let there : c.advance.result ≡ Ok true = c.in-Ok-true.is ∙ ap Ok c.in-Ok-true.field-0-test in
     subst (λ (r : RunReport). AreGiven g.T.Row.kinds r.values) (sym c.report.ensures.value)
     (given_line g.T.Row.kinds c.self.inside.reports c.advance.new.self c.advance.result c.advance.ensures.over c.advance.ensures.next there
-    c.report.ensures.kinded c.self.invariant)
+    c.report.ensures.accepted c.self.invariant)
 
 pub returns-in-Ok-false-clause-next : goal.returns-in-Ok-false-clause-next
 returns-in-Ok-false-clause-next g c =

@@ -31,7 +31,7 @@ from_report-requires-clause-given g c =
     let there : c.advance.result ≡ Ok true = c.in-Ok-true.is ∙ ap Ok c.in-Ok-true.field-0-test in
     subst (λ (r : RunReport). AreGiven g.T.Row.kinds r.values) (sym c.report.ensures.value)
     (given_row g.T.Row.kinds c.self.inside.reports c.advance.new.self c.advance.result c.advance.ensures.over c.advance.ensures.next there
-    c.advance.ensures.format c.report.ensures.kinded c.self.invariant)
+    c.advance.ensures.format c.report.ensures.accepted c.self.invariant)
 
 pub returns-in-Ok-false-clause-next : goal.returns-in-Ok-false-clause-next
 returns-in-Ok-false-clause-next g c =
