@@ -1,0 +1,11 @@
+mod Between
+mod Cuts
+mod Firsts
+mod Fewest
+mod FirstDigits
+mod LaidBack
+mod Quotients
+mod ReadBack
+mod ShortBytes
+mod Texts
+mod Trials
