@@ -1,18 +1,22 @@
 -- What a text of rows of comma-separated values reads as.
 use Rattle.std.proofs.Common.{◌≡◌, ◌⊎◌, inl, inr, ℕ, Bool, true, false, ◌&&◌, not, cond, nat_eq, List, [], ◌∷◌, ◌++◌, map, append_assoc}
-use Rattle.std.proofs.Common.{Some, length, refl, sym, ap, ◌∙◌, arith}
+use Rattle.std.proofs.Common.{Option, Some, None, length, refl, sym, ap, ◌∙◌, arith}
 use Rattle.std.proofs.lemmas.Bool.{and_parts, eqb-true, ne_eqb, not-true}
 use Rattle.std.proofs.lemmas.List.{append-nil}
 use Rattle.std.specs.Fmt.{signed_decimal}
 use Rattle.std.specs.List.{AllByRecursion, flat_map, join_with_byte, list_all}
 use Rattle.sf_base.specs.Data.{Datum, Number, Bytes, Real}
+use Rattle.sf_shortest.specs.Laid.{shortest_text}
 use Rattle.sf_forms.specs.declared.form.OutputForm.TheVariants.{Csv}
 use Rattle.sf_forms.specs.Csv.{InBare, InQuotes, Opened, Outside, Behind, Place, Reader, after, csv_escaped, in_bare, is_bare}
-use Rattle.sf_forms.specs.Csv.{opened, rows_in, step_at, with_byte}
-use Rattle.sf_forms.specs.Forms.{csv_field, row_text}
-use Rattle.sf_forms.specs.ReadingBack.{AreRows, CsvNamesReadBack, CsvReadsBack, IsValue, text_of_value}
+use Rattle.sf_forms.specs.Csv.{csv_rows, opened, rows_in, step_at, with_byte}
+use Rattle.sf_forms.specs.Forms.{given_row_text, given_text}
+use Rattle.sf_forms.specs.ReadingBack.{AreGivenRows, CsvGivesTexts, CsvNamesReadBack, CsvReadsBack, IsGivenValue, IsValue}
+use Rattle.sf_forms.specs.ReadingBack.{text_given, text_of_value}
 use Rattle.sf_base.specs.Bytes.{AreBytes}
-use Rattle.sf_forms.proofs.Decimals.{IsNumberByte, bounded, number_bytes}
+use Rattle.sf_forms.proofs.Decimals.{bounded, number_bytes}
+use Rattle.sf_forms.proofs.Floats.{IsTextByte, number_text, real_bytes}
+use Rattle.sf_forms.proofs.Givens.{rows_are_given, rows_given, through_rows}
 
 -- a reader that has read these records, these fields, and these bytes of a field
 abbrev with_field : List (List (List ℕ)) → List (List ℕ) → List ℕ → Place → Reader
@@ -77,20 +81,22 @@ quotes_read rows row field (b ∷ bytes) rest =
 abbrev Stands : List ℕ → List ℕ → Type 0
 Stands bytes text = ((list_all is_bare bytes ≡ true) × (text ≡ bytes)) ⊎ (text ≡ 34 ∷ (flat_map csv_escaped bytes ++ 34 ∷ []))
 
-number_bare : (bytes : List ℕ) → AllByRecursion IsNumberByte bytes → list_all is_bare bytes ≡ true
-number_bare [] all = refl
-number_bare (b ∷ bytes) all =
+text_bare : (bytes : List ℕ) → AllByRecursion IsTextByte bytes → list_all is_bare bytes ≡ true
+text_bare [] all = refl
+text_bare (b ∷ bytes) all =
     rw (
       ne_eqb b 44 (λ e. omega (arith, e, all.0.0)),
       ne_eqb b 34 (λ e. omega (arith, e, all.0.0)),
       ne_eqb b 10 (λ e. omega (arith, e, all.0.0)),
       ne_eqb b 13 (λ e. omega (arith, e, all.0.0)),
-    ) (number_bare bytes all.1)
+    ) (text_bare bytes all.1)
 
-stands : (d : Datum) → IsValue d → Stands (text_of_value d) (csv_field d)
-stands (Number kind n) is = inl (number_bare (signed_decimal n) (number_bytes n (bounded kind n is)), refl)
-stands (Real r) is = absurd is
-stands (Bytes bytes) is = go (list_all is_bare bytes) refl
+stands : (d : Option Datum) → IsGivenValue d → Stands (text_given d) (given_text Csv d)
+stands None is = inl (refl, refl)
+stands (Some (Number kind n)) is =
+    inl (text_bare (signed_decimal n) (number_text (signed_decimal n) (number_bytes n (bounded kind n is))), refl)
+stands (Some (Real r)) is = inl (text_bare (shortest_text r) (real_bytes r), refl)
+stands (Some (Bytes bytes)) is = go (list_all is_bare bytes) refl
   where
     go : (t : Bool) → list_all is_bare bytes ≡ t → Stands bytes (cond t bytes (34 ∷ (flat_map csv_escaped bytes ++ 34 ∷ [])))
     go true e = inl (e, refl)
@@ -154,19 +160,20 @@ end_read rows row place ready bytes text rest (inr is) some =
 -- ---- records
 
 -- fields after a comma
-fields_read : (rows : List (List (List ℕ))) (row : List (List ℕ)) (d : Datum) (more : List Datum) → AllByRecursion IsValue (d ∷ more)
+fields_read : (rows : List (List (List ℕ))) (row : List (List ℕ)) (d : Option Datum) (more : List (Option Datum))
+    → AllByRecursion IsGivenValue (d ∷ more)
     → (rest : List ℕ)
-    → after (with_field rows row [] Opened) (join_with_byte 44 (map csv_field (d ∷ more)) ++ 10 ∷ rest)
-    ≡ after (with_field (rows ++ (row ++ map text_of_value (d ∷ more)) ∷ []) [] [] Outside) rest
+    → after (with_field rows row [] Opened) (join_with_byte 44 (map (given_text Csv) (d ∷ more)) ++ 10 ∷ rest)
+    ≡ after (with_field (rows ++ (row ++ map text_given (d ∷ more)) ∷ []) [] [] Outside) rest
 fields_read rows row d [] are rest =
-    end_read rows row Opened opened_ready (text_of_value d) (csv_field d) rest (stands d are.0) (λ none. refl)
+    end_read rows row Opened opened_ready (text_given d) (given_text Csv d) rest (stands d are.0) (λ none. refl)
 fields_read rows row d (e ∷ more) are rest =
-    let others : List ℕ = join_with_byte 44 (map csv_field (e ∷ more)) in
-    ap (after (with_field rows row [] Opened)) (append_assoc (csv_field d) (44 ∷ others) (10 ∷ rest))
-    ∙ comma_read rows row Opened opened_ready (text_of_value d) (csv_field d) (others ++ 10 ∷ rest) (stands d are.0)
-    ∙ fields_read rows (row ++ text_of_value d ∷ []) e more are.1 rest
+    let others : List ℕ = join_with_byte 44 (map (given_text Csv) (e ∷ more)) in
+    ap (after (with_field rows row [] Opened)) (append_assoc (given_text Csv d) (44 ∷ others) (10 ∷ rest))
+    ∙ comma_read rows row Opened opened_ready (text_given d) (given_text Csv d) (others ++ 10 ∷ rest) (stands d are.0)
+    ∙ fields_read rows (row ++ text_given d ∷ []) e more are.1 rest
     ∙ ap (λ (t : List (List ℕ)). after (with_field (rows ++ t ∷ []) [] [] Outside) rest)
-    (append_assoc row (text_of_value d ∷ []) (map text_of_value (e ∷ more)))
+    (append_assoc row (text_given d ∷ []) (map text_given (e ∷ more)))
 
 -- the one column of a record
 lone_read : (rows : List (List (List ℕ))) (bytes text rest : List ℕ) → Stands bytes text
@@ -186,29 +193,34 @@ lone_read rows bytes (c ∷ text) rest how =
     some e = omega (arith, ap length e)
 lone_read rows bytes [] rest (inr is) = absurd (omega (arith, ap length is))
 
-record_read : (rows : List (List (List ℕ))) (row : List Datum) → AllByRecursion IsValue row → (text : List ℕ)
-    → after (with_field rows [] [] Outside) (row_text Csv row ++ text)
-    ≡ after (with_field (rows ++ map text_of_value row ∷ []) [] [] Outside) text
+record_read : (rows : List (List (List ℕ))) (row : List (Option Datum)) → AllByRecursion IsGivenValue row → (text : List ℕ)
+    → after (with_field rows [] [] Outside) (given_row_text Csv row ++ text)
+    ≡ after (with_field (rows ++ map text_given row ∷ []) [] [] Outside) text
 record_read rows [] are text = refl
-record_read rows (d ∷ []) are text = lone_read rows (text_of_value d) (csv_field d) text (stands d are.0)
+record_read rows (d ∷ []) are text = lone_read rows (text_given d) (given_text Csv d) text (stands d are.0)
 record_read rows (d ∷ e ∷ more) are text =
-    let others : List ℕ = join_with_byte 44 (map csv_field (e ∷ more)) in
-    ap (after (with_field rows [] [] Outside)) (append_assoc (csv_field d ++ (44 ∷ others)) (10 ∷ []) text
-    ∙ append_assoc (csv_field d) (44 ∷ others) (10 ∷ text))
-    ∙ comma_read rows [] Outside outside_ready (text_of_value d) (csv_field d) (others ++ 10 ∷ text) (stands d are.0)
-    ∙ fields_read rows (text_of_value d ∷ []) e more are.1 text
+    let others : List ℕ = join_with_byte 44 (map (given_text Csv) (e ∷ more)) in
+    ap (after (with_field rows [] [] Outside)) (append_assoc (given_text Csv d ++ (44 ∷ others)) (10 ∷ []) text
+    ∙ append_assoc (given_text Csv d) (44 ∷ others) (10 ∷ text))
+    ∙ comma_read rows [] Outside outside_ready (text_given d) (given_text Csv d) (others ++ 10 ∷ text) (stands d are.0)
+    ∙ fields_read rows (text_given d ∷ []) e more are.1 text
 
-records_read : (rows : List (List (List ℕ))) (more : List (List Datum)) → AreRows more
-    → after (with_field rows [] [] Outside) (flat_map (row_text Csv) more)
-    ≡ with_field (rows ++ map (map text_of_value) more) [] [] Outside
+records_read : (rows : List (List (List ℕ))) (more : List (List (Option Datum))) → AreGivenRows more
+    → after (with_field rows [] [] Outside) (flat_map (given_row_text Csv) more)
+    ≡ with_field (rows ++ map (map text_given) more) [] [] Outside
 records_read rows [] are = ap (λ (t : List (List (List ℕ))). with_field t [] [] Outside) (sym (append-nil rows))
 records_read rows (row ∷ more) are =
-    record_read rows row are.0 (flat_map (row_text Csv) more) ∙ records_read (rows ++ map text_of_value row ∷ []) more are.1
+    record_read rows row are.0 (flat_map (given_row_text Csv) more) ∙ records_read (rows ++ map text_given row ∷ []) more are.1
     ∙ ap (λ (t : List (List (List ℕ))). with_field t [] [] Outside)
-    (append_assoc rows (map text_of_value row ∷ []) (map (map text_of_value) more))
+    (append_assoc rows (map text_given row ∷ []) (map (map text_given) more))
+
+pub texts_back : CsvGivesTexts
+texts_back rows are = ap (λ (s : Reader). rows_in s.place s) (records_read [] rows are)
 
 pub rows_back : CsvReadsBack
-rows_back rows are = ap (λ (s : Reader). rows_in s.place s) (records_read [] rows are)
+rows_back rows are =
+    ap csv_rows (rows_given Csv rows) ∙ texts_back (map (map Some) rows) (rows_are_given rows are)
+    ∙ ap (λ (t : List (List (List ℕ))). Some t) (through_rows text_given text_of_value (λ d. refl) rows)
 
 -- ---- names
 

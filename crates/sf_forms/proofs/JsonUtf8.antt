@@ -1,6 +1,7 @@
 -- Arrays of JSON are UTF-8.
 use Rattle.std.proofs.Common.{◌≡◌, ℕ, zero, suc, ◌+◌, ◌/◌, ◌%◌, ◌<◌, ◌≤◌, Bool, true, false, cond, nat_eq, nat_lt, List, [], ◌∷◌, ◌++◌}
-use Rattle.std.proofs.Common.{length, map, take, drop, append-nil, refl, sym, ap, subst, ◌∙◌, arith}
+use Rattle.std.proofs.Common.{length, map, take, drop, append-nil, Option, Some, None, not, refl, sym, ap, subst, ◌∙◌, arith}
+use Rattle.std.specs.Prelude.{codes}
 use Rattle.std.proofs.lemmas.Bool.{and_parts, eqb-false, ne_eqb, le-ltb, ltb-true, ltb-false}
 use Rattle.std.proofs.lemmas.Grind.{flat_map-append}
 use Rattle.std.proofs.lemmas.List.{length-drop}
@@ -11,12 +12,16 @@ use Rattle.std.specs.Str.{IsUtf8, is_utf8}
 use Rattle.std.specs.Str.Lossy.{utf8_valid_len, valid_len_up_to}
 use Rattle.sf_base.specs.Bytes.{AreBytes}
 use Rattle.sf_base.specs.Data.{Datum, Number, Bytes, Real}
+use Rattle.sf_shortest.specs.Laid.{shortest_text}
+use Rattle.sf_forms.specs.Reals.{is_finite}
 use Rattle.sf_forms.specs.declared.form.OutputForm.TheVariants.{Json}
-use Rattle.sf_forms.specs.Forms.{json_value, row_text}
-use Rattle.sf_forms.specs.JsonStrings.{json_escaped, json_from, stray}
+use Rattle.sf_forms.specs.Forms.{given_row_text, given_text}
+use Rattle.sf_forms.specs.JsonStrings.{json_escaped, json_from, json_string, stray}
 use Rattle.sf_forms.specs.Quotes.{hex_digit}
-use Rattle.sf_forms.specs.ReadingBack.{IsValue, JsonIsUtf8}
+use Rattle.sf_forms.specs.ReadingBack.{GivenJsonIsUtf8, IsGivenValue, JsonIsUtf8}
 use Rattle.sf_forms.proofs.Decimals.{IsNumberByte, bounded, number_bytes}
+use Rattle.sf_forms.proofs.Floats.{real_are_bytes, real_bytes, text_ascii}
+use Rattle.sf_forms.proofs.Givens.{rows_are_given, rows_given}
 use Rattle.sf_forms.proofs.JsonWriting.{ascii_byte, ascii_utf8, longest_kept}
 use lib.Utf8.{encode, encodes, scalar, scalars}
 
@@ -164,27 +169,39 @@ number_ascii : (xs : List ℕ) → AllByRecursion IsNumberByte xs → AllByRecur
 number_ascii [] all = tt
 number_ascii (x ∷ xs) all = (omega (arith, all.0.1), number_ascii xs all.1)
 
-value_utf8 : (d : Datum) → IsValue d → IsUtf8 (json_value d)
-value_utf8 (Number kind n) is = ascii_utf8 (signed_decimal n) (number_ascii (signed_decimal n) (number_bytes n (bounded kind n is)))
-value_utf8 (Real r) is = absurd is
-value_utf8 (Bytes bytes) is =
+string_utf8 : (bytes : List ℕ) → AreBytes bytes → IsUtf8 (json_string bytes)
+string_utf8 bytes are =
     IsUtf8-append (34 ∷ []) (json_from 0 bytes ++ 34 ∷ []) (ascii_byte 34 (omega arith))
-    (IsUtf8-append (json_from 0 bytes) (34 ∷ []) (written (length bytes) bytes (omega arith) is) (ascii_byte 34 (omega arith)))
+    (IsUtf8-append (json_from 0 bytes) (34 ∷ []) (written (length bytes) bytes (omega arith) are) (ascii_byte 34 (omega arith)))
 
-values_utf8 : (row : List Datum) → AllByRecursion IsValue row → IsUtf8 (join_with_byte 44 (map json_value row))
+value_utf8 : (d : Option Datum) → IsGivenValue d → IsUtf8 (given_text Json d)
+value_utf8 None is = ascii_utf8 (codes "null") (omega arith, (omega arith, (omega arith, (omega arith, tt))))
+value_utf8 (Some (Number kind n)) is = ascii_utf8 (signed_decimal n) (number_ascii (signed_decimal n) (number_bytes n (bounded kind n is)))
+value_utf8 (Some (Real r)) is = by (is_finite r)
+  where
+    by : (b : Bool) → IsUtf8 (cond (not b) (json_string (shortest_text r)) (shortest_text r))
+    by true = ascii_utf8 (shortest_text r) (text_ascii (shortest_text r) (real_bytes r))
+    by false = string_utf8 (shortest_text r) (real_are_bytes r)
+value_utf8 (Some (Bytes bytes)) is = string_utf8 bytes is
+
+values_utf8 : (row : List (Option Datum)) → AllByRecursion IsGivenValue row → IsUtf8 (join_with_byte 44 (map (given_text Json) row))
 values_utf8 [] are = IsUtf8-nil
 values_utf8 (d ∷ []) are = value_utf8 d are.0
 values_utf8 (d ∷ e ∷ row) are =
-    IsUtf8-append (json_value d) (44 ∷ join_with_byte 44 (map json_value (e ∷ row))) (value_utf8 d are.0)
-    (IsUtf8-append (44 ∷ []) (join_with_byte 44 (map json_value (e ∷ row))) (ascii_byte 44 (omega arith)) (values_utf8 (e ∷ row) are.1))
+    IsUtf8-append (given_text Json d) (44 ∷ join_with_byte 44 (map (given_text Json) (e ∷ row))) (value_utf8 d are.0)
+    (IsUtf8-append (44 ∷ []) (join_with_byte 44 (map (given_text Json) (e ∷ row))) (ascii_byte 44 (omega arith))
+    (values_utf8 (e ∷ row) are.1))
 
-row_utf8 : (row : List Datum) → AllByRecursion IsValue row → IsUtf8 (row_text Json row)
+row_utf8 : (row : List (Option Datum)) → AllByRecursion IsGivenValue row → IsUtf8 (given_row_text Json row)
 row_utf8 row are =
-    IsUtf8-append (91 ∷ []) (join_with_byte 44 (map json_value row) ++ (93 ∷ 10 ∷ [])) (ascii_byte 91 (omega arith))
-    (IsUtf8-append (join_with_byte 44 (map json_value row)) (93 ∷ 10 ∷ []) (values_utf8 row are)
+    IsUtf8-append (91 ∷ []) (join_with_byte 44 (map (given_text Json) row) ++ (93 ∷ 10 ∷ [])) (ascii_byte 91 (omega arith))
+    (IsUtf8-append (join_with_byte 44 (map (given_text Json) row)) (93 ∷ 10 ∷ []) (values_utf8 row are)
     (ascii_utf8 (93 ∷ 10 ∷ []) (omega arith, (omega arith, tt))))
 
+pub given_utf8 : GivenJsonIsUtf8
+given_utf8 [] are = IsUtf8-nil
+given_utf8 (row ∷ rows) are = IsUtf8-append (given_row_text Json row) (flat_map (given_row_text Json) rows) (row_utf8 row are.0)
+    (given_utf8 rows are.1)
+
 pub arrays_utf8 : JsonIsUtf8
-arrays_utf8 [] are = IsUtf8-nil
-arrays_utf8 (row ∷ rows) are = IsUtf8-append (row_text Json row) (flat_map (row_text Json) rows) (row_utf8 row are.0)
-    (arrays_utf8 rows are.1)
+arrays_utf8 rows are = subst IsUtf8 (sym (rows_given Json rows)) (given_utf8 (map (map Some) rows) (rows_are_given rows are))

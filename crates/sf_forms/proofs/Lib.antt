@@ -2,6 +2,8 @@ pub mod CsvReading
 pub mod Decimals
 pub mod Escaping
 pub mod Filling
+pub mod Floats
+pub mod Givens
 pub mod Growing
 mod Heading
 pub mod Joining

@@ -12,7 +12,7 @@ use Rattle.sf_base.specs.declared.values.Kind.TheVariants.{I8, I16, I32, I64, U8
 use Rattle.sf_print.specs.Plain.{minus}
 use Rattle.sf_forms.specs.declared.form.OutputForm.{OutputForm}
 use Rattle.sf_forms.specs.declared.form.OutputForm.TheVariants.{Plain, Tsv, Json, Csv}
-use Rattle.sf_forms.specs.Forms.{absent_text, value_text}
+use Rattle.sf_forms.specs.Forms.{missing_text, value_text}
 
 first_of : (m : ℕ) (b : Bool) → nat_lt 0 m && b ≡ true → 0 < m
 first_of m b e = by (nat_lt 0 m) refl e
@@ -48,8 +48,9 @@ text_of_number Csv n = signed_text n.negative n.magnitude (some_below n.kind n.n
 
 -- what is written of a slot that was given a number, in every form
 pub number_at : (form : OutputForm) (given : Option Datum) (n : Number) → Some (datum_of_number n) ≡ given
-    → minus n.negative ++ decimal n.magnitude ≡ option_map_or (value_text form) given (absent_text form)
-number_at form given n is = sym (text_of_number form n) ∙ ap (λ (d : Option Datum). option_map_or (value_text form) d (absent_text form)) is
+    → minus n.negative ++ decimal n.magnitude ≡ option_map_or (value_text form) given (missing_text form)
+number_at form given n is =
+    sym (text_of_number form n) ∙ ap (λ (d : Option Datum). option_map_or (value_text form) d (missing_text form)) is
 
 -- what was appended, by another name
 pub appended_as : {A E : Type 0} (r : Result A E) (new old text same : List ℕ) → text ≡ same → OnOk r (new ≡ old ++ text)

@@ -7,7 +7,7 @@ use Rattle.std.specs.Option.{option_map_or}
 use Rattle.sf_base.specs.Data.{Datum, Bytes}
 use Rattle.sf_forms.specs.declared.form.OutputForm.{OutputForm}
 use Rattle.sf_forms.specs.declared.form.OutputForm.TheVariants.{Plain, Tsv, Json, Csv}
-use Rattle.sf_forms.specs.Forms.{absent_text, closing, filler, framed, opening, separator, value_text}
+use Rattle.sf_forms.specs.Forms.{missing_text, closing, filler, framed, opening, separator, value_text}
 use Rattle.sf_forms.specs.JsonStrings.{json_string}
 use Rattle.sf_forms.specs.Quotes.{is_plain, quoted}
 use Rattle.sf_forms.specs.Tables.{tsv_escaped, tsv_text}
@@ -19,10 +19,10 @@ use Rattle.sf_forms.proofs.Short.{front_of_all, plain_all}
 -- ---- a text
 
 pub text_room : (form : OutputForm) (given : Option Datum) (text : List ℕ) (at room : ℕ) → Some (Bytes text) ≡ given
-    → at + length (option_map_or (value_text form) given (absent_text form)) + 21 ≤ room
+    → at + length (option_map_or (value_text form) given (missing_text form)) + 21 ≤ room
     → at + length (value_text form (Bytes text)) + 21 ≤ room
 text_room form given text at room is fits =
-    subst (λ (d : Option Datum). at + length (option_map_or (value_text form) d (absent_text form)) + 21 ≤ room) (sym is) fits
+    subst (λ (d : Option Datum). at + length (option_map_or (value_text form) d (missing_text form)) + 21 ≤ room) (sym is) fits
 
 -- what was written, by another name
 pub written_as : (r : Option ℕ) (buf new text same : List ℕ) (at : ℕ) → text ≡ same

@@ -1,5 +1,5 @@
 -- The text of a record in each form.
-use Rattle.std.specs.Prelude.{ℕ, Bool, false, nat_eq, if◌then◌else◌, List, [], ◌∷◌, ◌++◌, length, map, codes}
+use Rattle.std.specs.Prelude.{ℕ, Bool, false, nat_eq, if◌then◌else◌, List, [], ◌∷◌, ◌++◌, length, map, Option}
 use Rattle.std.specs.Option.{option_map_or}
 use Rattle.std.specs.List.{join_with_byte, range_with_len}
 use Rattle.std.specs.Fmt.{signed_decimal}
@@ -10,28 +10,29 @@ use Rattle.sf_forms.specs.declared.form.OutputForm.TheVariants.{Plain, Tsv, Json
 use Rattle.sf_forms.specs.Csv.{csv_text}
 use Rattle.sf_forms.specs.JsonStrings.{json_string}
 use Rattle.sf_forms.specs.Lines.{text_of}
+pub use Rattle.sf_forms.specs.Missing.{missing_text}
+use Rattle.sf_forms.specs.Reals.{real_text}
 use Rattle.sf_forms.specs.Tables.{tsv_text}
 
 -- ---- values
 
--- A field of a table: a number in decimal, or a text. No conversion stores a float yet: in each form one is written as what stands for a
--- slot that was given nothing.
+-- a field of a table: a number in decimal, a text, or a float
 abbrev pub tsv_field : Datum → List ℕ
 tsv_field (Number kind n) = signed_decimal n
 tsv_field (Bytes bytes) = tsv_text bytes
-tsv_field (Real r) = []
+tsv_field (Real r) = real_text Tsv r
 
--- a value of JSON (RFC 8259, 3): a number in decimal, or a string
+-- a value of JSON (RFC 8259, 3): a number in decimal, a string, or a float, which is one of both
 abbrev pub json_value : Datum → List ℕ
 json_value (Number kind n) = signed_decimal n
 json_value (Bytes bytes) = json_string bytes
-json_value (Real r) = codes "null"
+json_value (Real r) = real_text Json r
 
--- a field of a row of CSV: a number in decimal, or a text
+-- a field of a row of CSV: a number in decimal, a text, or a float
 abbrev pub csv_field : Datum → List ℕ
 csv_field (Number kind n) = signed_decimal n
 csv_field (Bytes bytes) = csv_text bytes
-csv_field (Real r) = []
+csv_field (Real r) = real_text Csv r
 
 abbrev pub value_text : OutputForm → Datum → List ℕ
 value_text Plain = text_of
@@ -39,12 +40,9 @@ value_text Tsv = tsv_field
 value_text Json = json_value
 value_text Csv = csv_field
 
--- what stands for a slot that was given nothing
-abbrev pub absent_text : OutputForm → List ℕ
-absent_text Plain = []
-absent_text Tsv = []
-absent_text Json = codes "null"
-absent_text Csv = []
+-- the text of a value, or what stands for it where it is missing
+abbrev pub given_text : OutputForm → Option Datum → List ℕ
+given_text form given = option_map_or (value_text form) given (missing_text form)
 
 -- ---- records
 
@@ -85,9 +83,13 @@ framed form values = opening form ++ (join_with_byte (separator form) values ++ 
 abbrev pub row_text : OutputForm → List Datum → List ℕ
 row_text form row = framed form (map (value_text form) row)
 
+-- the record of these values, of which some may be missing
+abbrev pub given_row_text : OutputForm → List (Option Datum) → List ℕ
+given_row_text form row = framed form (map (given_text form) row)
+
 -- the text of what a slot was given
 abbrev pub slot_text : OutputForm → RunReport → ℕ → List ℕ
-slot_text form report slot = option_map_or (value_text form) (datum_at slot report.values) (absent_text form)
+slot_text form report slot = given_text form (datum_at slot report.values)
 
 -- the record of the slots 1 to n
 abbrev pub record_text : OutputForm → ℕ → RunReport → List ℕ

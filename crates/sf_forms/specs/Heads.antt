@@ -7,7 +7,7 @@ use Rattle.sf_base.specs.Data.{Bytes, Datum}
 use Rattle.sf_report.specs.Runs.{RunReport}
 use Rattle.sf_forms.specs.declared.form.OutputForm.{OutputForm}
 use Rattle.sf_forms.specs.declared.form.OutputForm.TheVariants.{Tsv, Json, Csv}
-use Rattle.sf_forms.specs.Forms.{framed, json_value, row_text, slot_text}
+use Rattle.sf_forms.specs.Forms.{framed, given_text, json_value, row_text, slot_text}
 use Rattle.sf_forms.specs.JsonStrings.{json_string}
 
 -- ---- columns
@@ -44,6 +44,10 @@ object_text names values = 123 ∷ (join_with_byte 44 (members names values) ++ 
 -- the object of these values
 abbrev pub object_row : List (List ℕ) → List Datum → List ℕ
 object_row names row = object_text names (map json_value row)
+
+-- the object of these, of which some may be missing
+abbrev pub given_object : List (List ℕ) → List (Option Datum) → List ℕ
+given_object names row = object_text names (map (given_text Json) row)
 
 -- ---- records and the line over them
 

@@ -1,22 +1,41 @@
--- What a text of arrays or objects of JSON (RFC 8259), one a line, reads as: integers as numbers, strings as the bytes that they
--- stand for.
+-- What a text of arrays or objects of JSON (RFC 8259), one a line, reads as: integers as numbers, other numbers by their texts,
+-- strings as the bytes that they stand for, and null.
 use Rattle.std.specs.Prelude.{ℕ, ◌+◌, ◌-◌, ◌*◌, Bool, ◌&&◌, ◌||◌, nat_eq, nat_lt, nat_le, if◌then◌else◌, List, [], ◌∷◌, ◌++◌, ℤ, Option}
 use Rattle.std.specs.Prelude.{Some, None, true, false, map}
 use Rattle.std.specs.Option.{option_map}
 use Rattle.std.specs.Char.{digit_value}
 use Rattle.std.specs.Str.Parse.{signed_digits_value}
 use Rattle.sf_base.specs.Data.{Datum, Number, Bytes, Real}
+use Rattle.sf_shortest.specs.Laid.{shortest_text}
+use Rattle.sf_forms.specs.Reals.{is_finite}
 
 -- an element of an array
 pub data Element : Type 0 where
   Integer : ℤ → Element
+  -- a number with a fraction or an exponent, by its text
+  Decimal : List ℕ → Element
   String : List ℕ → Element
+  Null : Element
 
--- a value without its kind
+-- A value without its kind. A float is the number that its shortest text writes; one that isn't finite is the string of that text.
 abbrev pub element_of : Datum → Element
 element_of (Number kind n) = Integer n
 element_of (Bytes bytes) = String bytes
-element_of (Real r) = String []
+element_of (Real r) = if is_finite r then Decimal (shortest_text r) else String (shortest_text r)
+
+-- of what a slot was given; a value that is missing is null
+abbrev pub element_given : Option Datum → Element
+element_given None = Null
+element_given (Some d) = element_of d
+
+-- where a reader stands in a number with a fraction or an exponent: after the point, in the digits after it, after the letter of the
+-- exponent, after its sign, in its digits
+pub data Part : Type 0 where
+  Point : Part
+  Fraction : Part
+  Letter : Part
+  Sign : Part
+  Exponent : Part
 
 -- what stands on a line
 pub data Shape : Type 0 where
@@ -31,8 +50,12 @@ pub data Place : Type 0 where
   Awaiting : Place
   Behind : Place
   Closed : Place
-  -- within an integer, of which it has read these bytes
+  -- within a number, of which it has read these bytes: a minus or none, and digits
   InNumber : List ℕ → Place
+  -- within a number that is no integer, of which it has read these bytes
+  InDecimal : Part → List ℕ → Place
+  -- within `null`, of which this byte is to come, and then these
+  InNull : ℕ → List ℕ → Place
   -- within a string, of which it has read characters for these bytes; then after its backslash; then within a code, of
   -- whose four digits so many more than one are to come, and the others have this value
   InString : List ℕ → Place
@@ -61,12 +84,13 @@ is_blank b = nat_eq b 32 || (nat_eq b 9 || nat_eq b 13)
 abbrev pub is_digit : ℕ → Bool
 is_digit b = nat_le 48 b && nat_le b 57
 
--- an element begins: with a digit, a minus or a quote
+-- an element begins: with a digit, a minus, a quote or the n of null
 abbrev pub begins : Reader → ℕ → Reader
 begins s b =
     if is_digit b then at (InNumber (b ∷ [])) s
     else if nat_eq b 45 then at (InNumber (b ∷ [])) s
     else if nat_eq b 34 then at (InString []) s
+    else if nat_eq b 110 then at (InNull 117 (108 ∷ 108 ∷ [])) s
     else if is_blank b then s
     else at Wrong s
 
@@ -134,14 +158,49 @@ with_code bytes s code =
     else if nat_le 56448 code && nat_le code 56575 then at (InString (bytes ++ (code - 56320) ∷ [])) s
     else at Wrong s
 
+-- the letter and the sign of an exponent
+abbrev pub is_letter : ℕ → Bool
+is_letter b = nat_eq b 101 || nat_eq b 69
+
+abbrev pub is_sign : ℕ → Bool
+is_sign b = nat_eq b 43 || nat_eq b 45
+
+-- within the digits of a number, of which it has read these bytes
+abbrev pub number_step : Shape → List ℕ → Reader → ℕ → Reader
+number_step shape text s b =
+    if is_digit b then at (InNumber (text ++ b ∷ [])) s
+    else if nat_eq b 46 then at (InDecimal Point (text ++ b ∷ [])) s
+    else if is_letter b then at (InDecimal Letter (text ++ b ∷ [])) s
+    else goes_on shape (with_element (Integer (signed_digits_value 10 text)) s) b
+
+-- after its point (RFC 8259, 6): a digit stands after a point and in an exponent
+abbrev pub decimal_step : Shape → Part → List ℕ → Reader → ℕ → Reader
+decimal_step shape Point text s b = if is_digit b then at (InDecimal Fraction (text ++ b ∷ [])) s else at Wrong s
+decimal_step shape Fraction text s b =
+    if is_digit b then at (InDecimal Fraction (text ++ b ∷ [])) s
+    else if is_letter b then at (InDecimal Letter (text ++ b ∷ [])) s
+    else goes_on shape (with_element (Decimal text) s) b
+decimal_step shape Letter text s b =
+    if is_digit b then at (InDecimal Exponent (text ++ b ∷ [])) s
+    else if is_sign b then at (InDecimal Sign (text ++ b ∷ [])) s
+    else at Wrong s
+decimal_step shape Sign text s b = if is_digit b then at (InDecimal Exponent (text ++ b ∷ [])) s else at Wrong s
+decimal_step shape Exponent text s b =
+    if is_digit b then at (InDecimal Exponent (text ++ b ∷ [])) s else goes_on shape (with_element (Decimal text) s) b
+
+-- the next byte of null
+abbrev pub null_step : List ℕ → Reader → Reader
+null_step [] s = with_element Null s
+null_step (next ∷ rest) s = at (InNull next rest) s
+
 -- the reader after one more byte
 abbrev pub step_at : Shape → Place → Reader → ℕ → Reader
 step_at shape Outside s b = if nat_eq b (opens shape) then at Opened s else if is_blank b then s else at Wrong s
 step_at shape Opened s b = if nat_eq b (closes shape) then at Closed s else awaits shape s b
 step_at shape Awaiting s b = awaits shape s b
-step_at shape (InNumber digits) s b =
-    if is_digit b then at (InNumber (digits ++ b ∷ [])) s
-    else goes_on shape (with_element (Integer (signed_digits_value 10 digits)) s) b
+step_at shape (InNumber text) s b = number_step shape text s b
+step_at shape (InDecimal part text) s b = decimal_step shape part text s b
+step_at shape (InNull next rest) s b = if nat_eq b next then null_step rest s else at Wrong s
 step_at shape (InString bytes) s b =
     if nat_eq b 34 then with_element (String bytes) s
     else if nat_eq b 92 then at (InEscape bytes) s

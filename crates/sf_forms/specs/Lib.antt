@@ -8,7 +8,9 @@ pub mod JsonReading
 pub mod JsonStrings
 pub mod Lines
 pub mod Lone
+pub mod Missing
 pub mod Quotes
 pub mod ReadingBack
+pub mod Reals
 pub mod Tables
 pub mod Written

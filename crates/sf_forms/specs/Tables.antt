@@ -1,10 +1,14 @@
 -- Fields of tables, and what a table's text reads as.
-use Rattle.std.specs.Prelude.{ℕ, Bool, true, false, nat_eq, if◌then◌else◌, List, [], ◌∷◌, map}
+use Rattle.std.specs.Prelude.{ℕ, Bool, true, false, nat_eq, if◌then◌else◌, List, [], ◌∷◌, map, to_bits}
 use Rattle.std.specs.List.{flat_map}
+use Rattle.std.specs.Float.Ieee.{Format, binary32, binary64}
+use Rattle.std.specs.Float.Parse.{parse_float}
+use Rattle.std.specs.Option.{option_map_or}
 use Rattle.std.specs.Str.Parse.{signed_digits_value}
 use Rattle.sf_base.specs.declared.values.Kind.{Kind}
-use Rattle.sf_base.specs.declared.values.Kind.TheVariants.{Text}
-use Rattle.sf_base.specs.Data.{Datum, Number, Bytes}
+use Rattle.sf_base.specs.declared.values.Kind.TheVariants.{Text, F32, F64}
+use Rattle.sf_base.specs.declared.real.Real.TheVariants as reals
+use Rattle.sf_base.specs.Data.{Datum, Number, Bytes, Real}
 
 -- ---- what is written
 
@@ -63,9 +67,15 @@ table_from false (b ∷ text) =
 abbrev pub table_of : List ℕ → Table
 table_of text = table_from false text
 
--- what a field of a column of this kind stands for: the bytes of a text, or the number of its sign and digits
+-- the pattern of the float that a text writes, or of 0 where it writes none (C11 F.2)
+abbrev pub pattern_in : Format → List ℕ → ℕ
+pattern_in f field = option_map_or (to_bits f) (parse_float f field) 0
+
+-- what a field of a column of this kind stands for: the bytes of a text, the float that it writes, or the number of its sign and digits
 abbrev pub datum_of_field : Kind → List ℕ → Datum
 datum_of_field Text field = Bytes field
+datum_of_field F32 field = Real (reals.F32 (pattern_in binary32 field))
+datum_of_field F64 field = Real (reals.F64 (pattern_in binary64 field))
 datum_of_field kind field = Number kind (signed_digits_value 10 field)
 
 -- the values of a record that has columns of these kinds

@@ -1,7 +1,8 @@
 //! Laws of forms. None of these functions does anything: its contract is the law.
 ghost use Rattle.sf_forms.specs.ReadingBack.{CsvNamesReadBack, CsvReadsBack, HeadedRecordsAreRows, JsonIsUtf8};
 ghost use Rattle.sf_forms.specs.ReadingBack.{JsonObjectsReadBack, JsonReadsBack, RecordsAreRows, TsvNamesReadBack};
-ghost use Rattle.sf_forms.specs.ReadingBack.{TsvReadsBack};
+ghost use Rattle.sf_forms.specs.ReadingBack.{CsvGivesTexts, GivenJsonIsUtf8, HeadedRecordsAreGiven, JsonGivesValues};
+ghost use Rattle.sf_forms.specs.ReadingBack.{JsonObjectsGiveValues, RecordsAreGiven, TsvGivesTexts, TsvReadsBack};
 
 /// What is written for a report that has a row of values is the record of these values.
 pub fn records_are_rows()
@@ -12,7 +13,9 @@ pub fn records_are_rows()
 /// its bytes.
 pub fn tsv_reads_back()
     ensures { TsvReadsBack }
-{}
+{
+    sf_shortest::laws::reads_back();
+}
 
 /// Arrays of JSON read as the values that they were written for: each number is an integer, and each string the bytes
 /// that it stands for.
@@ -47,4 +50,22 @@ pub fn json_objects_read_back()
 pub fn names_read_back()
     ensures tables { TsvNamesReadBack }
     ensures rows { CsvNamesReadBack }
+{}
+
+/// What is written for any report is the record of what its slots were given: of their values, and of what stands for
+/// each that is missing.
+pub fn records_are_given()
+    ensures records { RecordsAreGiven }
+    ensures headed { HeadedRecordsAreGiven }
+{}
+
+/// Records of which some values are missing read back. Tables and rows of comma-separated values give the texts of the
+/// values, and for a missing one an empty text, as for a text that is empty. Arrays and objects of JSON give the
+/// values, and null for a missing one, and they are UTF-8.
+pub fn missing_values_read_back()
+    ensures tables { TsvGivesTexts }
+    ensures rows { CsvGivesTexts }
+    ensures arrays { JsonGivesValues }
+    ensures objects { JsonObjectsGiveValues }
+    ensures utf8 { GivenJsonIsUtf8 }
 {}

@@ -12,6 +12,7 @@ pub mod laws;
 mod line;
 mod output;
 mod quote;
+mod real;
 mod short_line;
 mod tables;
 

@@ -9,6 +9,7 @@ use crate::csv::push_csv_text;
 use crate::form::OutputForm;
 use crate::json::push_json_string;
 use crate::quote::push_quoted;
+use crate::real::push_real;
 use crate::tables::push_tsv_text;
 use sf_base::{Shown, Store};
 use sf_print::push_number;
@@ -45,7 +46,8 @@ pub(crate) fn push_slot<S: Store>(
     match report.shown(slot) {
         Some(Shown::Number(number)) => push_number(output, number.negative, number.magnitude),
         Some(Shown::Text(text)) => push_text(output, form, text),
-        Some(Shown::Real(_)) | None => output.extend_from_slice(form.absent()),
+        Some(Shown::Real(real)) => push_real(output, form, real),
+        None => output.extend_from_slice(form.missing()),
     }
 }
 

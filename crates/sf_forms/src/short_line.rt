@@ -3,13 +3,14 @@ ghost use Rattle.std.specs.Prelude.{◌≡◌, ◌++◌, ◌+◌, ◌<◌, ◌�
 ghost use Rattle.std.specs.List.{join_with_byte, range_with_len};
 ghost use Rattle.sf_base.specs.Data.{Bytes};
 ghost use Rattle.sf_forms.specs.Lone.{is_lone_in};
-ghost use Rattle.sf_forms.specs.Forms.{absent_text, closing, opening, record_text, separator, slot_text, value_text};
+ghost use Rattle.sf_forms.specs.Forms.{closing, missing_text, opening, record_text, separator, slot_text, value_text};
 
 use crate::csv::write_csv_text;
 use crate::escape::{write_all, write_byte};
 use crate::form::OutputForm;
 use crate::json::write_json_string;
 use crate::quote::{are_plain, write_plain, write_quoted};
+use crate::real::write_real;
 use crate::tables::write_tsv_text;
 use sf_base::{Shown, Store};
 use sf_print::write_number;
@@ -57,13 +58,14 @@ fn write_text(form: OutputForm, text: &[u8], buf: &mut [u8], at: usize) -> Optio
 
 /// Writes what stands for a slot that was given nothing, and answers where it ends.
 #[inline(never)]
-fn write_absent(form: OutputForm, buf: &mut [u8], at: usize) -> usize
+fn write_missing(form: OutputForm, buf: &mut [u8], at: usize) -> usize
     requires { at + 4 ≤ length buf.old }
     ensures within { result ≤ length buf.new }
-    ensures written { take result buf.new ≡ take at buf.old ++ absent_text form }
+    ensures written { take result buf.new ≡ take at buf.old ++ missing_text form }
 {
     match form {
-        OutputForm::Plain | OutputForm::Tsv | OutputForm::Csv => at,
+        OutputForm::Plain => write_byte(b'-', buf, at),
+        OutputForm::Tsv | OutputForm::Csv => at,
         OutputForm::Json => write_all(b"null", buf, at),
     }
 }
@@ -87,7 +89,8 @@ fn write_slot<S: Store>(
             Some(write_number(number.negative, number.magnitude, buf, at))
         }
         Some(Shown::Text(text)) => write_text(form, text, buf, at),
-        Some(Shown::Real(_)) | None => Some(write_absent(form, buf, at)),
+        Some(Shown::Real(real)) => write_real(form, real, buf, at),
+        None => Some(write_missing(form, buf, at)),
     }
 }
 

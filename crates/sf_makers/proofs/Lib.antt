@@ -1,4 +1,5 @@
 pub mod Faults
+pub mod Full
 pub mod Naming
 pub mod RowSlots
 pub mod Widening

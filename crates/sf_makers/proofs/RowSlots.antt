@@ -35,3 +35,31 @@ pub with_none : {V : Type 0} (datum : V → Datum) (at : ℕ → Option Datum) (
 with_none datum at n items so_far given =
     let this : filter_map at ((1 + n) ∷ []) ≡ [] = rw (← (given ∙ ap at {x = n + 1} {y = 1 + n} (omega arith))) refl in
     so_far ∙ sym (append-nil (row_by at n)) ∙ ap (λ (t : List Datum). row_by at n ++ t) (sym this) ∙ sym (row_more at n)
+
+-- ---- what each slot has
+
+abbrev givens : (ℕ → Option Datum) → ℕ → List (Option Datum)
+givens at n = map at (slots_from 1 n)
+
+givens_more : (at : ℕ → Option Datum) (n : ℕ) → givens at (n + 1) ≡ givens at n ++ at (n + 1) ∷ []
+givens_more at n =
+    ap (givens at) {x = n + 1} {y = suc n} (omega arith) ∙ ap (map at) (slots_more 1 n) ∙ map-append at (slots_from 1 n) ((1 + n) ∷ [])
+    ∙ ap (λ (k : ℕ). givens at n ++ at k ∷ []) {x = 1 + n} {y = n + 1} (omega arith)
+
+-- one more value
+pub with_some : {V : Type 0} (datum : V → Datum) (at : ℕ → Option Datum) (n : ℕ) (items new : List V) (value : V)
+    → map Some (map datum items) ≡ map at (slots_from 1 n) → Some (datum value) ≡ at (n + 1) → new ≡ items ++ value ∷ []
+    → map Some (map datum new) ≡ map at (slots_from 1 (n + 1))
+with_some datum at n items new value so_far given more =
+    ap (λ t. map Some (map datum t)) more ∙ ap (map Some) (map-append datum items (value ∷ []))
+    ∙ map-append Some (map datum items) (datum value ∷ [])
+    ∙ ap (λ (t : List (Option Datum)). t ++ Some (datum value) ∷ []) so_far
+    ∙ ap (λ (d : Option Datum). givens at n ++ d ∷ []) given ∙ sym (givens_more at n)
+
+-- one more, which may be missing
+pub with_next : {V : Type 0} (found : V → Option Datum) (at : ℕ → Option Datum) (n : ℕ) (items new : List V) (value : V)
+    → map found items ≡ map at (slots_from 1 n) → found value ≡ at (n + 1) → new ≡ items ++ value ∷ []
+    → map found new ≡ map at (slots_from 1 (n + 1))
+with_next found at n items new value so_far given more =
+    ap (map found) more ∙ map-append found items (value ∷ []) ∙ ap (λ (t : List (Option Datum)). t ++ found value ∷ []) so_far
+    ∙ ap (λ (d : Option Datum). givens at n ++ d ∷ []) given ∙ sym (givens_more at n)

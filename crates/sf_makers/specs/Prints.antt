@@ -1,6 +1,5 @@
 -- Prints of reports by a print format, without a pair.
-use Rattle.std.specs.Prelude.{◌≡◌, ◌≤◌, ◌<◌, ◌&&◌, ◌||◌, not, ℕ, nat_le, Bool, true, false, if◌then◌else◌, List, length, Option, Some, is_ok}
-use Rattle.std.specs.List.{filter_map}
+use Rattle.std.specs.Prelude.{◌≡◌, ◌≤◌, ◌<◌, ◌&&◌, ◌||◌, not, ℕ, nat_le, Bool, true, false, if◌then◌else◌, List, length, map, Option, Some, is_ok}
 use Rattle.std.specs.Option.{option_map}
 use Rattle.std.specs.Prelude.{from_bits, to_bits}
 use Rattle.std.specs.Float.Ieee.{binary32, binary64}
@@ -14,7 +13,7 @@ use Rattle.sf_format.specs.declared.unit.Unit.{Unit as PrintUnit}
 use Rattle.sf_format.specs.Proper.{destinations_of, kind_at}
 use Rattle.sf_format.specs.Slots.{kind_with, slots_from}
 use Rattle.sf_format.specs.Units.{is_signed, is_text, values_of}
-use Rattle.sf_print.specs.Printed.{measured, printed}
+use Rattle.sf_print.specs.Given.{given_measured, given_printed}
 use Rattle.sf_report.specs.Runs.{RunReport}
 use Rattle.sf_makers.specs.declared.printable.PrintMismatch.{PrintMismatch}
 use Rattle.sf_makers.specs.declared.printable.PrintMismatch.TheVariants as mismatch
@@ -94,17 +93,18 @@ in_kind _ value = value
 abbrev pub printed_at : List PrintUnit → List Assigned → ℕ → Option Datum
 printed_at units values slot = option_map (in_kind (kind_with slot (values_of units))) (datum_at slot values)
 
--- the values of the slots from 1 to n, so
-abbrev pub printed_row : List PrintUnit → ℕ → List Assigned → List Datum
-printed_row units n values = filter_map (printed_at units values) (slots_from 1 n)
+-- what the slots from 1 to n have, so: values, some of which may be missing
+abbrev pub printed_row : List PrintUnit → ℕ → List Assigned → List (Option Datum)
+printed_row units n values = map (printed_at units values) (slots_from 1 n)
 
-abbrev pub printed_in : List PrintUnit → List Directive → RunReport → List Datum
+abbrev pub printed_in : List PrintUnit → List Directive → RunReport → List (Option Datum)
 printed_in units ds r = printed_row units (length (destinations_of ds)) r.values
 
 -- The text of the values by the print format is written, where the format can print them: there are as many as it prints, of its
--- kinds, a text that `c` prints has one byte, and the printed text has no more bytes than one may have.
+-- kinds, a text that `c` prints has one byte, and the printed text has no more bytes than one may have. A missing value is blanks, as
+-- many as the width.
 abbrev pub printing : List PrintUnit → List Directive → Work
 printing units ds = record {
-  fits = λ r. is_ok (measured units (printed_in units ds r));
-  text = λ r. printed units (printed_in units ds r);
+  fits = λ r. is_ok (given_measured units (printed_in units ds r));
+  text = λ r. given_printed units (printed_in units ds r);
 }

@@ -1,5 +1,5 @@
 -- Texts that are written in place.
-use Rattle.std.proofs.Common.{◌≡◌, ℕ, ◌+◌, ◌-◌, ◌<◌, ◌≤◌, List, ◌++◌, length, take, drop, subst, sym, ap, ◌∙◌, arith, append_assoc, length-append, Option, IfSome}
+use Rattle.std.proofs.Common.{◌≡◌, ℕ, ◌+◌, ◌<◌, ◌≤◌, List, ◌++◌, length, take, subst, sym, ap, ◌∙◌, arith, append_assoc, length-append, Option, IfSome}
 use Rattle.std.proofs.lemmas.List.{length-take-le}
 use Rattle.std.proofs.Math.Seq.{take-append_seam}
 use Rattle.std.specs.Prelude.{get_or}

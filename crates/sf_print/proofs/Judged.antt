@@ -8,6 +8,7 @@ use Rattle.sf_format.specs.declared.unit.Unit.{Unit as PrintUnit}
 use Rattle.sf_format.specs.declared.unit.Unit.TheVariants as unit
 use Rattle.sf_format.specs.Units.{values_of}
 use Rattle.sf_print.specs.declared.fault.PrintFault.{PrintFault}
+use Rattle.sf_print.specs.Given.{fault_of_given, given_at, given_fault, given_measured, given_printed, lowest_given_fault}
 use Rattle.sf_print.specs.declared.fault.PrintFault.TheVariants as fault
 use Rattle.sf_print.specs.Printed.{value_at, printed, value_fault, fault_or_none, unit_fault, lower, slot_of, lowest_fault, most_bytes, length_or_fault, measured, is_sink_fault, same_kind, is_printed_as, kind_of, suits}
 
@@ -73,3 +74,29 @@ measured_kept units values = by (not (length values == length (values_of units))
         (length_or_fault (lowest_fault units values) (length (printed units values)))) ≡ false
     by true = refl
     by false = length_kept (lowest_fault units values) (length (printed units values)) (fold_kept values units None refl)
+
+-- ---- values of which some may be missing
+
+given_kept : (given : List (Option Datum)) (u : PrintUnit) → is_of_sink (given_fault given u) ≡ false
+unfolding is_of_sink
+given_kept given (unit.Byte b) = refl
+given_kept given (unit.Conv c) = by (given_at given c.slot)
+  where
+    by : (found : Option (Option Datum)) → is_of_sink (fault_of_given c found) ≡ false
+    by None = refl
+    by (Some one) = some_kept c one
+
+all_given_kept : (given : List (Option Datum)) (units : List PrintUnit) (f : Option PrintFault) → is_of_sink f ≡ false
+    → is_of_sink (fold (λ g u. lower g (given_fault given u)) f units) ≡ false
+all_given_kept given [] f h = h
+all_given_kept given (u ∷ us) f h = all_given_kept given us (lower f (given_fault given u))
+    (lower_kept f (given_fault given u) h (given_kept given u))
+
+pub given_measured_kept : (units : List PrintUnit) (given : List (Option Datum)) → is_sink_fault (given_measured units given) ≡ false
+unfolding is_of_sink
+given_measured_kept units given = by (not (length given == length (values_of units)))
+  where
+    by : (t : Bool) → is_sink_fault (cond t (Err fault.WrongCount)
+        (length_or_fault (lowest_given_fault units given) (length (given_printed units given)))) ≡ false
+    by true = refl
+    by false = length_kept (lowest_given_fault units given) (length (given_printed units given)) (all_given_kept given units None refl)

@@ -1,5 +1,5 @@
 -- Texts of floats, and of values that are none.
-use Rattle.std.proofs.Common.{◌≡◌, ℕ, List, [], ◌++◌, true, Option, Some, None, refl, ap, sym, ◌∙◌, append_assoc, append-nil}
+use Rattle.std.proofs.Common.{◌≡◌, ℕ, List, [], ◌++◌, true, Some, None, refl, ap, sym, ◌∙◌, append_assoc, append-nil}
 use Rattle.sf_base.specs.Data.{Datum, datum_of, is_number}
 use Rattle.sf_base.specs.Data.Datum.{Number, Bytes, Real}
 use Rattle.sf_base.specs.declared.real.Real as real

@@ -13,3 +13,4 @@ pub mod Runs
 pub mod Short
 pub mod Visible
 pub mod Decimals
+pub mod Given

@@ -5,6 +5,7 @@ ghost use Rattle.sf_base.specs.Data.{datum_of, datum_of_shown};
 ghost use Rattle.sf_print.specs.Floats.{real_of, real_text};
 ghost use Rattle.sf_print.specs.Runs.{piece_bytes};
 ghost use Rattle.sf_print.specs.Text.{value_text};
+ghost use Rattle.sf_print.specs.Visible.{without_blanks};
 
 use crate::copies::copy_over;
 use crate::decimal::write_number;
@@ -13,6 +14,7 @@ use crate::integer::DIGIT_BYTES;
 use crate::piece::Piece;
 use crate::plain::is_plain_conv;
 use crate::text::value_pieces;
+use crate::visible::visible_bytes;
 use sf_base::{Real, Shown, Value};
 use sf_format::PrintConv;
 
@@ -71,6 +73,47 @@ fn write_real(conv: &PrintConv, real: Real, buf: &mut [u8], at: usize) -> Option
     let mut digits = [0; FLOAT_BYTES];
     let pieces = float_pieces(conv, real, &mut digits);
     write_pieces(&pieces, buf, at)
+}
+
+/// The piece without the blanks that stand first.
+fn visible_of<'a>(piece: &Piece<'a>) -> Piece<'a>
+    ensures { piece_bytes result ≡ without_blanks (piece_bytes piece.now) }
+{
+    match *piece {
+        Piece::Run(b' ', _) => Piece::Bytes(&[]),
+        Piece::Run(byte, count) => Piece::Run(byte, count),
+        Piece::Bytes(bytes) => Piece::Bytes(visible_bytes(bytes)),
+    }
+}
+
+/// Writes the pieces one after the other, without the blanks that stand first, and answers where they end. None where
+/// there is no room.
+fn write_visible_pieces(pieces: &[Piece<'_>], buf: &mut [u8]) -> Option<usize>
+    ensures within { IfSome result (λ end. end ≤ length buf.new) }
+    ensures written { IfSome result (λ end. take end buf.new ≡ without_blanks (flat_map piece_bytes pieces.now)) }
+    ensures answers { length (without_blanks (flat_map piece_bytes pieces.now)) ≤ length buf.old → IsSome result }
+{
+    let mut end = 0;
+    for piece in pieces {
+        end = if end == 0 {
+            write_piece(&visible_of(piece), buf, 0)?
+        } else {
+            write_piece(piece, buf, end)?
+        };
+    }
+    Some(end)
+}
+
+/// Writes the text that the conversion prints of a float, without the blanks before it, and answers its length. None
+/// where it is longer than the buffer.
+pub fn write_visible(conv: &PrintConv, real: Real, buf: &mut [u8]) -> Option<usize>
+    ensures within { IfSome result (λ end. end ≤ length buf.new) }
+    ensures written { IfSome result (λ end. take end buf.new ≡ without_blanks (real_text conv.now real)) }
+    ensures answers { length (without_blanks (real_text conv.now real)) ≤ length buf.old → IsSome result }
+{
+    let mut digits = [0; FLOAT_BYTES];
+    let pieces = float_pieces(conv, real, &mut digits);
+    write_visible_pieces(&pieces, buf)
 }
 
 /// Writes the text of a value other than a float, by its pieces. It is a call of its own, so that plain values pay for

@@ -38,7 +38,7 @@ fn suits_letter(letter: PrintLetter, value: &Value<'_>) -> bool
 
 /// What is wrong with a value.
 #[inline(always)]
-fn fault_of(conv: &PrintConv, value: &Value<'_>) -> Option<PrintFault>
+pub(crate) fn fault_of(conv: &PrintConv, value: &Value<'_>) -> Option<PrintFault>
     ensures { result ≡ value_fault conv.now (datum_of value.now) }
 {
     if !is_printed_as(value.kind(), conv.kind) {
@@ -86,7 +86,7 @@ fn slot_at_fault(fault: &PrintFault) -> u8
 }
 
 /// Of two faults the one of the lower slot.
-fn lower_of(first: Option<PrintFault>, second: Option<PrintFault>) -> Option<PrintFault>
+pub(crate) fn lower_of(first: Option<PrintFault>, second: Option<PrintFault>) -> Option<PrintFault>
     ensures { result ≡ lower first second }
 {
     match (first, second) {

@@ -24,7 +24,7 @@ use sf_base::{Real, Value};
 use sf_format::{PrintConv, PrintFormat, Unit};
 
 /// The greatest length of a printed text.
-const MOST_BYTES: u32 = 2147483647;
+pub(crate) const MOST_BYTES: u32 = 2147483647;
 
 /// The greatest length of a text that needs no measuring: 4096 units of which each prints one, padded to the
 /// greatest width, are within `MOST_BYTES`.
@@ -76,7 +76,7 @@ fn put_padded<K: Sink>(
 
 /// Puts the text of a value.
 #[inline]
-fn put_value<K: Sink>(
+pub(crate) fn put_value<K: Sink>(
     to: &mut K,
     stage: &mut Stage,
     conv: &PrintConv,
@@ -111,7 +111,7 @@ fn float_len(conv: &PrintConv, real: Real, most: u64) -> u64
 
 /// The length of a value's text, or the most where it is longer.
 #[inline]
-fn value_len(conv: &PrintConv, value: &Value<'_>, most: u64) -> u64
+pub(crate) fn value_len(conv: &PrintConv, value: &Value<'_>, most: u64) -> u64
     requires { most < 2 ^ 32 }
     ensures { result ≡ min most (length (value_text conv.now (datum_of value.now))) }
 {

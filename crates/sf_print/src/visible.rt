@@ -29,6 +29,19 @@ pub fn visible_len(text: &[u8]) -> usize
     len
 }
 
+/// The text without the blanks before it.
+#[inline(always)]
+pub fn visible_bytes(text: &[u8]) -> &[u8]
+    ensures { result.now ≡ without_blanks text.entry.now }
+{
+    for i in 0..text.len() {
+        if text[i] != b' ' {
+            return &text[i..];
+        }
+    }
+    &text[text.len()..]
+}
+
 /// The length of the piece after the blanks that stand first.
 fn visible_piece(piece: &Piece<'_>) -> u64
     ensures { result ≡ length (without_blanks (piece_bytes piece.now)) }

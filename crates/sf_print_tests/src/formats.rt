@@ -18,6 +18,7 @@ fn are_five(directives: &[Directive]) -> bool {
                 kind: Kind::I32,
                 width: None,
                 slot: Some(1),
+                optional: false,
             }),
             Directive::Byte(b','),
             Directive::Space,
@@ -27,6 +28,7 @@ fn are_five(directives: &[Directive]) -> bool {
                 kind: Kind::I32,
                 width: None,
                 slot: Some(2),
+                optional: false,
             }),
         ]
     )

@@ -43,6 +43,7 @@ fn push<S: Store>(store: &mut S, bytes: Bytes) -> Result<usize, Fail>
     ensures { IsSome (S.kept store.new).opened }
 {
     let room = store.room();
+    let before = store.opened().len();
     let taken = match bytes {
         Bytes::One(b) => usize::from(store.push(b).is_ok()),
         Bytes::Each(text) => push_each(store, text),
@@ -54,6 +55,8 @@ fn push<S: Store>(store: &mut S, bytes: Bytes) -> Result<usize, Fail>
     if taken == 0 {
         is(&store.room(), &room, &bytes)?;
     }
+    let after = before.saturating_add(taken);
+    is(&store.opened().len(), &after, &bytes)?;
     Ok(taken)
 }
 
@@ -428,11 +431,11 @@ fn long_texts_grow(rt: HostRuntime) -> Result<(), Fail> {
     has_long_texts(&store)
 }
 
-/// A store that has the eight calls of a store, and no more.
+/// A store that has the nine calls of a store, and no more.
 #[derive(Drop)]
-struct EightCalls(FixedStore<9, 5>);
+struct NineCalls(FixedStore<9, 5>);
 
-impl Store for EightCalls {
+impl Store for NineCalls {
     ghost slots = { 5 };
 
     ghost kept = { λ s. s.0 };
@@ -461,6 +464,10 @@ impl Store for EightCalls {
         self.0.drop_text();
     }
 
+    fn opened(&self) -> &[u8] {
+        self.0.opened()
+    }
+
     fn room(&self) -> usize {
         self.0.room()
     }
@@ -471,9 +478,9 @@ impl Store for EightCalls {
 }
 
 #[test]
-fn eight_calls_make_a_store() -> Result<(), Fail> {
+fn nine_calls_make_a_store() -> Result<(), Fail> {
     for row in &OF_NINE_BYTES {
-        fills(&mut EightCalls(FixedStore::new()), 9, 5, row)?;
+        fills(&mut NineCalls(FixedStore::new()), 9, 5, row)?;
     }
     Ok(())
 }

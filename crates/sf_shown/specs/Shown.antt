@@ -1,5 +1,5 @@
 -- The lines that show a scan format.
-use Rattle.std.specs.Prelude.{ℕ, ◌+◌, List, [], ◌∷◌, ◌++◌, length, Option, Some, None, codes}
+use Rattle.std.specs.Prelude.{ℕ, ◌+◌, Bool, true, false, List, [], ◌∷◌, ◌++◌, length, Option, Some, None, codes}
 use Rattle.std.specs.Fmt.{decimal}
 use Rattle.sf_base.specs.declared.values.Kind.{Kind}
 use Rattle.sf_base.specs.declared.values.Kind.TheVariants as kind
@@ -34,6 +34,7 @@ letter_text (shape.Int AutoBin) kind = codes "i"
 letter_text shape.Text kind = codes "s"
 letter_text (shape.Set members) kind = codes "["
 letter_text shape.Chars kind = codes "c"
+letter_text shape.Float kind = codes "f"
 letter_text shape.Count kind = codes "n"
 
 -- a number, or - where there is none
@@ -46,6 +47,11 @@ abbrev pub members_text : Shape → List ℕ
 members_text (shape.Set members) = codes " members " ++ decimal (count_below (has_byte members) 256)
 members_text _ = []
 
+-- after all, whether the conversion may be missing
+abbrev pub missing_mark : Bool → List ℕ
+missing_mark true = codes " optional"
+missing_mark false = []
+
 -- the letter, and the kind
 abbrev pub head_text : Conversion → List ℕ
 head_text c = letter_text c.shape c.kind ++ (codes " " ++ kind_text c.kind)
@@ -54,7 +60,8 @@ abbrev pub field_text : List ℕ → Option ℕ → List ℕ
 field_text label number = label ++ optional_text number
 
 abbrev pub conversion_text : Conversion → List ℕ
-conversion_text c = head_text c ++ (field_text (codes " width ") c.width ++ (field_text (codes " slot ") c.slot ++ members_text c.shape))
+conversion_text c = head_text c ++ (field_text (codes " width ") c.width
+    ++ (field_text (codes " slot ") c.slot ++ (members_text c.shape ++ missing_mark c.optional)))
 
 abbrev pub directive_text : Directive → List ℕ
 directive_text Space = codes "space"

@@ -1,7 +1,7 @@
 //! How directives are shown, and the lines that show a scan format.
 ghost use Rattle.std.specs.Prelude.{◌≡◌, ◌++◌, ◌≤◌, OnErr, OnOk, IfOk, length};
 ghost use Rattle.std.specs.Fmt.{decimal};
-ghost use Rattle.sf_shown.specs.Shown.{letter_text, optional_text, members_text, head_text, field_text};
+ghost use Rattle.sf_shown.specs.Shown.{letter_text, optional_text, members_text, missing_mark, head_text, field_text};
 ghost use Rattle.sf_shown.specs.Shown.{conversion_text, directive_text, line_text, directive_lines, summary_text};
 ghost use Rattle.sf_shown.specs.Shown.{show_text};
 
@@ -29,6 +29,7 @@ fn letter_text(shape: &Shape, kind: Kind) -> &'static str
         Shape::Text => "s",
         Shape::Set(_) => "[",
         Shape::Chars => "c",
+        Shape::Float => "f",
         Shape::Count => "n",
     }
 }
@@ -65,6 +66,16 @@ fn push_members(output: &mut Vec<u8>, shape: &Shape) -> Result<(), AllocError>
     Ok(())
 }
 
+/// Appends the mark of a conversion that may be missing.
+fn push_mark(output: &mut Vec<u8>, optional: bool) -> Result<(), AllocError>
+    ensures { OnOk result (output.new.items ≡ output.old.items ++ missing_mark optional) }
+{
+    if optional {
+        push_text(output, " optional")?;
+    }
+    Ok(())
+}
+
 fn push_head(output: &mut Vec<u8>, conversion: &Conversion) -> Result<(), AllocError>
     ensures { OnOk result (output.new.items ≡ output.old.items ++ head_text conversion.now) }
 {
@@ -87,7 +98,8 @@ fn push_conversion(output: &mut Vec<u8>, conversion: &Conversion) -> Result<(), 
     push_head(output, conversion)?;
     push_field(output, " width ", conversion.width.map(u32::from))?;
     push_field(output, " slot ", conversion.slot.map(u32::from))?;
-    push_members(output, &conversion.shape)
+    push_members(output, &conversion.shape)?;
+    push_mark(output, conversion.optional)
 }
 
 /// Appends how a directive is shown; where memory is refused, a part of that.

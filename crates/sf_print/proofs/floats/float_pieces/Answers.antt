@@ -1,4 +1,4 @@
-use Rattle.std.proofs.Common.{ℕ, ◌∙◌, List, take, replicate}
+use Rattle.std.proofs.Common.{◌∙◌, take, replicate}
 use Rattle.sf_float.specs.Computed.{float_text}
 use Rattle.sf_print.proofs.Reals.{six_joined}
 use Rattle.sf_print.proofs.floats.float_pieces.Goals as goal

@@ -1,4 +1,4 @@
-use Rattle.std.proofs.Common.{◌+◌, ◌<◌, ◌^◌, length, ap, sym, arith}
+use Rattle.std.proofs.Common.{length, ap, sym, arith}
 use Rattle.sf_base.specs.Data.{datum_of}
 use Rattle.sf_print.specs.Text.{value_text}
 use Rattle.sf_print.proofs.Reals.{real_value}
