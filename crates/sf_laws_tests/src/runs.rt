@@ -1,12 +1,13 @@
 //! Laws of runs.
-ghost use Rattle.std.specs.Prelude.{◌≡◌, ◌≤◌, ◌++◌, ◌∷◌, ℕ, List, [], length, None, IfSome, IsSome};
+ghost use Rattle.std.specs.Prelude.{◌≡◌, ◌≤◌, ◌++◌, ◌∷◌, ℕ, List, [], length, None, IfSome, IsSome, false};
 ghost use Rattle.sf_format.specs.declared.directive.Directive.{Directive};
 ghost use Rattle.sf_format.specs.Widths.{width_sum};
 ghost use Rattle.sf_report.specs.Computed.{part_of, ran_of, step_of};
 ghost use Rattle.sf_report.specs.Limits.{RunWithin};
 ghost use Rattle.sf_report.specs.Machine.{Skipping};
 ghost use Rattle.sf_report.specs.Residual.{nothing_yet, one_from, run_of};
-ghost use Rattle.sf_report.specs.Rows.{HasRow};
+ghost use Rattle.sf_format.specs.Proper.{has_optional};
+ghost use Rattle.sf_report.specs.Rows.{FillsSlots, HasRow};
 ghost use Rattle.sf_report.specs.Runs.{IsOpen, report_of, values};
 ghost use Rattle.sf_run.specs.outcome.Status.TheVariants.{Done};
 
@@ -72,9 +73,11 @@ pub fn open_is_used(alloc: Global, format: &ScanFormat, text: &[u8]) -> Option<S
     Some(scanned)
 }
 
-/// A Done report has a row.
+/// A Done report has given each slot something, or it may be missing; where none may be, it has a row.
 pub fn has_row(alloc: Global, format: &ScanFormat, text: &[u8]) -> Option<Scanned<HeapStore>>
-    ensures { IfSome result (λ s. s.report.status ≡ Done → HasRow format.now s.report.values) }
+    ensures slots { IfSome result (λ s. s.report.status ≡ Done → FillsSlots format.now s.report.values) }
+    ensures row { has_optional format.now ≡ false → IfSome result
+        (λ s. s.report.status ≡ Done → HasRow format.now s.report.values) }
 {
     done_runs_have_rows();
     let _directives = format.directives();

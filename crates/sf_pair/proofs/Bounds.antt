@@ -10,7 +10,7 @@ use Rattle.sf_format.specs.declared.unit.Unit.{Unit as PrintUnit}
 use Rattle.sf_format.specs.Proper.{HasItsWidth, IsSized, AreSized}
 use Rattle.sf_format.specs.Widths.{add_widths, text_width, stored_width, width_sum}
 use Rattle.sf_pair.specs.Below.{LawsBelow}
-use Rattle.sf_pair.specs.Groups.{is_count, is_chars, IsConversionGroup, IsGroup, AreCut, next_of}
+use Rattle.sf_pair.specs.Groups.{is_left_out, is_chars, IsConversionGroup, IsGroup, AreCut, next_of}
 use Rattle.sf_pair.specs.Laws.{read_back, ReadWithin, AlignedIsBounded}
 use Rattle.sf_pair.proofs.Paired.{pairs, width_is}
 use Rattle.sf_pair.proofs.Whole.{round_trip}
@@ -36,17 +36,18 @@ by_shape s shape.Count e wide sized = refl
 by_shape s shape.Text e wide sized = wide refl
 by_shape s (shape.Set members) e wide sized = wide refl
 by_shape s shape.Chars e wide sized = sized
+by_shape s shape.Float e wide sized = wide refl
 
 stored_some : (d : Directive) (group rest : List PrintUnit) (next : Option Directive) → IsSized d → IsGroup d group rest next
     → IsSome (stored_width d)
 stored_some directive.Space group rest next sized is = refl
 stored_some (directive.Byte b) group rest next sized is = refl
 stored_some directive.Percent group rest next sized is = refl
-stored_some (directive.Conv s) group rest next sized is = by (is_count s.shape) s.slot refl is
+stored_some (directive.Conv s) group rest next sized is = by (is_left_out s) s.slot refl is
   where
-    by : (count : Bool) (o : Option ℕ) → s.slot ≡ o → IsConversionGroup count (is_some o) s group rest next
+    by : (out : Bool) (o : Option ℕ) → s.slot ≡ o → IsConversionGroup out (is_some o) s group rest next
         → IsSome {T = ℕ} (elim o [ None ↦ Some 0 | Some slot ↦ text_width s.shape s.width ])
-    by count None e h = refl
+    by out None e h = refl
     by true (Some k) e h = absurd h
     by false (Some k) e (c, group_is, pairing, closing) =
         let p = pairs c s pairing in

@@ -1,5 +1,5 @@
 -- The walk over both lists finds no fault exactly where the units can be cut into groups.
-use Rattle.std.proofs.Common.{◌≡◌, ◌≢◌, ℕ, ◌+◌, Bool, true, false, cond, List, [], ◌∷◌, ◌++◌, Option, Some, None, Ok, Err, refl, sym, ap, subst, ◌∙◌}
+use Rattle.std.proofs.Common.{◌≡◌, ◌≢◌, ℕ, ◌+◌, Bool, true, false, cond, ◌||◌, List, [], ◌∷◌, ◌++◌, Option, Some, None, Ok, Err, refl, sym, ap, subst, ◌∙◌}
 use Rattle.std.specs.Prelude.{is_some}
 use Rattle.std.specs.List.{list_any}
 use Rattle.sf_base.specs.Bytes.{is_white}
@@ -12,7 +12,7 @@ use Rattle.sf_pair.specs.declared.fault.PairWhy.{PairWhy}
 use Rattle.sf_pair.specs.declared.fault.PairWhy.TheVariants as why
 use Rattle.sf_pair.specs.declared.fault.PairFault.{PairFault}
 use Rattle.sf_pair.specs.Neighbours.{Bytes, only, reads}
-use Rattle.sf_pair.specs.Groups.{starts_with_space, space_fault, suppressed_by, pairing_fault, closing_fault, is_count, next_of, assigns, IsLiteral, AreSpace, IsSpaceRun, IsPaired, IsConversionGroup, IsGroup, AreCut}
+use Rattle.sf_pair.specs.Groups.{starts_with_space, space_fault, suppressed_by, pairing_fault, closing_fault, is_count, is_left_out, next_of, assigns, IsLiteral, AreSpace, IsSpaceRun, IsPaired, IsConversionGroup, IsGroup, AreCut}
 use Rattle.sf_pair.specs.Walk.{Left, leaves, unless, take_literal, after_space, take_space, take_paired, take_conversion, take_group, fault, ending_fault, fault_after, fault_from, values_fault, first_fault, AlignedIsAccepted}
 
 -- some front of the units is the directive's group
@@ -89,15 +89,16 @@ paired_taken s (unit.Conv c ∷ us) rest next e =
     )
 
 conversion_taken : (s : Conversion) (us rest : List PrintUnit) (next : Option Directive) → take_conversion s us next ≡ Ok rest
-    → (group : List PrintUnit) × (us ≡ group ++ rest) × IsConversionGroup (is_count s.shape) (is_some s.slot) s group rest next
-conversion_taken s us rest next e = by (is_count s.shape) (is_some s.slot) e
+    → (group : List PrintUnit) × (us ≡ group ++ rest) × IsConversionGroup (is_left_out s) (is_some s.slot) s group rest next
+conversion_taken s us rest next e = by (is_count s.shape) s.optional (is_some s.slot) e
   where
-    by : (count assigned : Bool) → cond count (Err why.NotWritten)
-        (cond assigned (take_paired s us next) (take_literal (suppressed_by s.shape s.width) us)) ≡ Ok rest
-        → (group : List PrintUnit) × (us ≡ group ++ rest) × IsConversionGroup count assigned s group rest next
-    by true assigned e = absurd cc
-    by false true e = paired_taken s us rest next e
-    by false false e = literal_taken (suppressed_by s.shape s.width) us rest e
+    by : (count optional assigned : Bool) → cond count (Err why.NotWritten) (cond optional (Err why.MayBeMissing)
+        (cond assigned (take_paired s us next) (take_literal (suppressed_by s.shape s.width) us))) ≡ Ok rest
+        → (group : List PrintUnit) × (us ≡ group ++ rest) × IsConversionGroup (count || optional) assigned s group rest next
+    by true optional assigned e = absurd cc
+    by false true assigned e = absurd cc
+    by false false true e = paired_taken s us rest next e
+    by false false false e = literal_taken (suppressed_by s.shape s.width) us rest e
 
 pub units_taken : (d : Directive) (us rest : List PrintUnit) (next : Option Directive) → take_group d us next ≡ Ok rest
     → Takes d us rest next
@@ -153,15 +154,16 @@ paired_back s group rest next (c, is, pairs, closes) =
     ap (λ (g : List PrintUnit). take_paired s (g ++ rest) next) is ∙ (λ t. unless (pairs t) (leaves (closes t) rest))
 
 conversion_back : (s : Conversion) (group rest : List PrintUnit) (next : Option Directive)
-    → IsConversionGroup (is_count s.shape) (is_some s.slot) s group rest next → take_conversion s (group ++ rest) next ≡ Ok rest
-conversion_back s group rest next h = by (is_count s.shape) (is_some s.slot) h
+    → IsConversionGroup (is_left_out s) (is_some s.slot) s group rest next → take_conversion s (group ++ rest) next ≡ Ok rest
+conversion_back s group rest next h = by (is_count s.shape) s.optional (is_some s.slot) h
   where
-    by : (count assigned : Bool) → IsConversionGroup count assigned s group rest next
-        → cond count (Err why.NotWritten) (cond assigned (take_paired s (group ++ rest) next)
-        (take_literal (suppressed_by s.shape s.width) (group ++ rest))) ≡ Ok rest
-    by true assigned h = absurd h
-    by false true h = paired_back s group rest next h
-    by false false h = literal_back (suppressed_by s.shape s.width) group rest h
+    by : (count optional assigned : Bool) → IsConversionGroup (count || optional) assigned s group rest next
+        → cond count (Err why.NotWritten) (cond optional (Err why.MayBeMissing) (cond assigned (take_paired s (group ++ rest) next)
+        (take_literal (suppressed_by s.shape s.width) (group ++ rest)))) ≡ Ok rest
+    by true optional assigned h = absurd h
+    by false true assigned h = absurd h
+    by false false true h = paired_back s group rest next h
+    by false false false h = literal_back (suppressed_by s.shape s.width) group rest h
 
 pub units_back : (d : Directive) (group rest : List PrintUnit) (next : Option Directive) → IsGroup d group rest next
     → take_group d (group ++ rest) next ≡ Ok rest

@@ -17,13 +17,14 @@ use Rattle.sf_print.specs.Printed.{value_at, value_fault}
 use Rattle.sf_report.specs.Machine.{shape_skips}
 use Rattle.sf_pair.specs.Below.{LawsBelow}
 use Rattle.sf_pair.specs.Neighbours.{only, no_byte, reads}
-use Rattle.sf_pair.specs.Groups.{IsLiteral, AreSpace, IsSpaceRun, IsPaired, IsConversionGroup, IsGroup, AreCut, is_count, is_width_one, members_of, suppressed_by, closing_fault, next_of}
+use Rattle.sf_pair.specs.Groups.{IsLiteral, AreSpace, IsSpaceRun, IsPaired, IsConversionGroup, IsGroup, AreCut, is_count, is_left_out, is_width_one, members_of, suppressed_by, closing_fault, next_of}
 use Rattle.sf_pair.specs.Fits.{FitsAt, AllFit, conversions, assigned_by, assigned_conversions}
-use Rattle.sf_pair.proofs.Paired.{Pairs, pairs, slot_is}
+use Rattle.sf_pair.proofs.Paired.{or_none, Pairs, pairs, slot_is}
+use Rattle.sf_pair.proofs.Back.{ReadsBack}
 use Rattle.sf_pair.proofs.Suits.{fits_unfaulted}
 use Rattle.sf_pair.proofs.Taken.{Takes}
 use Rattle.sf_pair.proofs.TakenTexts.{chars_takes, set_takes}
-use Rattle.sf_pair.proofs.ReadBack.{ReadsBack, reads_back}
+use Rattle.sf_pair.proofs.ReadBack.{reads_back}
 
 -- a conversion that is read back
 pub record PairedReads (values : List Datum) (s : Conversion) (group rest : List PrintUnit) (next : Option Directive) : Type 0 where
@@ -170,13 +171,15 @@ module _ (laws : LawsBelow) (values : List Datum) where
       (is, literal_none (directive.Byte b) ds group rest is.0 is.1 refl fit)
   group_reads directive.Percent ds group rest proper sized units is fit =
       (is, literal_none directive.Percent ds group rest is.0 is.1 refl fit)
-  group_reads (directive.Conv s) ds group rest proper sized units is fit = by (is_count s.shape) (is_some s.slot) refl refl is
+  group_reads (directive.Conv s) ds group rest proper sized units is fit = by (is_left_out s) (is_some s.slot) refl refl is
     where
-      by : (count assigned : Bool) → is_count s.shape ≡ count → is_some s.slot ≡ assigned
-          → IsConversionGroup count assigned s group rest (next_of ds)
+      by : (out assigned : Bool) → is_left_out s ≡ out → is_some s.slot ≡ assigned
+          → IsConversionGroup out assigned s group rest (next_of ds)
           → GroupReads values (directive.Conv s) group rest (next_of ds) × AllFit values (conversions rest) (assigned_conversions ds)
       by true assigned c a h = absurd h
-      by false true c a h = let r = paired_reads s ds group rest a c h units proper.1 sized fit in (inl r.0, r.1)
+      by false true c a h =
+          let no_count = (or_none (is_count s.shape) s.optional c).0 in
+          let r = paired_reads s ds group rest a no_count h units proper.1 sized fit in (inl r.0, r.1)
       by false false c a h = let r = suppressed_reads s group a h in
           (inr r, literal_none (directive.Conv s) ds group rest r.byte r.group_is (unassigned_so s s.slot r.slot) fit)
 

@@ -1,12 +1,16 @@
 -- The tests of what fits, and what they say.
-use Rattle.std.proofs.Common.{◌≡◌, ℕ, suc, ◌+◌, ◌<◌, ◌≤◌, Bool, true, false, ◌&&◌, nat_lt, nat_le, nat_eq, List, [], ◌∷◌, length, get_or, drop, is_some, ap₂, ℤ, unsigned_abs, Option, Some, None, refl, sym, ap, subst, ◌∙◌, arith}
+use Rattle.std.proofs.Common.{◌≡◌, ℕ, suc, ◌+◌, ◌<◌, ◌≤◌, Bool, true, false, ◌&&◌, nat_lt, nat_le, nat_eq, List, [], ◌∷◌, length, get_or, drop, is_some, ap₂, ℤ, unsigned_abs, Option, Some, None, from_bits, refl, sym, ap, subst, ◌∙◌, arith}
 use Rattle.std.proofs.lemmas.Bool.{eqb-true}
 use Rattle.std.proofs.lemmas.Bool.Decides.{nat_tests, Decides-int_eq}
 use Rattle.std.specs.Prelude.{◌↔◌, not, MatchOption}
+use Rattle.std.specs.Float.{float_is_finite}
+use Rattle.std.specs.Float.Ieee.{binary64}
 use Rattle.std.specs.List.{AllByRecursion, list_all, cons_option}
 use Rattle.sf_base.specs.Bytes.{is_white}
 use Rattle.sf_base.specs.Sets.{has_byte}
 use Rattle.sf_base.specs.Data.{Datum, Number, Bytes, Real, value_of}
+use Rattle.sf_base.specs.declared.real.Real as real
+use Rattle.sf_base.specs.declared.real.Real.TheVariants as reals
 use Rattle.sf_base.specs.declared.values.Kind.{Kind}
 use Rattle.sf_base.specs.declared.values.Kind.TheVariants as kind
 use Rattle.sf_format.specs.declared.directive.Shape.{Shape}
@@ -16,11 +20,16 @@ use Rattle.sf_format.specs.declared.directive.Directive.{Directive}
 use Rattle.sf_format.specs.declared.unit.PrintConv.{PrintConv}
 use Rattle.sf_format.specs.declared.unit.Unit.{Unit as PrintUnit}
 use Rattle.sf_format.specs.Units.{values_of}
+use Rattle.sf_float_item.specs.Tests.{is_float}
+use Rattle.sf_float_value.specs.Values.{IsStored}
+use Rattle.sf_float_value.specs.Computed.{stored_in}
 use Rattle.sf_item.specs.Tests.{is_ink}
 use Rattle.sf_print.specs.Printed.{value_at, same_kind}
 use Rattle.sf_print.specs.Visible.{visible}
+use Rattle.sf_pair.specs.Below.{LawsBelow}
+use Rattle.sf_pair.specs.Reals.{seen, is_pattern, is_read_as}
 use Rattle.sf_pair.specs.Groups.{width_of}
-use Rattle.sf_pair.specs.Fits.{is_negative, TextFits, ValueFits, FitsAt, AllFit, Fit, conversions, assigned_by, assigned_conversions, is_number_so, is_of_kind, is_byte, is_item_of, text_fits, value_fits, fits_or_not, all_fit, fits, FitsIsFit}
+use Rattle.sf_pair.specs.Fits.{is_negative, TextFits, RealFits, ValueFits, FitsAt, AllFit, Fit, conversions, assigned_by, assigned_conversions, is_number_so, is_of_kind, is_byte, is_item_of, text_fits, real_fits, value_fits, fits_or_not, all_fit, fits, FitsIsFit}
 use Rattle.sf_pair.specs.Formats.{Formats}
 use Rattle.sf_pair.proofs.Paired.{and_so, and_both, kinds_are}
 
@@ -82,6 +91,7 @@ text_is shape.Text width bytes = item_is is_ink (λ b. is_white b ≡ false) ink
 text_is (shape.Set members) width bytes = item_is (has_byte members) (λ b. has_byte members b ≡ true) (λ b. (λ e. e, λ e. e)) width bytes
 text_is shape.Chars width bytes = (λ e. eqb-true (length bytes) width e, λ e. eq_true (length bytes) width e)
 text_is (shape.Int base) width bytes = (λ e. absurd cc, λ h. absurd h)
+text_is shape.Float width bytes = (λ e. absurd cc, λ h. absurd h)
 text_is shape.Count width bytes = (λ e. absurd cc, λ h. absurd h)
 
 -- ---- numbers
@@ -103,8 +113,42 @@ number_so : (o : Option ℤ) (z : ℤ) → is_number_so o z ≡ true ↔ (o ≡ 
 number_so None z = (λ e. absurd cc, λ e. absurd cc)
 number_so (Some y) z = let d = Decides-int_eq y z in (λ e. ap Some (d.0 e), λ e. d.1 (let same : y ≡ z = cc in same))
 
-value_is : (c : PrintConv) (s : Conversion) (v : Datum) → value_fits c s v ≡ true ↔ ValueFits c s v
-value_is c s (Number k z) = (
+-- ---- floats
+
+pattern_is : (o : Option ℕ) (bits : ℕ) → is_pattern o bits ≡ true ↔ (o ≡ Some bits)
+pattern_is None bits = (λ e. absurd cc, λ e. absurd cc)
+pattern_is (Some b) bits = (λ e. ap Some (eqb-true b bits e), λ e. eq_true b bits (let same : b ≡ bits = cc in same))
+
+read_as_is : LawsBelow → (item : List ℕ) (bits : ℕ) → is_read_as item bits ≡ true ↔ IsStored binary64 item (Some bits)
+read_as_is laws item bits = (
+  λ e. let h = and_both (is_float item) (is_pattern (stored_in binary64 item) bits) e in
+      subst (IsStored binary64 item) ((pattern_is (stored_in binary64 item) bits).0 h.1)
+      ((laws.stored binary64 item).0 ((laws.floats item).0.0 h.0)),
+  λ h. let k = (laws.stored binary64 item).1 (Some bits) h in
+      and_so (is_float item) (is_pattern (stored_in binary64 item) bits) ((laws.floats item).0.1 k.0)
+      ((pattern_is (stored_in binary64 item) bits).1 (sym k.1)),
+)
+
+real_is : LawsBelow → (c : PrintConv) (s : Conversion) (r : real.Real) → real_fits c s r ≡ true ↔ RealFits c s r
+real_is laws c s (reals.F32 bits) = (λ e. absurd cc, λ h. absurd h)
+real_is laws c s (reals.F64 bits) =
+    let item : List ℕ = seen c (reals.F64 bits) in
+    let finite : Bool = float_is_finite (from_bits binary64 bits) in
+    let within : Bool = nat_le (length item) (width_of s) in (
+      λ e. let h = and_both (same_kind c.kind kind.F64 && finite && within) (is_read_as item bits) e in
+          let g = and_both (same_kind c.kind kind.F64 && finite) within h.0 in
+          let k = and_both (same_kind c.kind kind.F64) finite g.0 in
+          (kinds_are c.kind kind.F64 k.0, k.1, le_so (length item) (width_of s) g.1, (read_as_is laws item bits).0 h.1),
+      λ h. and_so (same_kind c.kind kind.F64 && finite && within) (is_read_as item bits)
+          (and_so (same_kind c.kind kind.F64 && finite) within
+          (and_so (same_kind c.kind kind.F64) finite (ap (λ (k : Kind). same_kind k kind.F64) h.0) h.1)
+          (le_true (length item) (width_of s) h.2)) ((read_as_is laws item bits).1 h.3),
+    )
+
+-- ---- values
+
+value_is : LawsBelow → (c : PrintConv) (s : Conversion) (v : Datum) → value_fits c s v ≡ true ↔ ValueFits c s v
+value_is laws c s (Number k z) = (
   λ e. let h = and_both (same_kind k c.kind && is_of_kind k z) (nat_le (length (visible c z)) (width_of s)) e in
       let g = and_both (same_kind k c.kind) (is_of_kind k z) h.0 in
       (kinds_are k c.kind g.0, (number_so (value_of k (is_negative z) (unsigned_abs z)) z).0 g.1, le_so _ _ h.1),
@@ -113,8 +157,8 @@ value_is c s (Number k z) = (
       ((number_so (value_of k (is_negative z) (unsigned_abs z)) z).1 h.1))
       (le_true _ _ h.2),
 )
-value_is c s (Real r) = (λ e. absurd cc, λ h. absurd h)
-value_is c s (Bytes bytes) = (
+value_is laws c s (Real r) = real_is laws c s r
+value_is laws c s (Bytes bytes) = (
   λ e. let h = and_both (list_all is_byte bytes) (text_fits s.shape (width_of s) bytes) e in
       ((all_is is_byte (λ b. b < 256) byte_is bytes).0 h.0, (text_is s.shape (width_of s) bytes).0 h.1),
   λ h. and_so (list_all is_byte bytes) (text_fits s.shape (width_of s) bytes) ((all_is is_byte (λ b. b < 256) byte_is bytes).1 h.0)
@@ -123,38 +167,40 @@ value_is c s (Bytes bytes) = (
 
 -- ---- the whole
 
-at_is : (values : List Datum) (c : PrintConv) (s : Conversion) → fits_or_not c s (value_at values c.slot) ≡ true ↔ FitsAt values c s
-at_is values c s = by (value_at values c.slot)
+at_is : LawsBelow → (values : List Datum) (c : PrintConv) (s : Conversion)
+    → fits_or_not c s (value_at values c.slot) ≡ true ↔ FitsAt values c s
+at_is laws values c s = by (value_at values c.slot)
   where
     by : (o : Option Datum) → fits_or_not c s o ≡ true ↔ ((v : Datum) × (o ≡ Some v) × ValueFits c s v)
     by None = (λ e. absurd cc, λ h. absurd (let wrong : None ≡ Some h.0 = h.1 in cc))
     by (Some v) = (
-      λ e. (v, refl, (value_is c s v).0 e),
-      λ h. (value_is c s v).1
+      λ e. (v, refl, (value_is laws c s v).0 e),
+      λ h. (value_is laws c s v).1
           (subst (ValueFits c s) (let same : h.0 ≡ v = (let e = h.1 in cc) in same) h.2),
     )
 
-all_fit_is : (values : List Datum) (cs : List PrintConv) (ss : List Conversion) → all_fit values cs ss ≡ true ↔ AllFit values cs ss
-all_fit_is values [] [] = (λ e. tt, λ h. refl)
-all_fit_is values [] (s ∷ ss) = (λ e. absurd cc, λ h. absurd h)
-all_fit_is values (c ∷ cs) [] = (λ e. absurd cc, λ h. absurd h)
-all_fit_is values (c ∷ cs) (s ∷ ss) = (
+all_fit_is : LawsBelow → (values : List Datum) (cs : List PrintConv) (ss : List Conversion)
+    → all_fit values cs ss ≡ true ↔ AllFit values cs ss
+all_fit_is laws values [] [] = (λ e. tt, λ h. refl)
+all_fit_is laws values [] (s ∷ ss) = (λ e. absurd cc, λ h. absurd h)
+all_fit_is laws values (c ∷ cs) [] = (λ e. absurd cc, λ h. absurd h)
+all_fit_is laws values (c ∷ cs) (s ∷ ss) = (
   λ e. let h = and_both (fits_or_not c s (value_at values c.slot)) (all_fit values cs ss) e in
-      ((at_is values c s).0 h.0, (all_fit_is values cs ss).0 h.1),
-  λ h. and_so (fits_or_not c s (value_at values c.slot)) (all_fit values cs ss) ((at_is values c s).1 h.0)
-      ((all_fit_is values cs ss).1 h.1),
+      ((at_is laws values c s).0 h.0, (all_fit_is laws values cs ss).0 h.1),
+  λ h. and_so (fits_or_not c s (value_at values c.slot)) (all_fit values cs ss) ((at_is laws values c s).1 h.0)
+      ((all_fit_is laws values cs ss).1 h.1),
 )
 
-pub fits_is_fit : FitsIsFit
-fits_is_fit us ds values = (
+pub fits_is_fit : LawsBelow → FitsIsFit
+fits_is_fit laws us ds values = (
   λ e. let h = and_both (nat_eq (length values) (length (values_of us))) (all_fit values (conversions us) (assigned_conversions ds)) e in
       record {
         count = eqb-true (length values) (length (values_of us)) h.0;
         each =
-            (all_fit_is values (conversions us) (assigned_conversions ds)).0 h.1;
+            (all_fit_is laws values (conversions us) (assigned_conversions ds)).0 h.1;
       },
   λ h. and_so (nat_eq (length values) (length (values_of us))) (all_fit values (conversions us) (assigned_conversions ds))
-      (eq_true _ _ h.count) ((all_fit_is values (conversions us) (assigned_conversions ds)).1 h.each),
+      (eq_true _ _ h.count) ((all_fit_is laws values (conversions us) (assigned_conversions ds)).1 h.each),
 )
 
 -- ---- the loop over the directives
@@ -202,13 +248,13 @@ last (Some x) P values cs true e m h = absurd cc
 last (Some x) P values cs false e m h = sym (ap (λ (cs : List PrintConv). all_fit values cs []) (h x m).2)
 
 -- what the code tests, as the contract of a pair sees it
-pub fits_when : (us : List PrintUnit) (ds : List Directive) (f : Formats) (values : List Datum) (r : Bool)
+pub fits_when : LawsBelow → (us : List PrintUnit) (ds : List Directive) (f : Formats) (values : List Datum) (r : Bool)
     → record { print = us; scan = ds } ≡ f → length values ≡ length (values_of us)
     → r ≡ all_fit values (conversions us) (assigned_conversions ds) → (r ≡ true) ↔ Fit f.print f.scan values
-fits_when us ds f values r same count e =
+fits_when laws us ds f values r same count e =
     let is : r ≡ fits us ds values = e ∙ sym (ap (λ (t : Bool). t && all_fit values (conversions us) (assigned_conversions ds))
     (eq_true (length values) (length (values_of us)) count)) in
-    let d = fits_is_fit us ds values in (
+    let d = fits_is_fit laws us ds values in (
       λ h. subst (λ (f : Formats). Fit f.print f.scan values) same (d.0 (sym is ∙ h)),
       λ h. is ∙ d.1 (subst (λ (f : Formats). Fit f.print f.scan values) (sym same) h),
     )

@@ -21,7 +21,7 @@ abbrev pub Stops : Base → PrintConv → ℕ → Type 0
 Stops base c b = (is_digit b (first_radix base) ≡ true) ⊎ ((prefix_letters base b ≡ true)
     × ((is_auto (shape.Int base) ≡ true) ⊎ (length (least c) ≡ 1)))
 
-either_so : (x y : Bool) → (x || y) ≡ true → (x ≡ true) ⊎ (y ≡ true)
+pub either_so : (x y : Bool) → (x || y) ≡ true → (x ≡ true) ⊎ (y ≡ true)
 either_so true y e = inl refl
 either_so false y e = inr e
 

@@ -1,9 +1,10 @@
 -- The texts that a report holds.
-use Rattle.std.proofs.Common.{◌≡◌, ℕ, zero, suc, ◌+◌, ◌≤◌, inl, inr, false, List, [], ◌∷◌, ◌++◌, length, take, drop, ℤ, Option, Some, None, refl, sym, ap, subst, arith, length-append}
+use Rattle.std.proofs.Common.{◌≡◌, ℕ, zero, suc, ◌+◌, ◌≤◌, inl, inr, Bool, true, false, List, [], ◌∷◌, ◌++◌, length, take, drop, ℤ, Option, Some, None, refl, sym, ap, subst, arith, length-append}
 use Rattle.std.proofs.lemmas.List.{length-take}
-use Rattle.std.specs.Prelude.{IfSome, IfOk, Result, Ok, Err}
+use Rattle.std.specs.Prelude.{IfSome}
 use Rattle.std.specs.List.{cons_option}
-use Rattle.sf_base.specs.Data.{Datum, Number, Bytes, Assigned, value_of}
+use Rattle.sf_base.specs.Data.{Datum, Number, Bytes, Real, Assigned, value_of}
+use Rattle.sf_base.specs.declared.real.Real as real
 use Rattle.sf_base.specs.Kept.{text_in, texts_in}
 use Rattle.sf_format.specs.declared.directive.Shape.{Shape}
 use Rattle.sf_format.specs.declared.directive.Shape.TheVariants as shape
@@ -11,11 +12,10 @@ use Rattle.sf_format.specs.declared.directive.Conversion.{Conversion}
 use Rattle.sf_format.specs.declared.directive.Directive.{Directive}
 use Rattle.sf_format.specs.declared.directive.Directive.TheVariants as directive
 use Rattle.sf_format.specs.Widths.{add_widths, text_width, stored_width, width_sum}
-use Rattle.sf_report.specs.Steps.{StepEnd, Passes, Stores, Fails, NumberStored, CountStep, ItemStored, ItemPasses, EmptyItem, ItemEnds, ConversionStep, Step}
+use Rattle.sf_report.specs.Steps.{StepEnd, Passes, Stores, Misses, Fails, NumberStored, RealStored, CountStep, ItemStored, ItemPasses, EmptyItem, ItemEnds, ConversionStep, Step}
 use Rattle.sf_report.specs.Runs.{Ran, RunReport, GoesOn, Steps, value_stored, values}
 use Rattle.sf_report.specs.declared.outcome.Ending.{Ending}
-use Rattle.sf_report.specs.Limits.{IsCut, RunWithin, RunTold}
-use Rattle.sf_report.specs.Views.{StoredReport}
+use Rattle.sf_report.specs.Limits.{IsCut, RunWithin}
 use Rattle.sf_pair.specs.Groups.{is_count}
 use Rattle.sf_pair.specs.Laws.{HeldIsBounded}
 
@@ -32,6 +32,10 @@ number_none : (c : Conversion) (at : ℕ) (o : Option ℤ) (slot : ℕ) (v : Dat
 number_none c at None slot v e = absurd cc
 number_none c at (Some z) slot v e = let same : v ≡ Number c.kind z = cc in ap (λ (v : Datum). length (text_in v)) same
 
+real_none : (at : ℕ) (o : Option real.Real) (slot : ℕ) (v : Datum) → RealStored at o (Stores slot v) → length (text_in v) ≡ 0
+real_none at None slot v e = absurd cc
+real_none at (Some r) slot v e = let same : v ≡ Real r = cc in ap (λ (v : Datum). length (text_in v)) same
+
 bytes_within : (o : Option ℕ) (at slot : ℕ) (item : List ℕ) (v : Datum) (a : ℕ) → Stores slot v ≡ Stores at (Bytes item) → o ≡ Some a
     → IfSome o (λ w. length item ≤ w) → length (text_in v) ≤ a
 bytes_within o at slot item v a e wide within =
@@ -44,6 +48,8 @@ stored_within : (c : Conversion) (h : Shape) (at : ℕ) (item : List ℕ) (slot 
     → IfSome c.width (λ w. length item ≤ w) → length (text_in v) ≤ a
 stored_within c (shape.Int base) at item slot v a no_count (negative, m, is, stored) wide within =
     omega (arith, number_none c at (value_of c.kind negative m) slot v stored)
+stored_within c shape.Float at item slot v a no_count (r, is, stored) wide within =
+    omega (arith, real_none at r slot v stored)
 stored_within c shape.Count at item slot v a no_count e wide within = absurd cc
 stored_within c shape.Text at item slot v a no_count e wide within = bytes_within c.width at slot item v a e wide within
 stored_within c (shape.Set members) at item slot v a no_count e wide within = bytes_within c.width at slot item v a e wide within
@@ -60,14 +66,15 @@ shorter : (o : Option ℕ) (y : List ℕ) (j : ℕ) → IfSome o (λ w. j ≤ w)
 shorter None y j h = h
 shorter (Some w) y j h = let low : j ≤ w = h in omega (arith, length-take j y)
 
-empty_none : (y : List ℕ) (slot : ℕ) (v : Datum) → EmptyItem y (Stores slot v) → ⊥
-empty_none [] slot v e = absurd cc
-empty_none (b ∷ y) slot v e = absurd cc
+empty_none : (optional : Bool) (y : List ℕ) (slot : ℕ) (v : Datum) → EmptyItem optional y (Stores slot v) → ⊥
+empty_none true y slot v e = absurd cc
+empty_none false [] slot v e = absurd cc
+empty_none false (b ∷ y) slot v e = absurd cc
 
 ends_within : (c : Conversion) (y : List ℕ) (j slot : ℕ) (v : Datum) (a : ℕ) → is_count c.shape ≡ false → ItemEnds c y j (Stores slot v)
     → ◌≡◌ {A = Option ℕ} (elim c.slot [ None ↦ Some 0 | Some at ↦ text_width c.shape c.width ]) (Some a) → IfSome c.width (λ w. j ≤ w)
     → length (text_in v) ≤ a
-ends_within c y zero slot v a no_count is wide within = absurd (empty_none y slot v is)
+ends_within c y zero slot v a no_count is wide within = absurd (empty_none c.optional y slot v is)
 ends_within c y (suc j) slot v a no_count (inl is) wide within =
     passes_within c c.slot (take (suc j) y) slot v a no_count is.1 wide (shorter c.width y (suc j) within)
 ends_within c y (suc j) slot v a no_count (inr is) wide within = absurd (not_stored slot v (Fails _) is.1 tt)
@@ -85,6 +92,8 @@ conversion_within c (shape.Int base) x n k slot v a e (s, j, skipped, item, k_is
 conversion_within c shape.Text x n k slot v a e (s, j, skipped, item, k_is, ends) wide =
     ends_within c (drop s x) j slot v a (ap is_count e) ends wide item.holds.1
 conversion_within c (shape.Set members) x n k slot v a e (s, j, skipped, item, k_is, ends) wide =
+    ends_within c (drop s x) j slot v a (ap is_count e) ends wide item.holds.1
+conversion_within c shape.Float x n k slot v a e (s, j, skipped, item, k_is, ends) wide =
     ends_within c (drop s x) j slot v a (ap is_count e) ends wide item.holds.1
 conversion_within c shape.Chars x n k slot v a e (s, j, skipped, item, k_is, ends) wide =
     ends_within c (drop s x) j slot v a (ap is_count e) ends wide item.holds.1
@@ -142,6 +151,10 @@ held (d ∷ ds) x n (r ∷ ran) (same, step, more) w e =
           length-append (text_in v) (texts_in (values ran)),
           step_within d x n r.bytes slot v p.first step p.first_is,
         )
+    by p Misses is step more later =
+        let e = ap (λ (end : StepEnd). length (texts_in (values (record { directive = r.directive; bytes = r.bytes; end = end } ∷ ran))))
+        is in
+        omega (arith, p.sum, later more, e)
     by p (Fails status) is step more later =
         let e = ap (λ (end : StepEnd). length (texts_in (values (record { directive = r.directive; bytes = r.bytes; end = end } ∷ ran))))
         is in

@@ -14,6 +14,7 @@ use Rattle.sf_format.specs.declared.unit.Unit.TheVariants as unit
 use Rattle.sf_format.specs.Units.{values_of}
 use Rattle.sf_print.specs.Printed.{printed, unit_text, value_at}
 use Rattle.sf_print.proofs.InPlace.{ends_at}
+use Rattle.sf_pair.specs.Below.{LawsBelow}
 use Rattle.sf_pair.specs.Fits.{Fit, conversions, assigned_conversions, fits_or_not, all_fit}
 use Rattle.sf_pair.specs.Formats.{Formats}
 use Rattle.sf_pair.proofs.Walking.{drop_next}
@@ -82,11 +83,11 @@ room_at values units i end buf below within written room = omega (
 
 -- ---- as the contract of a pair sees it
 
-pub pair_fits : (us : List PrintUnit) (ds : List Directive) (f : Formats) (values : List Datum) (r : Option ℕ)
+pub pair_fits : LawsBelow → (us : List PrintUnit) (ds : List Directive) (f : Formats) (values : List Datum) (r : Option ℕ)
     → record { print = us; scan = ds } ≡ f → length values ≡ length (values_of us)
     → IfSome r (λ _. all_fit values (conversions us) (assigned_conversions ds) ≡ true) → IfSome r (λ _. Fit f.print f.scan values)
-pair_fits us ds f values None same count h = tt
-pair_fits us ds f values (Some end) same count h = (fits_when us ds f values true same count (sym h)).0 refl
+pair_fits laws us ds f values None same count h = tt
+pair_fits laws us ds f values (Some end) same count h = (fits_when laws us ds f values true same count (sym h)).0 refl
 
 pub pair_written : (us : List PrintUnit) (ds : List Directive) (f : Formats) (values : List Datum) (r : Option ℕ) (buf : List ℕ)
     → record { print = us; scan = ds } ≡ f → IfSome r (λ end. take end buf ≡ printed us values)
@@ -94,12 +95,13 @@ pub pair_written : (us : List PrintUnit) (ds : List Directive) (f : Formats) (va
 pair_written us ds f values r buf same h =
     subst (λ (f : Formats). IfSome r (λ end. take end buf ≡ printed f.print values)) same h
 
-pub pair_all_fit : (us : List PrintUnit) (ds : List Directive) (f : Formats) (values : List Datum) → record { print = us; scan = ds } ≡ f
+pub pair_all_fit : LawsBelow → (us : List PrintUnit) (ds : List Directive) (f : Formats) (values : List Datum)
+    → record { print = us; scan = ds } ≡ f
     → Fit f.print f.scan values → all_fit values (conversions us) (assigned_conversions ds) ≡ true
-pair_all_fit us ds f values same fit =
+pair_all_fit laws us ds f values same fit =
     let inside : Fit us ds values = subst (λ (f : Formats). Fit f.print f.scan values) (sym same) fit in
     (and_both (nat_eq (length values) (length (values_of us))) (all_fit values (conversions us) (assigned_conversions ds))
-    ((fits_is_fit us ds values).1 inside)).1
+    ((fits_is_fit laws us ds values).1 inside)).1
 
 pub pair_room : (us : List PrintUnit) (ds : List Directive) (f : Formats) (values : List Datum) (n : ℕ)
     → record { print = us; scan = ds } ≡ f → length (printed f.print values) + 21 ≤ n → length (printed us values) + 21 ≤ n

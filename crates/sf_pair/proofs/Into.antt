@@ -15,20 +15,21 @@ use Rattle.sf_format.specs.Units.{IsProperConv}
 use Rattle.sf_format.specs.Proper.{IsProperShape, IsProperWidth, HasItsWidth, IsProper}
 use Rattle.sf_item.specs.Tests.{is_ink, is_within, shape_begins, can_take}
 use Rattle.sf_print.specs.Text.{value_text}
-use Rattle.sf_print.specs.Visible.{least}
 use Rattle.sf_report.specs.Steps.{Stores}
 use Rattle.sf_report.specs.Machine.{stored_end, passed_end}
 use Rattle.sf_pair.specs.Below.{LawsBelow}
-use Rattle.sf_pair.specs.Neighbours.{stop_set}
-use Rattle.sf_pair.specs.Groups.{is_integer, is_chars, letters_pair, width_of, always_full}
+use Rattle.sf_pair.specs.Neighbours.{is_spare, stop_set}
+use Rattle.sf_pair.specs.Groups.{is_number, is_chars, letters_pair, width_of, least_by, always_full}
 use Rattle.sf_pair.specs.Fits.{TextFits, ValueFits}
 use Rattle.sf_pair.specs.Laws.{TakesInto, RunsPast}
-use Rattle.sf_pair.proofs.Paired.{and_so, Pairs, width_is, slot_is}
+use Rattle.sf_pair.proofs.Paired.{and_so, full_by, Pairs, width_is, slot_is}
+use Rattle.sf_pair.proofs.Back.{ReadsBack}
 use Rattle.sf_pair.proofs.FitTests.{ink_is}
-use Rattle.sf_pair.proofs.ReadBack.{ReadsBack, reads_back}
+use Rattle.sf_pair.proofs.ReadBack.{reads_back}
 use Rattle.sf_pair.proofs.RunsOn.{takes_too}
 use Rattle.sf_pair.proofs.GoesOn.{zero_stops}
 use Rattle.sf_pair.proofs.IntoIntegers.{integer_into}
+use Rattle.sf_pair.proofs.IntoReals.{zero_follows, zero_not_spare, real_into}
 
 within_two : (w : ℕ) → 1 ≤ w → eqb w 1 ≡ false → 2 ≤ w
 within_two w h e = grind (arith, nat_tests)
@@ -52,13 +53,13 @@ module _ (laws : LawsBelow) (c : PrintConv) (s : Conversion) (proper : IsProperC
     (sized : HasItsWidth s.shape s.width)
     (p : Pairs c s) (assigned : is_some s.slot ≡ true) (not_full : always_full c s ≡ false) where
   -- a text of that one byte goes on with it
-  text_into : (no_integer : is_integer s.shape ≡ false) (no_chars : is_chars s.shape ≡ false) (b : ℕ) → b < 256 → StoresItem s.shape
+  text_into : (no_number : is_number s.shape ≡ false) (no_chars : is_chars s.shape ≡ false) (b : ℕ) → b < 256 → StoresItem s.shape
       → ((w : ℕ) → 1 ≤ w → TextFits s.shape w (b ∷ [])) → shape_begins s.shape s.width (b ∷ b ∷ []) ≡ true → TakesInto c s b
-  text_into no_integer no_chars b small stores fits begins =
+  text_into no_number no_chars b small stores fits begins =
       let width : s.width ≡ Some (width_of s) = width_is s no_chars p.width in
       let low : 1 ≤ width_of s = proper_least s.width (width_of s) width scan.1 in
       let not_one : eqb (width_of s) 1 ≡ false = sym (ap₂ (λ (i k : Bool). k
-      || cond i (eqb (length (least c)) (width_of s)) (eqb (width_of s) 1)) no_integer no_chars) ∙ not_full in
+      || cond i (eqb (length (least_by s.shape c)) (width_of s)) (eqb (width_of s) 1)) no_number no_chars) ∙ not_full in
       let two : 2 ≤ width_of s = within_two (width_of s) low not_one in
       let v : Datum = Bytes (b ∷ []) in
       let fit : ValueFits c s v = ((small, tt), fits (width_of s) low) in
@@ -71,37 +72,39 @@ module _ (laws : LawsBelow) (c : PrintConv) (s : Conversion) (proper : IsProperC
       (ap (λ (o : Option ℕ). is_within o 2) width ∙ le_so 2 (width_of s) two) begins in
       (v, fit, takes_too laws c s v scan r t.item b more)
 
-  into_by : (b : ℕ) → b < 256 → (h : Shape) → s.shape ≡ h → stop_set h c b ≡ true → TakesInto c s b
-  into_by b small (shape.Int base) e stops = integer_into laws c s base e proper scan sized p assigned not_full b stops
-  into_by b small shape.Text e stops = text_into (ap is_integer e) (ap is_chars e) b small
+  into_by : (b : ℕ) → b < 256 → (h : Shape) → s.shape ≡ h → stop_set h c b ≡ true → is_spare h c b ≡ false → TakesInto c s b
+  into_by b small (shape.Int base) e stops spare = integer_into laws c s base e proper scan sized p assigned not_full b stops
+  into_by b small shape.Text e stops spare = text_into (ap is_number e) (ap is_chars e) b small
       (subst StoresItem (sym e) (λ s k slot item bytes stored. let same : item ≡ bytes = cc in same))
       (λ w low. subst (λ (h : Shape). TextFits h w (b ∷ [])) (sym e) (lit≤ tt, ((ink_is b).0 stops, tt), low))
       (ap (λ (h : Shape). shape_begins h s.width (b ∷ b ∷ [])) e ∙ and_so (is_ink b) (is_ink b && true) stops
       (and_so (is_ink b) true stops refl))
-  into_by b small (shape.Set members) e stops = text_into (ap is_integer e) (ap is_chars e) b small
+  into_by b small (shape.Set members) e stops spare = text_into (ap is_number e) (ap is_chars e) b small
       (subst StoresItem (sym e) (λ s k slot item bytes stored. let same : item ≡ bytes = cc in same))
       (λ w low. subst (λ (h : Shape). TextFits h w (b ∷ [])) (sym e) (lit≤ tt, (stops, tt), low))
       (ap (λ (h : Shape). shape_begins h s.width (b ∷ b ∷ [])) e ∙ and_so (has_byte members b) (has_byte members b && true) stops
       (and_so (has_byte members b) true stops refl))
-  into_by b small shape.Chars e stops = absurd cc
-  into_by b small shape.Count e stops = absurd cc
+  into_by b small shape.Chars e stops spare = absurd cc
+  into_by b small shape.Float e stops spare = real_into laws c s proper scan sized p assigned not_full e b stops spare
+  into_by b small shape.Count e stops spare = absurd cc
 
-  pub runs_into : (b : ℕ) → b < 256 → stop_set s.shape c b ≡ true → TakesInto c s b
-  runs_into b small stops = into_by b small s.shape refl stops
+  pub runs_into : (b : ℕ) → b < 256 → stop_set s.shape c b ≡ true → is_spare s.shape c b ≡ false → TakesInto c s b
+  runs_into b small stops spare = into_by b small s.shape refl stops spare
 
   -- each stop set but that of `c` has a byte
-  some_stops : (h : Shape) → s.shape ≡ h → IsProperShape h → (b : ℕ) × (b < 256) × (stop_set h c b ≡ true)
-  some_stops (shape.Int base) e member = (48, lit≤ tt, zero_stops base c)
-  some_stops shape.Text e member = (97, lit≤ tt, refl)
-  some_stops (shape.Set members) e member = (member.0, member.1, member.2)
+  some_stops : (h : Shape) → s.shape ≡ h → IsProperShape h → (b : ℕ) × (b < 256) × (stop_set h c b ≡ true) × (is_spare h c b ≡ false)
+  some_stops (shape.Int base) e member = (48, lit≤ tt, zero_stops base c, refl)
+  some_stops shape.Text e member = (97, lit≤ tt, refl, refl)
+  some_stops (shape.Set members) e member = (member.0, member.1, member.2, refl)
   some_stops shape.Chars e member = absurd (let wrong : true ≡ false =
-      sym (ap (λ (k : Bool). k || cond (is_integer s.shape) (eqb (length (least c)) (width_of s)) (eqb (width_of s) 1)) (ap is_chars e))
-      ∙ not_full in cc)
+      sym (ap (full_by c s) e) ∙ not_full in cc)
+  some_stops shape.Float e member =
+      (48, lit≤ tt, zero_follows c c.letter refl (ap (letters_pair c.letter) (sym e) ∙ p.letters), zero_not_spare c)
   some_stops shape.Count e member = absurd (count_pairs_none c.letter (ap (letters_pair c.letter) (sym e) ∙ p.letters))
 
   -- so it runs past its text, whatever follows
   pub runs_past : RunsPast (directive.Conv s) (unit.Conv c ∷ [])
   runs_past =
-      let (b, small, stops) = some_stops s.shape refl scan.0 in
-      let t = runs_into b small stops in
+      let (b, small, stops, spare) = some_stops s.shape refl scan.0 in
+      let t = runs_into b small stops spare in
       (value_text c t.0, b, small, (t.0, t.1, refl), t.2)

@@ -1,5 +1,5 @@
 -- An integer's item runs on into a byte of the stop set, after the text of 0 or of 1.
-use Rattle.std.proofs.Common.{◌≡◌, ℕ, zero, suc, ◌+◌, ◌<◌, ◌≤◌, ◌⊎◌, inl, inr, Bool, true, false, cond, eqb, ◌&&◌, ◌||◌, nat_le, nat_lt, List, [], ◌∷◌, ◌++◌, length, slice_index, ℤ, pos, Option, Some, None, is_some, refl, sym, ap, ap₂, subst, ◌∙◌, arith, length-append}
+use Rattle.std.proofs.Common.{◌≡◌, ℕ, zero, suc, ◌+◌, ◌<◌, ◌≤◌, ◌⊎◌, inl, inr, Bool, true, false, eqb, ◌&&◌, nat_le, nat_lt, List, [], ◌∷◌, ◌++◌, length, slice_index, ℤ, pos, Option, Some, None, is_some, refl, sym, ap, ap₂, subst, ◌∙◌, arith, length-append}
 use Rattle.std.proofs.lemmas.List.{length-replicate}
 use Rattle.std.proofs.lemmas.Bool.Decides.{nat_tests}
 use Rattle.std.specs.Char.{is_digit}
@@ -26,14 +26,15 @@ use Rattle.sf_report.specs.Machine.{shape_skips}
 use Rattle.sf_base.specs.Kinds.{bounds_of}
 use Rattle.sf_pair.specs.Below.{LawsBelow}
 use Rattle.sf_pair.specs.Neighbours.{prefix_letters, stop_set}
-use Rattle.sf_pair.specs.Groups.{is_integer, is_chars, is_auto, letters_pair, width_of, always_full}
+use Rattle.sf_pair.specs.Groups.{is_number, is_chars, is_auto, letters_pair, width_of, least_by, always_full}
 use Rattle.sf_pair.specs.Fits.{IsOfKind, ValueFits}
 use Rattle.sf_pair.specs.Laws.{TakesInto}
 use Rattle.sf_pair.proofs.Parts.{bare_sign, zero_digit, one_digit}
 use Rattle.sf_pair.proofs.Bodies.{StartsInk, without_some, Body}
 use Rattle.sf_pair.proofs.Numbers.{NumberRead, lone_zero_read, mark_of_zero, none_marked}
-use Rattle.sf_pair.proofs.Paired.{and_so, Pairs, width_is}
-use Rattle.sf_pair.proofs.ReadBack.{SkipsSo, ReadsBack, reads_back, some_digits, body_is, number_is, auto_bare}
+use Rattle.sf_pair.proofs.Paired.{and_so, full_by, Pairs, width_is}
+use Rattle.sf_pair.proofs.Back.{SkipsSo, ReadsBack}
+use Rattle.sf_pair.proofs.ReadBack.{reads_back, some_digits, body_is, number_is, auto_bare}
 use Rattle.sf_pair.proofs.RunsOn.{takes_too}
 use Rattle.sf_pair.proofs.GoesOn.{stops_so, same_radix, zero_goes, digits_go, end_goes}
 
@@ -206,14 +207,11 @@ module _ (laws : LawsBelow) (c : PrintConv) (s : Conversion) (base : Base) (is_i
   of_kind = small_of_kind c.kind (has_numbers c.letter base c.kind letters proper.kind)
 
   wide : length (least c) ≤ width_of s
-  wide = at_most (length (least c)) (width_of s) (sym (ap (λ (t : Bool). t && nat_lt (width_of s) (length (least c)))
-      (ap is_integer is_int)) ∙ p.wide)
+  wide = at_most (length (least c)) (width_of s)
+      (sym (ap (λ (h : Shape). is_number h && nat_lt (width_of s) (length (least_by h c))) is_int) ∙ p.wide)
 
   short : length (least c) < width_of s
-  short = less_than (length (least c)) (width_of s) wide (sym (ap full_by is_int) ∙ not_full)
-    where
-      full_by : Shape → Bool
-      full_by h = is_chars h || cond (is_integer h) (eqb (length (least c)) (width_of s)) (eqb (width_of s) 1)
+  short = less_than (length (least c)) (width_of s) wide (sym (ap (full_by c s) is_int) ∙ not_full)
 
   takes_into : (z : ℤ) → IsOfKind c.kind z → length (visible c z) ≡ length (least c) → (n : NumberRead base c z)
       → is_some (advance base n.progress b) ≡ true → TakesInto c s b

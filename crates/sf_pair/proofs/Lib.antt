@@ -7,6 +7,15 @@ pub mod TakenTexts
 pub mod Shortest
 pub mod Firsts
 pub mod Paired
+pub mod Places
+pub mod RealTexts
+pub mod RealSizes
+pub mod RealCode
+pub mod RealZero
+pub mod ZeroRead
+pub mod ZeroStored
+pub mod Back
+pub mod ReadReals
 pub mod ReadBack
 pub mod Suits
 pub mod FitCut
@@ -20,6 +29,7 @@ pub mod Bounds
 pub mod RunsOn
 pub mod GoesOn
 pub mod IntoIntegers
+pub mod IntoReals
 pub mod Into
 pub mod Stops
 pub mod Refusals

@@ -5,17 +5,16 @@ use Rattle.std.proofs.Math.Nat.{div-lt_self, div-mul-le_self}
 use Rattle.std.proofs.lemmas.Nat.{le-div}
 use Rattle.std.proofs.lemmas.List.{length-replicate}
 use Rattle.std.proofs.lemmas.Bool.{eqb-true}
-use Rattle.std.proofs.lemmas.Bool.Decides.{nat_tests}
 use Rattle.std.specs.Fmt.{digits}
 use Rattle.std.specs.Str.Parse.{digits_value}
-use Rattle.sf_base.specs.Data.{Datum, Number, IsIn}
+use Rattle.sf_base.specs.Data.{Datum, IsIn}
 use Rattle.sf_format.specs.declared.unit.PrintConv.{PrintConv}
-use Rattle.sf_print.specs.Text.{sign, prefix, mark, base_mark, numeral, filled, all_digits, with_octal_zero, opens_with_zero, is_octal, is_upper, least_digits, base_of, blanks, zeros, pads_with_zeros, value_text}
+use Rattle.sf_print.specs.Text.{prefix, mark, base_mark, filled, all_digits, with_octal_zero, opens_with_zero, is_octal, is_upper, least_digits, base_of, blanks, zeros, pads_with_zeros, value_text}
 use Rattle.sf_print.specs.Visible.{visible, without_blanks}
 use Rattle.sf_print.proofs.Digits.{digits_one, length_step, length_some}
 use Rattle.sf_pair.specs.Below.{LawsBelow}
 use Rattle.sf_pair.specs.Widths.{IsLongest, IsBetween, AreExtremes}
-use Rattle.sf_pair.proofs.Parts.{bare_sign, hidden, sign_is, digits_of, numeral_is, counted_length}
+use Rattle.sf_pair.proofs.Parts.{bare_sign, hidden, sign_is, digits_of, numeral_is}
 use Rattle.sf_pair.proofs.Bodies.{Body, body_of, small_base}
 use Rattle.sf_pair.proofs.Shortest.{visible_size, size_more, signs}
 

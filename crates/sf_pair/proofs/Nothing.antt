@@ -19,13 +19,13 @@ use Rattle.sf_item.specs.Tests.{read, is_within, shape_begins, can_take}
 use Rattle.sf_print.specs.Printed.{printed}
 use Rattle.sf_report.specs.declared.outcome.Status.TheVariants.{Done, InputFailure}
 use Rattle.sf_report.specs.declared.outcome.Ending.TheVariants.{End}
-use Rattle.sf_report.specs.Steps.{StepEnd, Passes, Stores, Fails}
+use Rattle.sf_report.specs.Steps.{StepEnd, Passes, Stores, Misses, Fails}
 use Rattle.sf_report.specs.Runs.{Ran, RunReport, Run, IsOpen, used, status_of, converted, report_of, is_conversion, passed}
 use Rattle.sf_report.specs.Computed.{skip_before, len, item_part, conversion_step, byte_choice, step_of, go_on, ran_of}
 use Rattle.sf_pair.specs.Below.{LawsBelow}
-use Rattle.sf_pair.specs.Groups.{is_count, IsConversionGroup, AreCut, assigns, next_of}
+use Rattle.sf_pair.specs.Groups.{is_count, is_left_out, IsConversionGroup, AreCut, assigns, next_of}
 use Rattle.sf_pair.specs.Laws.{read_back, AlignedEndsOnNothing, PrintsSome}
-use Rattle.sf_pair.proofs.Paired.{and_so}
+use Rattle.sf_pair.proofs.Paired.{and_so, or_none}
 use Rattle.sf_pair.proofs.Whole.{round_trip}
 
 -- ---- what is used of nothing, and of one byte that is taken
@@ -41,6 +41,7 @@ after d x k n end ds e none = sum_by-cons (λ (r : Ran). r.bytes) (record { dire
     by : (end : StepEnd) → k + used (go_on end (ran_of ds (drop k x) (n + k))) ≡ k
     by Passes = omega (arith, rest)
     by (Stores slot v) = omega (arith, rest)
+    by Misses = omega (arith, rest)
     by (Fails status) = omega arith
 
 used_none : LawsBelow → (ds : List Directive) (n : ℕ) → used (ran_of ds [] n) ≡ 0
@@ -105,6 +106,12 @@ one_taken s shape.Chars e no_count shaped wide = record {
   unskipped = ap (λ (h : Shape). skip_before h (0 ∷ [])) e;
   takes = ap (λ (h : Shape). shape_begins h s.width (0 ∷ [])) e ∙ chars_one s.width wide;
 }
+one_taken s shape.Float e no_count shaped wide = record {
+  byte = 49;
+  small = omega arith;
+  unskipped = ap (λ (h : Shape). skip_before h (49 ∷ [])) e;
+  takes = ap (λ (h : Shape). shape_begins h s.width (49 ∷ [])) e;
+}
 one_taken s shape.Count e no_count shaped wide = absurd cc
 
 -- a conversion other than n is the item after what is skipped
@@ -123,13 +130,16 @@ conversion_takes s n no_count wide t =
     ∙ ap (λ (k : ℕ). 0 + k) (takes_first s t.byte (and_so (is_within s.width 1) (shape_begins s.shape s.width (t.byte ∷ []))
     (within_one s.width wide) t.takes))
 
-no_count_in : (s : Conversion) (group rest : List PrintUnit) (next : Option Directive)
-    → IsConversionGroup (is_count s.shape) (is_some s.slot) s group rest next → is_count s.shape ≡ false
-no_count_in s group rest next is = by (is_count s.shape) is
+not_left_out : (s : Conversion) (group rest : List PrintUnit) (next : Option Directive)
+    → IsConversionGroup (is_left_out s) (is_some s.slot) s group rest next → is_left_out s ≡ false
+not_left_out s group rest next is = by (is_left_out s) is
   where
     by : (t : Bool) → IsConversionGroup t (is_some s.slot) s group rest next → t ≡ false
     by true h = absurd h
     by false h = refl
+
+no_count_in : (s : Conversion) → is_left_out s ≡ false → is_count s.shape ≡ false
+no_count_in s e = (or_none (is_count s.shape) s.optional e).0
 
 abbrev FirstTaken : Directive → Type 0
 FirstTaken d = (b : ℕ) × (b < 256) × ((step_of d (b ∷ []) 0).0 ≡ 1)
@@ -139,7 +149,7 @@ first_taken directive.Space ds us proper cut = (32, omega arith, refl)
 first_taken (directive.Byte a) ds us proper cut = (a, proper, ap (λ (t : Bool). (byte_choice t).0) (eq-eqb a a refl))
 first_taken directive.Percent ds us proper cut = (37, omega arith, refl)
 first_taken (directive.Conv s) ds us proper (group, rest, parts, is, more) =
-    let no_count = no_count_in s group rest (next_of ds) is in
+    let no_count = no_count_in s (not_left_out s group rest (next_of ds) is) in
     let t = one_taken s s.shape refl no_count proper.0 proper.1 in
     (t.byte, t.small, conversion_takes s 0 no_count proper.1 t)
 
@@ -161,12 +171,14 @@ goes_on laws (d ∷ ds) us proper cut some =
 abbrev FailsFirst : List Ran → Type 0
 FailsFirst ran = (status_of ran ≡ InputFailure) × (converted ran ≡ 0)
 
-conversion_fails : (s : Conversion) (n : ℕ) → is_count s.shape ≡ false → step_of (directive.Conv s) [] n ≡ (0, Fails InputFailure)
-conversion_fails s n no_count = item_of s [] n no_count ∙ ap (item_part s []) (by s.shape)
+conversion_fails : (s : Conversion) (n : ℕ) → is_left_out s ≡ false → step_of (directive.Conv s) [] n ≡ (0, Fails InputFailure)
+conversion_fails s n e = item_of s [] n (no_count_in s e) ∙ ap (item_part s []) (by s.shape)
+    ∙ ap (λ (t : Bool). (0, cond t Misses (Fails InputFailure))) (or_none (is_count s.shape) s.optional e).1
   where
     by : (h : Shape) → skip_before h [] ≡ 0
     by (shape.Int base) = refl
     by shape.Text = refl
+    by shape.Float = refl
     by _ = refl
 
 fails_first : (ds : List Directive) (us : List PrintUnit) (n : ℕ) → AreCut ds us → list_any assigns ds ≡ true → FailsFirst (ran_of ds [] n)
@@ -183,7 +195,7 @@ fails_first (directive.Percent ∷ ds) us n cut some = (refl, refl)
 fails_first (directive.Conv s ∷ ds) us n (group, rest, parts, is, more) some =
     subst (λ (r : ℕ × StepEnd). FailsFirst (record { directive = directive.Conv s; bytes = r.0; end = r.1 } ∷ go_on r.1
     (ran_of ds (drop r.0 []) (n + r.0))))
-    (sym (conversion_fails s n (no_count_in s group rest (next_of ds) is))) (refl, none_converted s)
+    (sym (conversion_fails s n (not_left_out s group rest (next_of ds) is))) (refl, none_converted s)
   where
     none_converted : (s : Conversion) → converted (record { directive = directive.Conv s; bytes = 0; end = Fails InputFailure } ∷ []) ≡ 0
     none_converted s = by (is_conversion (directive.Conv s))

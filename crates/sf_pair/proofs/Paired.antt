@@ -1,11 +1,12 @@
 -- What is known of a print conversion and a scan conversion that pair.
-use Rattle.std.proofs.Common.{◌≡◌, ℕ, suc, ◌-◌, ◌%◌, ◌^◌, ◌<◌, ◌≤◌, Bool, true, false, cond, eqb, ◌&&◌, ◌||◌, nat_lt, nat_le, [], ◌∷◌, ℤ, pos, negsuc, Option, Some, None, is_some, unwrap_or, refl, sym, ap, ◌∙◌, arith, lit≤}
+use Rattle.std.proofs.Common.{◌≡◌, ℕ, suc, ◌-◌, ◌%◌, ◌^◌, ◌<◌, ◌≤◌, Bool, true, false, cond, eqb, ◌&&◌, ◌||◌, nat_lt, nat_le, [], ◌∷◌, length, ℤ, pos, negsuc, Option, Some, None, is_some, unwrap_or, refl, sym, ap, ◌∙◌, arith, lit≤}
 use Rattle.std.specs.Prelude.{not, is_none}
 use Rattle.std.proofs.lemmas.Bool.{eqb-true}
 use Rattle.std.proofs.lemmas.Bool.Decides.{nat_tests}
 use Rattle.sf_base.specs.declared.values.Kind.{Kind}
 use Rattle.sf_base.specs.declared.values.Kind.TheVariants as kind
 use Rattle.sf_base.specs.Data.{signed_value, unsigned_value, value_of}
+use Rattle.sf_format.specs.declared.directive.Shape.{Shape}
 use Rattle.sf_format.specs.declared.directive.Conversion.{Conversion}
 use Rattle.sf_format.specs.declared.unit.PrintConv.{PrintConv}
 use Rattle.sf_format.specs.Units.{is_unsigned}
@@ -13,7 +14,7 @@ use Rattle.sf_print.specs.Printed.{same_kind}
 use Rattle.sf_print.specs.Text.{least_digits}
 use Rattle.sf_base.specs.Rules.{first_reason}
 use Rattle.sf_pair.specs.declared.fault.PairWhy.TheVariants as why
-use Rattle.sf_pair.specs.Groups.{is_integer, is_text, is_chars, is_one, letters_pair, width_of, kinds_differ, numbers_differ, bad_flag, has_no_width, too_narrow, leading_zero, rule, pairing_fault}
+use Rattle.sf_pair.specs.Groups.{is_integer, is_number, is_text, is_chars, is_one, letters_pair, width_of, least_by, kinds_differ, numbers_differ, bad_flag, has_no_width, too_narrow, leading_zero, rule, pairing_fault}
 use Rattle.sf_pair.specs.Fits.{IsOfKind}
 
 -- ---- tests
@@ -52,8 +53,8 @@ pub record Pairs (c : PrintConv) (s : Conversion) : Type 0 where
   pub slot : unwrap_or s.slot 0 ≡ c.slot
   pub right : c.minus ≡ false
   pub some_digit : (is_integer s.shape && eqb (least_digits c) 0) ≡ false
-  pub whole : (not (is_integer s.shape) && is_some c.precision) ≡ false
-  pub unpadded : (not (is_integer s.shape) && not (is_text s.shape) && nat_lt 0 c.width) ≡ false
+  pub whole : (not (is_number s.shape) && is_some c.precision) ≡ false
+  pub unpadded : (not (is_number s.shape) && not (is_text s.shape) && nat_lt 0 c.width) ≡ false
   pub single : (is_one c.letter && not (eqb (width_of s) 1)) ≡ false
   pub width : has_no_width s ≡ false
   pub wide : too_narrow c s ≡ false
@@ -62,8 +63,8 @@ pub record Pairs (c : PrintConv) (s : Conversion) : Type 0 where
 pub pairs : (c : PrintConv) (s : Conversion) → pairing_fault c s ≡ None → Pairs c s
 pairs c s e =
     let a = six (kinds_differ c s) (numbers_differ c s) (bad_flag c s) (has_no_width s) (too_narrow c s) (leading_zero c s) e in
-    let k = five c.minus (is_integer s.shape && eqb (least_digits c) 0) (not (is_integer s.shape) && is_some c.precision)
-    (not (is_integer s.shape) && not (is_text s.shape) && nat_lt 0 c.width) (is_one c.letter && not (eqb (width_of s) 1)) a.2 in
+    let k = five c.minus (is_integer s.shape && eqb (least_digits c) 0) (not (is_number s.shape) && is_some c.precision)
+    (not (is_number s.shape) && not (is_text s.shape) && nat_lt 0 c.width) (is_one c.letter && not (eqb (width_of s) 1)) a.2 in
     let kinds = and_both (same_kind c.kind s.kind) (letters_pair c.letter s.shape) (not_none _ a.0) in
     record {
       same = kinds.0;
@@ -100,6 +101,10 @@ kinds_are kind.Text kind.Text e = refl
 kinds_are kind.F32 kind.F32 e = refl
 kinds_are kind.F64 kind.F64 e = refl
 kinds_are _ _ e = absurd cc
+
+-- whether an item of the shape is always full
+abbrev pub full_by : PrintConv → Conversion → Shape → Bool
+full_by c s h = is_chars h || cond (is_number h) (eqb (length (least_by h c)) (width_of s)) (eqb (width_of s) 1)
 
 -- the width of a conversion that has one
 pub width_is : (s : Conversion) → is_chars s.shape ≡ false → has_no_width s ≡ false → s.width ≡ Some (width_of s)

@@ -1,11 +1,13 @@
 -- What a conversion prints of a value that fits, the scan's conversion reads back.
-use Rattle.std.proofs.Common.{◌≡◌, ℕ, zero, suc, ◌-◌, ◌<◌, ◌≤◌, ◌⊎◌, inl, inr, Bool, true, false, cond, eqb, ltb, ◌&&◌, ◌||◌, nat_lt, List, [], ◌∷◌, ◌++◌, length, ℤ, pos, unsigned_abs, Option, Some, None, is_some, unwrap_or, refl, sym, ap, subst, ◌∙◌, arith, append-nil, lit≤}
+use Rattle.std.proofs.Common.{◌≡◌, ℕ, zero, suc, ◌-◌, ◌<◌, ◌≤◌, ◌⊎◌, inl, inr, Bool, true, false, cond, eqb, ltb, ◌&&◌, ◌||◌, nat_lt, List, [], ◌∷◌, ◌++◌, length, ℤ, pos, unsigned_abs, Option, Some, None, is_some, unwrap_or, refl, sym, ap, subst, ◌∙◌, arith, append-nil, lit≤, true≢false}
 use Rattle.std.specs.Prelude.{not, IsSome}
 use Rattle.std.proofs.lemmas.Bool.{eqb-true, lt-ltb}
 use Rattle.std.proofs.lemmas.Bool.Decides.{nat_tests}
 use Rattle.std.specs.List.{AllByRecursion}
 use Rattle.sf_base.specs.Bytes.{AreBytes, is_white}
 use Rattle.sf_base.specs.Sets.{has_byte}
+use Rattle.sf_base.specs.declared.real.Real as real
+use Rattle.sf_base.specs.declared.real.Real.TheVariants as reals
 use Rattle.sf_base.specs.declared.values.Kind.{Kind}
 use Rattle.sf_base.specs.declared.values.Kind.TheVariants as kind
 use Rattle.sf_base.specs.Data.{Datum, Number, Bytes, Real}
@@ -17,40 +19,26 @@ use Rattle.sf_format.specs.declared.directive.Conversion.{Conversion}
 use Rattle.sf_format.specs.declared.unit.PrintConv.{PrintConv}
 use Rattle.sf_format.specs.declared.unit.PrintLetter.{PrintLetter}
 use Rattle.sf_format.specs.declared.unit.PrintLetter.TheVariants as letter
-use Rattle.sf_format.specs.Units.{IsProperConv, has_flag, prints_kind, is_unsigned, is_text as is_text_kind}
+use Rattle.sf_format.specs.Units.{IsProperConv, has_flag, prints_kind, is_unsigned, is_double, is_text as is_text_kind}
 use Rattle.sf_format.specs.Proper.{IsProperWidth, HasItsWidth}
 use Rattle.sf_item.specs.Tests.{is_ink}
-use Rattle.sf_print.specs.Text.{value_text, integer_text, bytes_text, shown_bytes, padded, blanks, base_of, base_mark, is_octal, least_digits, pads_with_zeros}
+use Rattle.sf_print.specs.Text.{integer_text, bytes_text, shown_bytes, padded, blanks, base_of, base_mark, is_octal, least_digits, pads_with_zeros}
 use Rattle.sf_report.specs.Steps.{Stores}
-use Rattle.sf_report.specs.Machine.{shape_skips, passed_end}
+use Rattle.sf_report.specs.Machine.{shape_skips}
 use Rattle.sf_print.specs.Visible.{visible, least}
 use Rattle.sf_pair.specs.Below.{LawsBelow}
 use Rattle.sf_pair.specs.Neighbours.{Bytes as ByteTest, stop_set, integer_first, first_by_letter, only, or, any_byte}
-use Rattle.sf_pair.specs.Groups.{is_integer, is_text, is_chars, is_auto, letters_pair, width_of, always_full}
-use Rattle.sf_pair.specs.Fits.{is_negative, IsOfKind, TextFits, ValueFits}
+use Rattle.sf_pair.specs.Groups.{is_integer, is_number, is_text, is_chars, is_auto, letters_pair, width_of, least_by, always_full}
+use Rattle.sf_pair.specs.Fits.{is_negative, IsOfKind, TextFits, RealFits, ValueFits}
 use Rattle.sf_pair.proofs.Bodies.{StartsInk, FirstByte, blanks_byte, Body, body_of}
 use Rattle.sf_pair.proofs.Numbers.{NumberRead, HasMark, read_decimal, read_octal, read_marked, read_auto}
 use Rattle.sf_pair.proofs.Shortest.{least_is_shortest, visible_some}
+use Rattle.sf_pair.proofs.Back.{SkipsSo, ReadsBack}
+use Rattle.sf_pair.proofs.ReadReals.{real_reads_back}
 use Rattle.sf_pair.proofs.Firsts.{FirstIn, first_weaker, or_right, NoSign, SignFits, integer_text_first}
-use Rattle.sf_pair.proofs.Taken.{Takes, FirstOut, integer_takes, integer_stored}
+use Rattle.sf_pair.proofs.Taken.{FirstOut, integer_takes, integer_stored}
 use Rattle.sf_pair.proofs.TakenTexts.{text_takes, set_takes, chars_takes, text_stored, set_stored, chars_stored}
-use Rattle.sf_pair.proofs.Paired.{or_none, Pairs, kinds_are, slot_is, width_is, small_of, unsigned_number, no_number_of_text}
-
--- the white space before an item, where its shape skips it, is that of the padding
-abbrev pub SkipsSo : Bool → ℕ → List ℕ → Type 0
-SkipsSo true before item = StartsInk item
-SkipsSo false before item = before ≡ 0
-
--- how a value's text is read back
-pub record ReadsBack (c : PrintConv) (s : Conversion) (v : Datum) : Type 0 where
-  pub before : ℕ
-  pub item : List ℕ
-  pub text_is : value_text c v ≡ blanks before ++ item
-  pub skips : SkipsSo (shape_skips s.shape) before item
-  pub takes : (rest : List ℕ) → (always_full c s ≡ true) ⊎ FirstOut (stop_set s.shape c) rest → Takes s item rest
-  pub stored : passed_end s s.slot item ≡ Stores c.slot v
-  pub first : FirstIn (first_by_letter c.letter c s.shape) (value_text c v)
-  pub first_byte : FirstByte (value_text c v)
+use Rattle.sf_pair.proofs.Paired.{full_by, or_none, Pairs, kinds_are, slot_is, width_is, small_of, unsigned_number, no_number_of_text}
 
 -- ---- integers
 
@@ -146,10 +134,7 @@ module _ (laws : LawsBelow) (c : PrintConv) (s : Conversion) (proper : IsProperC
   at_int base e = ap is_integer e
 
   int_full : (base : Base) → s.shape ≡ shape.Int base → always_full c s ≡ true → length (least c) ≡ width_of s
-  int_full base e full = eqb-true (length (least c)) (width_of s) (sym (ap full_by e) ∙ full)
-    where
-      full_by : Shape → Bool
-      full_by h = is_chars h || cond (is_integer h) (eqb (length (least c)) (width_of s)) (eqb (width_of s) 1)
+  int_full base e full = eqb-true (length (least c)) (width_of s) (sym (ap (full_by c s) e) ∙ full)
 
   pub auto_bare : (base : Base) → s.shape ≡ shape.Int base → 0 < least_digits c → is_auto (shape.Int base) ≡ true
       → (least_digits c ≡ 1) × (pads_with_zeros c ≡ false)
@@ -240,11 +225,11 @@ no_precision None e = refl
 no_precision (Some k) e = absurd cc
 
 module _ (c : PrintConv) (s : Conversion) (p : Pairs c s) (assigned : is_some s.slot ≡ true) where
-  bytes_part : (bytes : List ℕ) → is_integer s.shape ≡ false → (c.letter ≡ letter.Text) ⊎ (c.letter ≡ letter.One)
+  bytes_part : (bytes : List ℕ) → is_number s.shape ≡ false → (c.letter ≡ letter.Text) ⊎ (c.letter ≡ letter.One)
       → bytes_text c bytes ≡ blanks (c.width - length bytes) ++ bytes
-  bytes_part bytes no_int l =
+  bytes_part bytes no_number_here l =
       let precision : c.precision ≡ None = no_precision c.precision
-      (sym (ap (λ (t : Bool). not t && is_some c.precision) no_int) ∙ p.whole) in
+      (sym (ap (λ (t : Bool). not t && is_some c.precision) no_number_here) ∙ p.whole) in
       let shown : shown_bytes c.letter c.precision bytes ≡ bytes = elim l [
         | inl e ↦ (λ t. shown_bytes (e t) (precision t) bytes)
         | inr e ↦ (λ t. shown_bytes (e t) (precision t) bytes)
@@ -253,13 +238,14 @@ module _ (c : PrintConv) (s : Conversion) (p : Pairs c s) (assigned : is_some s.
       ∙ (λ t. blanks (cond (p.right t) 0 (c.width - length bytes)) ++ bytes ++ blanks (cond (p.right t) (c.width - length bytes) 0))
       ∙ append-nil (blanks (c.width - length bytes) ++ bytes)
 
-  unpadded_width : is_integer s.shape ≡ false → is_text s.shape ≡ false → c.width ≡ 0
-  unpadded_width no_int no_text = none_padded c.width (sym (λ t. not (no_int t) && not (no_text t) && nat_lt 0 c.width) ∙ p.unpadded)
+  unpadded_width : is_number s.shape ≡ false → is_text s.shape ≡ false → c.width ≡ 0
+  unpadded_width no_number_here no_text = none_padded c.width
+      (sym (λ t. not (no_number_here t) && not (no_text t) && nat_lt 0 c.width) ∙ p.unpadded)
 
-  text_full : (bytes : List ℕ) → is_chars s.shape ≡ false → is_integer s.shape ≡ false → 0 < length bytes → length bytes ≤ width_of s
+  text_full : (bytes : List ℕ) → is_chars s.shape ≡ false → is_number s.shape ≡ false → 0 < length bytes → length bytes ≤ width_of s
       → always_full c s ≡ true → length bytes ≡ width_of s
-  text_full bytes no_chars no_int some fits full =
-      let one : eqb (width_of s) 1 ≡ true = sym (λ t. no_chars t || cond (no_int t) (eqb (length (least c)) (width_of s))
+  text_full bytes no_chars no_number_here some fits full =
+      let one : eqb (width_of s) 1 ≡ true = sym (λ t. no_chars t || cond (no_number_here t) (eqb (length (least_by s.shape c)) (width_of s))
       (eqb (width_of s) 1)) ∙ full in
       omega (arith, eqb-true (width_of s) 1 one, some, fits)
 
@@ -268,22 +254,22 @@ module _ (c : PrintConv) (s : Conversion) (p : Pairs c s) (assigned : is_some s.
   text_reads_back l e bytes fits =
       let h : (0 < length bytes) × AllByRecursion (λ b. is_white b ≡ false) bytes × (length bytes ≤ width_of s) =
       subst (λ (h : Shape). TextFits h (width_of s) bytes) e fits.1 in
-      let no_int : is_integer s.shape ≡ false = ap is_integer e in
+      let no_number_here : is_number s.shape ≡ false = ap is_number e in
       let no_chars : is_chars s.shape ≡ false = ap is_chars e in
       let width : s.width ≡ Some (width_of s) = width_is s no_chars p.width in
       record {
         before = c.width - length bytes;
         item = bytes;
-        text_is = bytes_part bytes no_int (inl l);
+        text_is = bytes_part bytes no_number_here (inl l);
         skips = subst (λ (h : Shape). SkipsSo (shape_skips h) (c.width - length bytes) bytes) (sym e) (starts_ink bytes h.0 h.1);
         takes = λ rest closed. text_takes s (width_of s) bytes rest e width h.0 h.1 h.2 (elim closed [
-          | inl full ↦ inl (text_full bytes no_chars no_int h.0 h.2 full)
+          | inl full ↦ inl (text_full bytes no_chars no_number_here h.0 h.2 full)
           | inr out ↦ inr (subst (λ (h : Shape). FirstOut (stop_set h c) rest) e out)
         ]);
         stored = text_stored s c.slot bytes (slot_is c s p assigned) e;
-        first = (first_so l e (bytes_part bytes no_int (inl l)) (padded_first c.width (c.width - length bytes) bytes
+        first = (first_so l e (bytes_part bytes no_number_here (inl l)) (padded_first c.width (c.width - length bytes) bytes
             (λ k. omega (arith, k)) (ink_first bytes h.0 h.1)));
-        first_byte = subst FirstByte (sym (bytes_part bytes no_int (inl l)))
+        first_byte = subst FirstByte (sym (bytes_part bytes no_number_here (inl l)))
             (blanks_byte (c.width - length bytes) bytes (text_byte bytes fits.0));
       }
     where
@@ -299,18 +285,18 @@ module _ (c : PrintConv) (s : Conversion) (p : Pairs c s) (assigned : is_some s.
   set_reads_back l members e bytes fits =
       let h : (0 < length bytes) × AllByRecursion (λ b. has_byte members b ≡ true) bytes × (length bytes ≤ width_of s) =
       subst (λ (h : Shape). TextFits h (width_of s) bytes) e fits.1 in
-      let no_int : is_integer s.shape ≡ false = ap is_integer e in
+      let no_number_here : is_number s.shape ≡ false = ap is_number e in
       let no_chars : is_chars s.shape ≡ false = ap is_chars e in
-      let none : c.width - length bytes ≡ 0 = omega (arith, unpadded_width no_int (ap is_text e)) in
+      let none : c.width - length bytes ≡ 0 = omega (arith, unpadded_width no_number_here (ap is_text e)) in
       let width : s.width ≡ Some (width_of s) = width_is s no_chars p.width in
-      let whole : bytes_text c bytes ≡ bytes = bytes_part bytes no_int (inl l) ∙ ap (λ (k : ℕ). blanks k ++ bytes) none in
+      let whole : bytes_text c bytes ≡ bytes = bytes_part bytes no_number_here (inl l) ∙ ap (λ (k : ℕ). blanks k ++ bytes) none in
       record {
         before = 0;
         item = bytes;
         text_is = whole;
         skips = subst (λ (h : Shape). SkipsSo (shape_skips h) 0 bytes) (sym e) refl;
         takes = λ rest closed. set_takes s members (width_of s) bytes rest e width h.0 h.1 h.2 (elim closed [
-          | inl full ↦ inl (text_full bytes no_chars no_int h.0 h.2 full)
+          | inl full ↦ inl (text_full bytes no_chars no_number_here h.0 h.2 full)
           | inr out ↦ inr (subst (λ (h : Shape). FirstOut (stop_set h c) rest) e out)
         ]);
         stored = set_stored s members c.slot bytes (slot_is c s p assigned) e;
@@ -324,11 +310,11 @@ module _ (c : PrintConv) (s : Conversion) (p : Pairs c s) (assigned : is_some s.
       → IsSome s.width → (bytes : List ℕ) → ValueFits c s (Bytes bytes) → ReadsBack c s (Bytes bytes)
   chars_reads_back l e proper sized bytes fits =
       let full : length bytes ≡ width_of s = subst (λ (h : Shape). TextFits h (width_of s) bytes) e fits.1 in
-      let no_int : is_integer s.shape ≡ false = ap is_integer e in
-      let none : c.width - length bytes ≡ 0 = omega (arith, unpadded_width no_int (ap is_text e)) in
+      let no_number_here : is_number s.shape ≡ false = ap is_number e in
+      let none : c.width - length bytes ≡ 0 = omega (arith, unpadded_width no_number_here (ap is_text e)) in
       let some_width = width_of_chars s.width proper sized in
       let some : 0 < length bytes = omega (arith, full, some_width.1) in
-      let whole : bytes_text c bytes ≡ bytes = bytes_part bytes no_int l ∙ ap (λ (k : ℕ). blanks k ++ bytes) none in
+      let whole : bytes_text c bytes ≡ bytes = bytes_part bytes no_number_here l ∙ ap (λ (k : ℕ). blanks k ++ bytes) none in
       record {
         before = 0;
         item = bytes;
@@ -354,6 +340,10 @@ no_number : (k : Kind) (z : ℤ) → is_text_kind k ≡ true → IsOfKind k z �
 no_number kind.Text z e h = no_number_of_text z h
 no_number _ z e h = cc
 
+no_number_of_double : (k : Kind) (z : ℤ) → is_double k ≡ true → IsOfKind k z → ⊥
+no_number_of_double kind.F64 z e h = cc
+no_number_of_double _ z e h = cc
+
 pub reads_back : LawsBelow → (c : PrintConv) (s : Conversion) (v : Datum) → IsProperConv c → IsProperWidth s.width
     → HasItsWidth s.shape s.width → Pairs c s → is_some s.slot ≡ true → ValueFits c s v → ReadsBack c s v
 reads_back laws c s v proper width sized p assigned fits = by c.letter s.shape refl refl p.letters v fits
@@ -362,6 +352,11 @@ reads_back laws c s v proper width sized p assigned fits = by c.letter s.shape r
         → ValueFits c s (Number k z) → ⊥
     none_of l a text k z f = no_number c.kind z (text c.kind (ap (λ (l : PrintLetter). prints_kind l c.kind) (sym a) ∙ proper.kind))
         (subst (λ (k : Kind). IsOfKind k z) f.0 f.1)
+
+    not_double : (l : PrintLetter) → c.letter ≡ l → prints_kind l kind.F64 ≡ false → (r : real.Real) → RealFits c s r → ⊥
+    not_double l a none (reals.F32 bits) f = f
+    not_double l a none (reals.F64 bits) f =
+        true≢false (sym ((λ i. prints_kind (sym a i) (sym f.0 i)) ∙ proper.kind) ∙ none)
 
     by : (l : PrintLetter) (h : Shape) → c.letter ≡ l → s.shape ≡ h → letters_pair l h ≡ true → (v : Datum) → ValueFits c s v
         → ReadsBack c s v
@@ -375,5 +370,17 @@ reads_back laws c s v proper width sized p assigned fits = by c.letter s.shape r
         (subst (λ (h : Shape). HasItsWidth h s.width) e sized) bytes f
     by letter.Text h a e pair (Number k z) f = absurd (none_of letter.Text a (λ k h. h) k z f)
     by letter.One h a e pair (Number k z) f = absurd (none_of letter.One a (λ k h. h) k z f)
-    by l h a e pair (Real r) f = absurd f
+    by (letter.Float style upper) shape.Float a e pair (Real r) f = real_reads_back laws c s style upper r a e p assigned f
+    by (letter.Float style upper) shape.Float a e pair (Number k z) f =
+        absurd (no_number_of_double c.kind z (ap (λ (l : PrintLetter). prints_kind l c.kind) (sym a) ∙ proper.kind)
+        (subst (λ (k : Kind). IsOfKind k z) f.0 f.1))
+    by (letter.Float style upper) shape.Float a e pair (Bytes bytes) f = absurd (subst (λ (h : Shape). TextFits h (width_of s) bytes) e f.1)
+    by letter.Signed h a e pair (Real r) f = absurd (not_double letter.Signed a refl r f)
+    by letter.Unsigned h a e pair (Real r) f = absurd (not_double letter.Unsigned a refl r f)
+    by letter.Octal h a e pair (Real r) f = absurd (not_double letter.Octal a refl r f)
+    by letter.HexLower h a e pair (Real r) f = absurd (not_double letter.HexLower a refl r f)
+    by letter.HexUpper h a e pair (Real r) f = absurd (not_double letter.HexUpper a refl r f)
+    by letter.Binary h a e pair (Real r) f = absurd (not_double letter.Binary a refl r f)
+    by letter.Text h a e pair (Real r) f = absurd (not_double letter.Text a refl r f)
+    by letter.One h a e pair (Real r) f = absurd (not_double letter.One a refl r f)
     by _ _ a e pair v f = absurd cc

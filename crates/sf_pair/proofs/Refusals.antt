@@ -120,7 +120,8 @@ on_here laws (directive.Conv s) (unit.Conv c ∷ unit.Byte b ∷ us) next proper
     let rest : o.rest ≡ unit.Byte b ∷ us = (let parts = o.units_are in cc) in
     let pairing = sym (ap (λ (a : PrintConv). pairing_fault a s) same) ∙ o.pairing in
     let k = closed_on c s b us (reads next) ((λ i. closing_fault (sym same i) s (sym rest i) (reads next)) ∙ o.closing) in
-    runs_into laws c s units.0 proper sized (pairs c s pairing) o.assigned k.0 b units.1.0 (met_by laws.tried b (stop_set s.shape c) k.1)
+    λ spare. runs_into laws c s units.0 proper sized (pairs c s pairing) o.assigned k.0 b units.1.0
+    (met_by laws.tried b (stop_set s.shape c) k.1) spare
 
 pub open_ends_are_open : LawsBelow → OpenEndsAreOpen
 open_ends_are_open laws us ds accepted proper f e is =

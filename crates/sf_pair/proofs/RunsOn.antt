@@ -16,7 +16,7 @@ use Rattle.sf_report.specs.Computed.{skip, len, skip_before, step_of}
 use Rattle.sf_pair.specs.Below.{LawsBelow}
 use Rattle.sf_pair.specs.Laws.{TakesToo}
 use Rattle.sf_pair.proofs.Taken.{len_is, by_shape}
-use Rattle.sf_pair.proofs.ReadBack.{SkipsSo, ReadsBack}
+use Rattle.sf_pair.proofs.Back.{SkipsSo, ReadsBack}
 use Rattle.sf_pair.proofs.Ahead.{skip_blanks}
 
 module _ (laws : LawsBelow) (c : PrintConv) (s : Conversion) (v : Datum) (proper : IsProper (Conv s)) (r : ReadsBack c s v)
@@ -27,6 +27,7 @@ module _ (laws : LawsBelow) (c : PrintConv) (s : Conversion) (v : Datum) (proper
   skipped_by : (h : Shape) → SkipsSo (shape_skips h) r.before r.item → skip_before h (value_text c v ++ b ∷ []) ≡ r.before
   skipped_by (shape.Int base) ink = ap skip whole ∙ skip_blanks r.before r.item (b ∷ []) ink
   skipped_by shape.Text ink = ap skip whole ∙ skip_blanks r.before r.item (b ∷ []) ink
+  skipped_by shape.Float ink = ap skip whole ∙ skip_blanks r.before r.item (b ∷ []) ink
   skipped_by _ none = sym none
 
   takes_bytes : (step_of (Conv s) (value_text c v ++ b ∷ []) 0).0 ≡ length (value_text c v) + 1

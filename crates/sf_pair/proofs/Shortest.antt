@@ -10,7 +10,7 @@ abbrev plus_sign : List ℕ
 plus_sign = 43 ∷ []
 
 -- the length of what is seen: h blanks that stand for a sign, a sign of v bytes, a mark of k, n digits
-abbrev size_by : Bool → ℕ → ℕ → ℕ → ℕ → ℕ → ℕ
+abbrev pub size_by : Bool → ℕ → ℕ → ℕ → ℕ → ℕ → ℕ
 size_by pads width h v k n = v + k + cond pads (width - (h + v + k + n)) 0 + n
 
 pub size_more : (pads : Bool) (w h v k n h' v' k' n' : ℕ) → h' + v' ≤ 1 → h + v ≤ 1 → v ≤ v' → h' ≤ h → k ≤ k' → n ≤ n'

@@ -10,7 +10,7 @@ use Rattle.sf_format.specs.Slots.{Slotted}
 use Rattle.sf_format.specs.Units.{values_of}
 use Rattle.sf_format.specs.Proper.{destinations_of}
 use Rattle.sf_pair.specs.Below.{LawsBelow}
-use Rattle.sf_pair.specs.Groups.{is_count, AreSpace, IsConversionGroup, IsGroup, AreCut, next_of}
+use Rattle.sf_pair.specs.Groups.{is_left_out, AreSpace, IsConversionGroup, IsGroup, AreCut, next_of}
 use Rattle.sf_pair.specs.Laws.{AlignedSlotsAgree}
 use Rattle.sf_pair.proofs.SlotRows.{row_of_printed}
 
@@ -26,9 +26,9 @@ literal_has_none group rest b e = ap (λ (g : List PrintUnit). length (values_of
 conversion_has : (s : Conversion) (ds : List Directive) (group rest : List PrintUnit) → IsGroup (directive.Conv s) group rest (next_of ds)
     → length (values_of rest) ≡ length (destinations_of ds)
     → length (values_of (group ++ rest)) ≡ length (destinations_of (directive.Conv s ∷ ds))
-conversion_has s ds group rest is more = by (is_count s.shape) s.slot is
+conversion_has s ds group rest is more = by (is_left_out s) s.slot is
   where
-    by : (count : Bool) (o : Option ℕ) → IsConversionGroup count (is_some o) s group rest (next_of ds)
+    by : (out : Bool) (o : Option ℕ) → IsConversionGroup out (is_some o) s group rest (next_of ds)
         → length (values_of (group ++ rest)) ≡ length (cons_option {X = Slotted} (elim o [ None ↦ None | Some slot ↦ Some (slot, s.kind) ])
         (destinations_of ds))
     by true o h = absurd h

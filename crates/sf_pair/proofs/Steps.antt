@@ -14,7 +14,7 @@ use Rattle.sf_format.specs.declared.unit.Unit.TheVariants as unit
 use Rattle.sf_format.specs.Units.{AreProperUnits, values_of}
 use Rattle.sf_print.specs.Text.{blanks}
 use Rattle.sf_print.specs.Printed.{printed}
-use Rattle.sf_report.specs.Steps.{StepEnd, Passes, Stores, Fails}
+use Rattle.sf_report.specs.Steps.{StepEnd, Passes, Stores, Misses, Fails}
 use Rattle.sf_report.specs.Runs.{is_conversion, is_shape_converted}
 use Rattle.sf_report.specs.Machine.{shape_skips}
 use Rattle.sf_report.specs.Computed.{skip, skip_before, byte_step, byte_choice, step_of}
@@ -24,7 +24,7 @@ use Rattle.sf_pair.specs.Groups.{IsLiteral, AreSpace, is_count, next_of}
 use Rattle.sf_pair.specs.Laws.{with_value, printed_values}
 use Rattle.sf_pair.proofs.Taken.{Takes, conversion_taken}
 use Rattle.sf_pair.proofs.TakenTexts.{suppressed_passes}
-use Rattle.sf_pair.proofs.ReadBack.{SkipsSo, ReadsBack}
+use Rattle.sf_pair.proofs.Back.{SkipsSo, ReadsBack}
 use Rattle.sf_pair.proofs.FitCut.{PairedReads, LiteralReads, GroupReads, FitCut}
 use Rattle.sf_pair.proofs.Ahead.{skip_blanks, At, at_same, at_skipped, at_unskipped, space_run, paired_text, closed_by, next_ready}
 
@@ -34,6 +34,7 @@ Gains values d Passes group rest = (length (values_of (group ++ rest)) ≡ lengt
     × (printed_values (group ++ rest) values ≡ printed_values rest values)
 Gains values d (Stores slot v) group rest = (is_conversion d ≡ true) × (length (values_of (group ++ rest)) ≡ length (values_of rest) + 1)
     × (printed_values (group ++ rest) values ≡ record { slot = slot; datum = v } ∷ printed_values rest values)
+Gains values d Misses group rest = ⊥
 Gains values d (Fails status) group rest = ⊥
 
 pub record Move (values : List Datum) (d : Directive) (group rest : List PrintUnit) (next : Option Directive) (x z : List ℕ)
@@ -93,6 +94,7 @@ module _ (laws : LawsBelow) (values : List Datum) (z : List ℕ) (ds : List Dire
       by : (h : Shape) → shape_skips h ≡ true → skip_before h x ≡ skip x
       by (shape.Int base) e = refl
       by shape.Text e = refl
+      by shape.Float e = refl
       by _ e = absurd cc
 
   no_skip_before : (s : Conversion) → shape_skips s.shape ≡ false → skip_before s.shape x ≡ 0
@@ -101,6 +103,7 @@ module _ (laws : LawsBelow) (values : List Datum) (z : List ℕ) (ds : List Dire
       by : (h : Shape) → shape_skips h ≡ false → skip_before h x ≡ 0
       by (shape.Int base) e = absurd cc
       by shape.Text e = absurd cc
+      by shape.Float e = absurd cc
       by _ e = refl
 
   -- after what is skipped stands the item

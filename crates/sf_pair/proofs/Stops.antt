@@ -79,13 +79,15 @@ module _ (w : PairWhy) (is : follows w ≡ true) where
           record { conversion = c; rest = us; units_are = refl; assigned = assigned; pairing = pairing; closing = closing ∙ ap Some same }
 
   pub unclosed : (s : Conversion) (us : List PrintUnit) (next : Option Directive) → take_conversion s us next ≡ Err w → Unclosed s us next w
-  unclosed s us next e = by (is_count s.shape) (is_some s.slot) refl e
+  unclosed s us next e = by (is_count s.shape) s.optional (is_some s.slot) refl e
     where
-      by : (count assigned : Bool) → is_some s.slot ≡ assigned → cond count (Err why.NotWritten)
-          (cond assigned (take_paired s us next) (take_literal (suppressed_by s.shape s.width) us)) ≡ Err w → Unclosed s us next w
-      by true assigned a e = absurd (no_other_err why.NotWritten w refl is e)
-      by false false a e = absurd (literal_never (suppressed_by s.shape s.width) us e)
-      by false true a e = paired_unclosed s us next a e
+      by : (count optional assigned : Bool) → is_some s.slot ≡ assigned → cond count (Err why.NotWritten) (cond optional
+          (Err why.MayBeMissing) (cond assigned (take_paired s us next) (take_literal (suppressed_by s.shape s.width) us))) ≡ Err w
+          → Unclosed s us next w
+      by true optional assigned a e = absurd (no_other_err why.NotWritten w refl is e)
+      by false true assigned a e = absurd (no_other_err why.MayBeMissing w refl is e)
+      by false false false a e = absurd (literal_never (suppressed_by s.shape s.width) us e)
+      by false false true a e = paired_unclosed s us next a e
 
 -- ---- the walk
 

@@ -4,6 +4,8 @@ use Rattle.std.specs.Prelude.{not}
 use Rattle.std.proofs.lemmas.Bool.{eqb-true}
 use Rattle.std.proofs.lemmas.Bool.Decides.{nat_tests}
 use Rattle.sf_base.specs.Data.{Datum, Number, Bytes, Real}
+use Rattle.sf_base.specs.declared.real.Real as real
+use Rattle.sf_base.specs.declared.real.Real.TheVariants as reals
 use Rattle.sf_base.specs.declared.values.Kind.{Kind}
 use Rattle.sf_base.specs.declared.values.Kind.TheVariants as kind
 use Rattle.sf_format.specs.declared.directive.Shape.{Shape}
@@ -43,6 +45,7 @@ prints_texts : (l : PrintLetter) (k : Kind) (h : Shape) (w : ℕ) (bytes : List 
     → prints_kind l k ≡ true → same_kind kind.Text k ≡ true
 prints_texts l k (shape.Int base) w bytes e fit is = absurd fit
 prints_texts l k shape.Count w bytes e fit is = absurd fit
+prints_texts l k shape.Float w bytes e fit is = absurd fit
 prints_texts letter.Text k h w bytes e fit is = text_so k is
 prints_texts letter.One k h w bytes e fit is = text_so k is
 prints_texts letter.Signed k _ w bytes e fit is = absurd cc
@@ -70,6 +73,10 @@ suits_number : (l : PrintLetter) (k : Kind) (z : ℤ) → suits l (Number k z) �
 suits_number letter.One k z = refl
 suits_number _ k z = refl
 
+suits_real : (l : PrintLetter) (r : real.Real) → suits l (Real r) ≡ true
+suits_real letter.One r = refl
+suits_real _ r = refl
+
 no_fault : (c : PrintConv) (v : Datum) → same_kind (kind_of v) c.kind ≡ true → suits c.letter v ≡ true → value_fault c v ≡ None
 no_fault c v e f =
     ap (λ (t : Bool). cond (not t) (Some (fault.WrongKind c.slot)) (cond (not (suits c.letter v)) (Some (fault.NotOneByte c.slot)) None))
@@ -79,7 +86,9 @@ no_fault c v e f =
 pub fits_unfaulted : (c : PrintConv) (s : Conversion) (v : Datum) → IsProperConv c → Pairs c s → ValueFits c s v → value_fault c v ≡ None
 fits_unfaulted c s (Number k z) proper p fit = no_fault c (Number k z) (ap (λ (k : Kind). same_kind k c.kind) fit.0 ∙ itself c.kind)
     (suits_number c.letter k z)
-fits_unfaulted c s (Real r) proper p fit = absurd fit
+fits_unfaulted c s (Real (reals.F32 bits)) proper p fit = absurd fit
+fits_unfaulted c s (Real (reals.F64 bits)) proper p fit = no_fault c (Real (reals.F64 bits))
+    (ap (λ (k : Kind). same_kind kind.F64 k) fit.0) (suits_real c.letter (reals.F64 bits))
 fits_unfaulted c s (Bytes bytes) proper p fit =
     no_fault c (Bytes bytes) (prints_texts c.letter c.kind s.shape (width_of s) bytes p.letters fit.1 proper.kind)
     (suits_so c.letter s.shape (width_of s) bytes p.letters p.single fit.1)

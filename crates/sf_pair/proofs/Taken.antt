@@ -66,6 +66,7 @@ by_shape c (shape.Int base) x n h = refl
 by_shape c shape.Text x n h = refl
 by_shape c (shape.Set members) x n h = refl
 by_shape c shape.Chars x n h = refl
+by_shape c shape.Float x n h = refl
 by_shape c shape.Count x n h = absurd cc
 
 -- the step of a conversion that takes just the text in front

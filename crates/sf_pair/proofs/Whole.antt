@@ -9,7 +9,7 @@ use Rattle.sf_format.specs.Units.{IsProperUnit, AreProperUnits, AreAccepted, val
 use Rattle.sf_format.specs.Proper.{AreProper, IsAccepted}
 use Rattle.sf_print.specs.Printed.{printed}
 use Rattle.sf_report.specs.declared.outcome.Status.TheVariants.{Done}
-use Rattle.sf_report.specs.Steps.{StepEnd, Passes, Stores, Fails}
+use Rattle.sf_report.specs.Steps.{StepEnd, Passes, Stores, Misses, Fails}
 use Rattle.sf_report.specs.Runs.{RunReport, Uses, used, IsOpen, is_conversion}
 use Rattle.sf_report.specs.Residual.{Tally, nothing_yet, with_used, counted, out_of, then_on, run_of}
 use Rattle.sf_report.specs.Computed.{step_of, part_of, ran_of}
@@ -72,6 +72,7 @@ module _ (laws : LawsBelow) (values : List Datum) where
       (sum_by-cons (λ (d : Directive). cond (is_conversion d) 1 0) d ds))
       (append_assoc t.values (record { slot = slot; datum = v } ∷ []) (printed_values rest values)
       ∙ ap (λ (vs : List Assigned). t.values ++ vs) (sym g.2))
+  gained d ds group rest t k used Misses g = absurd g
   gained d ds group rest t k used (Fails status) g = absurd g
 
   goes_on : (d : Directive) (ds : List Directive) (group rest : List PrintUnit) (at : ℕ) (t : Tally) (x z : List ℕ) (k : ℕ) (end : StepEnd)
@@ -89,6 +90,7 @@ module _ (laws : LawsBelow) (values : List Datum) where
     runs = step_on laws d ds at t x k (Stores slot v) is ∙ r.runs
         ∙ ap (out_of Done 0) (gained d ds group rest t k r.used (Stores slot v) g);
   }
+  goes_on d ds group rest at t x z k Misses is within g r = absurd g
   goes_on d ds group rest at t x z k (Fails status) is within g r = absurd g
 
   pub reads_all : (ds : List Directive) (us : List PrintUnit) (at : ℕ) (t : Tally) (x z : List ℕ) → AreProperUnits us → FitCut values ds us

@@ -1,5 +1,8 @@
 -- The laws of the crates below.
 use Rattle.sf_format.specs.Laws.{JustSlotsHaveKinds}
+use Rattle.sf_float_item.specs.Laws.{PlainFloatsParse}
+use Rattle.sf_float_item.specs.Tests.{TestsAreSequences}
+use Rattle.sf_float_value.specs.Laws.{StoredIsComputed}
 use Rattle.sf_item.specs.Laws.{FrontsCanBeTaken, ReadingsGoOn}
 use Rattle.sf_print.specs.Numeral.{AreNumerals, OnlyNumeral}
 use Rattle.sf_report.specs.Laws.{EachByteIsTried, EachHasOneReport, EachMachineSteps, EachRunIsComputed, EachRunIsTold, EachStepIsComputed, EachStepIsWithin}
@@ -8,6 +11,9 @@ pub record LawsBelow : Type 0 where
   pub kinds : JustSlotsHaveKinds
   pub numerals : AreNumerals
   pub only_numeral : OnlyNumeral
+  pub floats : TestsAreSequences
+  pub plain : PlainFloatsParse
+  pub stored : StoredIsComputed
   pub fronts : FrontsCanBeTaken
   pub parts : ReadingsGoOn
   pub steps : EachStepIsComputed

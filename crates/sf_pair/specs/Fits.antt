@@ -1,11 +1,16 @@
 -- Values that a pair carries over.
-use Rattle.std.specs.Prelude.{ℕ, ℤ, pos, negsuc, ◌≡◌, ◌<◌, ◌≤◌, ◌↔◌, Bool, true, false, ◌==◌, ◌&&◌, nat_lt, nat_le, List, [], ◌∷◌, length, Option, Some, None, unsigned_abs}
+use Rattle.std.specs.Prelude.{ℕ, ℤ, pos, negsuc, ◌≡◌, ◌<◌, ◌≤◌, ◌↔◌, Bool, true, false, ◌==◌, ◌&&◌, nat_lt, nat_le, List, [], ◌∷◌, length, Option, Some, None, unsigned_abs, from_bits}
+use Rattle.std.specs.Float.{float_is_finite}
+use Rattle.std.specs.Float.Ieee.{binary64}
 use Rattle.std.specs.List.{AllByRecursion, filter_map, list_all}
 use Rattle.std.specs.Ordering.{int_eq}
 use Rattle.sf_base.specs.Bytes.{AreBytes, is_white}
 use Rattle.sf_base.specs.Sets.{has_byte}
 use Rattle.sf_base.specs.Data.{Datum, Number, Bytes, Real, value_of}
+use Rattle.sf_base.specs.declared.real.Real as real
+use Rattle.sf_base.specs.declared.real.Real.TheVariants as reals
 use Rattle.sf_base.specs.declared.values.Kind.{Kind}
+use Rattle.sf_base.specs.declared.values.Kind.TheVariants as kind
 use Rattle.sf_format.specs.declared.unit.PrintConv.{PrintConv}
 use Rattle.sf_format.specs.declared.unit.Unit.{Unit as PrintUnit}
 use Rattle.sf_format.specs.declared.unit.Unit.TheVariants as unit
@@ -18,6 +23,8 @@ use Rattle.sf_format.specs.Units.{values_of}
 use Rattle.sf_item.specs.Tests.{is_ink}
 use Rattle.sf_print.specs.Printed.{value_at, same_kind}
 use Rattle.sf_print.specs.Visible.{visible}
+use Rattle.sf_float_value.specs.Values.{IsStored}
+use Rattle.sf_pair.specs.Reals.{seen, is_read_as}
 use Rattle.sf_pair.specs.Groups.{width_of}
 
 abbrev pub is_negative : ℤ → Bool
@@ -36,11 +43,17 @@ TextFits (shape.Set members) width bytes = (0 < length bytes) × AllByRecursion 
 TextFits shape.Chars width bytes = length bytes ≡ width
 TextFits _ width bytes = ⊥
 
--- what the conversion prints of the value, the scan's conversion can hold; no conversion prints a float yet
+-- the double is finite, and a scan stores it, bit for bit, of its text, which is no longer than the width
+abbrev pub RealFits : PrintConv → Conversion → real.Real → Type 0
+RealFits c s (reals.F32 bits) = ⊥
+RealFits c s (reals.F64 bits) = (c.kind ≡ kind.F64) × (float_is_finite (from_bits binary64 bits) ≡ true)
+    × (length (seen c (reals.F64 bits)) ≤ width_of s) × IsStored binary64 (seen c (reals.F64 bits)) (Some bits)
+
+-- what the conversion prints of the value, the scan's conversion can hold
 abbrev pub ValueFits : PrintConv → Conversion → Datum → Type 0
 ValueFits c s (Number kind z) = (kind ≡ c.kind) × IsOfKind kind z × (length (visible c z) ≤ width_of s)
 ValueFits c s (Bytes bytes) = AreBytes bytes × TextFits s.shape (width_of s) bytes
-ValueFits c s (Real r) = ⊥
+ValueFits c s (Real r) = RealFits c s r
 
 abbrev pub FitsAt : List Datum → PrintConv → Conversion → Type 0
 FitsAt values c s = (v : Datum) × (value_at values c.slot ≡ Some v) × ValueFits c s v
@@ -92,10 +105,15 @@ text_fits (shape.Set members) width bytes = is_item_of (has_byte members) width 
 text_fits shape.Chars width bytes = length bytes == width
 text_fits _ width bytes = false
 
+abbrev pub real_fits : PrintConv → Conversion → real.Real → Bool
+real_fits c s (reals.F32 bits) = false
+real_fits c s (reals.F64 bits) = same_kind c.kind kind.F64 && float_is_finite (from_bits binary64 bits)
+    && nat_le (length (seen c (reals.F64 bits))) (width_of s) && is_read_as (seen c (reals.F64 bits)) bits
+
 abbrev pub value_fits : PrintConv → Conversion → Datum → Bool
 value_fits c s (Number kind z) = same_kind kind c.kind && is_of_kind kind z && nat_le (length (visible c z)) (width_of s)
 value_fits c s (Bytes bytes) = list_all is_byte bytes && text_fits s.shape (width_of s) bytes
-value_fits c s (Real r) = false
+value_fits c s (Real r) = real_fits c s r
 
 abbrev pub fits_or_not : PrintConv → Conversion → Option Datum → Bool
 fits_or_not c s None = false

@@ -21,6 +21,7 @@ use Rattle.sf_print.specs.Text.{pads_with_zeros, least_digits}
 use Rattle.sf_pair.specs.declared.fault.PairWhy.{PairWhy}
 use Rattle.sf_pair.specs.declared.fault.PairWhy.TheVariants as why
 use Rattle.sf_print.specs.Visible.{least}
+use Rattle.sf_pair.specs.Reals.{zero_seen}
 use Rattle.sf_pair.specs.Neighbours.{Bytes, no_byte, any_byte, only, meet, first_by, reads, is_auto_base, stop_set}
 
 -- ---- one conversion of each
@@ -28,6 +29,11 @@ use Rattle.sf_pair.specs.Neighbours.{Bytes, no_byte, any_byte, only, meet, first
 abbrev pub is_integer : Shape → Bool
 is_integer (shape.Int base) = true
 is_integer _ = false
+
+abbrev pub is_number : Shape → Bool
+is_number (shape.Int base) = true
+is_number shape.Float = true
+is_number _ = false
 
 abbrev pub is_text : Shape → Bool
 is_text shape.Text = true
@@ -45,12 +51,16 @@ abbrev pub is_count : Shape → Bool
 is_count shape.Count = true
 is_count _ = false
 
+-- no pair has it: it isn't written, or it may be missing
+abbrev pub is_left_out : Conversion → Bool
+is_left_out s = is_count s.shape || s.optional
+
 abbrev pub is_one : PrintLetter → Bool
 is_one letter.One = true
 is_one _ = false
 
--- `d i` with `d i`, `u` with `u`, `o` with `o`, `x X` with `x X`, `b` with `b`, `s` with `s`, `[` or `c`, `c` with `c`;
--- the kinds distinguish `d` from `u`
+-- `d i` with `d i`, `u` with `u`, `o` with `o`, `x X` with `x X`, `b` with `b`, `s` with `s`, `[` or `c`, `c` with `c`,
+-- and each letter of a float with each; the kinds distinguish `d` from `u`, and a scan's f32 from its f64
 abbrev pub letters_pair : PrintLetter → Shape → Bool
 letters_pair letter.Signed (shape.Int Dec) = true
 letters_pair letter.Signed (shape.Int Auto) = true
@@ -64,6 +74,7 @@ letters_pair letter.Text shape.Text = true
 letters_pair letter.Text (shape.Set members) = true
 letters_pair letter.Text shape.Chars = true
 letters_pair letter.One shape.Chars = true
+letters_pair (letter.Float style upper) shape.Float = true
 letters_pair _ _ = false
 
 -- the scan's width; a conversion without one is refused
@@ -80,15 +91,20 @@ numbers_differ c s = not (unwrap_or s.slot 0 == c.slot)
 abbrev pub bad_flag : PrintConv → Conversion → Bool
 bad_flag c s = c.minus
     || (is_integer s.shape && least_digits c == 0)
-    || (not (is_integer s.shape) && is_some c.precision)
-    || (not (is_integer s.shape) && not (is_text s.shape) && nat_lt 0 c.width)
+    || (not (is_number s.shape) && is_some c.precision)
+    || (not (is_number s.shape) && not (is_text s.shape) && nat_lt 0 c.width)
     || (is_one c.letter && not (width_of s == 1))
 
 abbrev pub has_no_width : Conversion → Bool
 has_no_width s = not (is_chars s.shape) && is_none s.width
 
+-- the text of 0 without the blanks before it, the shortest that the shape reads
+abbrev pub least_by : Shape → PrintConv → List ℕ
+least_by shape.Float c = zero_seen c
+least_by _ c = least c
+
 abbrev pub too_narrow : PrintConv → Conversion → Bool
-too_narrow c s = is_integer s.shape && nat_lt (width_of s) (length (least c))
+too_narrow c s = is_number s.shape && nat_lt (width_of s) (length (least_by s.shape c))
 
 -- a zero before its digits makes a number octal
 abbrev pub leading_zero : PrintConv → Conversion → Bool
@@ -110,7 +126,7 @@ pairing_fault c s = first_reason (
 
 -- the item has as many bytes as the width, whatever the value
 abbrev pub always_full : PrintConv → Conversion → Bool
-always_full c s = is_chars s.shape || (if is_integer s.shape then length (least c) == width_of s else width_of s == 1)
+always_full c s = is_chars s.shape || (if is_number s.shape then length (least_by s.shape c) == width_of s else width_of s == 1)
 
 abbrev pub follow_fault : Bytes → List PrintUnit → Shape → Option PairWhy
 follow_fault stop [] read = Some why.OpenEnd
@@ -188,7 +204,7 @@ abbrev pub IsGroup : Directive → List PrintUnit → List PrintUnit → Option 
 IsGroup directive.Space group rest next = IsSpaceRun group rest next
 IsGroup (directive.Byte b) group rest next = IsLiteral (only b) group
 IsGroup directive.Percent group rest next = IsLiteral (only 37) group
-IsGroup (directive.Conv s) group rest next = IsConversionGroup (is_count s.shape) (is_some s.slot) s group rest next
+IsGroup (directive.Conv s) group rest next = IsConversionGroup (is_left_out s) (is_some s.slot) s group rest next
 
 abbrev pub next_of : List Directive → Option Directive
 next_of [] = None

@@ -1,5 +1,5 @@
 -- What a checked pair promises.
-use Rattle.std.specs.Prelude.{ℕ, ◌+◌, ◌≡◌, ◌<◌, ◌≤◌, List, [], ◌∷◌, ◌++◌, length, Option, Some, None, IsSome}
+use Rattle.std.specs.Prelude.{ℕ, ◌+◌, ◌≡◌, ◌<◌, ◌≤◌, false, List, [], ◌∷◌, ◌++◌, length, Option, Some, None, IsSome}
 use Rattle.std.specs.List.{filter_map, count_by}
 use Rattle.sf_base.specs.Data.{Datum, Assigned}
 use Rattle.sf_format.specs.declared.unit.Unit.{Unit as PrintUnit}
@@ -23,6 +23,7 @@ use Rattle.sf_print.specs.Text.{value_text}
 use Rattle.sf_report.specs.Steps.{StepEnd, Step}
 use Rattle.sf_pair.specs.declared.fault.PairWhy.TheVariants as why
 use Rattle.sf_pair.specs.declared.fault.PairFault.{PairFault}
+use Rattle.sf_pair.specs.Neighbours.{is_spare}
 use Rattle.sf_pair.specs.Walk.{pair_fault}
 use Rattle.sf_pair.specs.Groups.{IsGroup, IsAligned, next_of}
 use Rattle.sf_pair.specs.Fits.{Fit, ValueFits}
@@ -147,10 +148,10 @@ abbrev pub OpenEndsAreOpen : Type 0
 OpenEndsAreOpen = (us : List PrintUnit) (ds : List Directive) → AreAccepted us → IsAccepted ds → (f : PairFault) → pair_fault us ds ≡ Some f
     → f.why ≡ why.OpenEnd → IsOpenAt us ds f.at
 
--- a literal that follows a conversion is taken too, after the text of some value that fits; what else follows is left
--- out
+-- a literal that follows a conversion is taken too, after the text of some value that fits, where it isn't spare; what
+-- else follows is left out
 abbrev pub RunsInto : Directive → List PrintUnit → Type 0
-RunsInto (directive.Conv s) (unit.Conv c ∷ unit.Byte b ∷ us) = TakesInto c s b
+RunsInto (directive.Conv s) (unit.Conv c ∷ unit.Byte b ∷ us) = is_spare s.shape c b ≡ false → TakesInto c s b
 RunsInto _ us = Unit {0}
 
 -- where the walk stops, the literal that follows there, if one does, is taken too

@@ -1,4 +1,5 @@
 pub mod Below
+pub mod Reals
 pub mod Neighbours
 pub mod Groups
 pub mod Walk

@@ -2,6 +2,7 @@
 use Rattle.std.specs.Prelude.{ℕ, Bool, true, false, ◌==◌, ◌&&◌, ◌||◌, not, if◌then◌else◌, nat_lt, length, Option, Some, is_some}
 use Rattle.std.specs.Char.{is_digit}
 use Rattle.sf_base.specs.Sets.{has_byte}
+use Rattle.sf_format.specs.declared.unit.FloatStyle.TheVariants as style
 use Rattle.sf_format.specs.declared.unit.PrintLetter.{PrintLetter}
 use Rattle.sf_format.specs.declared.unit.PrintLetter.TheVariants as letter
 use Rattle.sf_format.specs.declared.unit.PrintConv.{PrintConv}
@@ -18,6 +19,7 @@ use Rattle.sf_item.specs.Tests.{is_ink}
 use Rattle.sf_print.specs.Text.{base_of, pads_with_zeros}
 use Rattle.sf_report.specs.Machine.{some_below}
 use Rattle.sf_print.specs.Visible.{least}
+use Rattle.sf_pair.specs.Reals.{has_point}
 
 -- a set of bytes is the test of its members
 abbrev pub Bytes : Type 0
@@ -77,7 +79,7 @@ one_first _ = no_byte
 abbrev pub first_by_letter : PrintLetter → PrintConv → Shape → Bytes
 first_by_letter letter.Text c read = text_first c read
 first_by_letter letter.One c read = one_first read
-first_by_letter (letter.Float style upper) c read = float_first c
+first_by_letter (letter.Float kind upper) c read = float_first c
 first_by_letter _ c read = integer_first c
 
 -- the shape of the next directive, where that is an assigned conversion; Count, which reads nothing, where it isn't
@@ -110,9 +112,38 @@ is_auto_base _ = false
 abbrev pub integer_stops : Base → Bool → Bytes
 integer_stops base lone b = ((lone || is_auto_base base) && prefix_letters base b) || is_digit b (first_radix base)
 
+abbrev pub is_prefix_letter : Bytes
+is_prefix_letter = or (only 120) (only 88)
+
+-- after an exponent a digit; after a fraction also the letter of an exponent; after whole digits also a point, and the letter of a prefix,
+-- since they may be a 0 alone
+abbrev pub exponent_stops : Bytes
+exponent_stops = digits_in 10
+
+abbrev pub fraction_stops : Bytes
+fraction_stops = or exponent_stops (or (only 101) (only 69))
+
+abbrev pub whole_stops : Bytes
+whole_stops = or fraction_stops (or (only 46) is_prefix_letter)
+
+-- a float goes on by what its text may end with
+abbrev pub float_stops : PrintLetter → PrintConv → Bytes
+float_stops (letter.Float style.Exponent upper) c = exponent_stops
+float_stops (letter.Float style.Hexadecimal upper) c = exponent_stops
+float_stops (letter.Float style.Fixed upper) c = if has_point c then fraction_stops else whole_stops
+float_stops (letter.Float style.General upper) c = whole_stops
+float_stops _ c = no_byte
+
+-- a byte of a float's stop set that would go on with none of its texts: with `#` a point and the letter of a prefix, and that letter where
+-- zeros fill a width
+abbrev pub is_spare : Shape → PrintConv → Bytes
+is_spare shape.Float c b = (c.alt && (b == 46 || is_prefix_letter b)) || (c.zero && nat_lt 0 c.width && is_prefix_letter b)
+is_spare _ c b = false
+
 -- the bytes that an item of the shape would take after the conversion's text
 abbrev pub stop_set : Shape → PrintConv → Bytes
 stop_set (shape.Int base) c = integer_stops base (length (least c) == 1)
 stop_set shape.Text c = is_ink
 stop_set (shape.Set members) c = has_byte members
+stop_set shape.Float c = float_stops c.letter c
 stop_set _ c = no_byte

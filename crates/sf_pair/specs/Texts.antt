@@ -18,6 +18,7 @@ why_text why.LeadingZero = codes "Q8 LeadingZero"
 why_text why.NotWritten = codes "Q9 NotWritten"
 why_text why.BadFlagHere = codes "Q10 BadFlagHere"
 why_text why.NoValues = codes "Q11 NoValues"
+why_text why.MayBeMissing = codes "Q13 MayBeMissing"
 
 -- and the number of the directive, in decimal digits
 abbrev pub fault_text : PairFault → List ℕ

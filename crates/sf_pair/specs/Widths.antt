@@ -1,5 +1,5 @@
 -- How wide a scan has to be for each number that a conversion prints.
-use Rattle.std.specs.Prelude.{ℕ, suc, ℤ, pos, negsuc, ◌≡◌, ◌≤◌, ◌<◌, ◌^◌, length, unsigned_abs}
+use Rattle.std.specs.Prelude.{ℕ, ℤ, pos, negsuc, ◌≡◌, ◌≤◌, ◌<◌, ◌^◌, length, unsigned_abs}
 use Rattle.sf_base.specs.Data.{Datum, Number, IsIn}
 use Rattle.sf_base.specs.declared.values.Kind.{Kind}
 use Rattle.sf_format.specs.declared.unit.PrintConv.{PrintConv}

@@ -1,6 +1,8 @@
 //! The laws of the crates below, in one place.
 ghost use Rattle.sf_pair.specs.Below.{LawsBelow};
 
+use sf_float_item::laws::{plain_floats_parse, tests_are_sequences};
+use sf_float_value::laws::stored_is_computed;
 use sf_format::laws::slots_have_kinds;
 use sf_item::laws::fronts_go_on;
 use sf_print::laws::{are_numerals, only_numeral};
@@ -13,6 +15,9 @@ pub(crate) fn laws_below()
     slots_have_kinds();
     are_numerals();
     only_numeral();
+    tests_are_sequences();
+    plain_floats_parse();
+    stored_is_computed();
     fronts_go_on();
     steps_are_computed();
     runs_are_computed();

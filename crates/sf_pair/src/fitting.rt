@@ -9,6 +9,7 @@ ghost use Rattle.sf_pair.specs.Groups.{width_of};
 ghost use Rattle.sf_pair.specs.Fits.{is_byte, is_item_of, text_fits, value_fits, fits_or_not, all_fit, conversions, assigned_conversions, assigned_by, fits};
 
 use crate::pairing::width_of;
+use crate::reals::double_fits;
 use sf_base::{ByteSet, Value, is_space};
 use sf_format::{Conversion, Directive, PrintConv, Shape, Unit};
 use sf_print::{core_len, value_of_slot};
@@ -53,7 +54,7 @@ pub(crate) fn text_fits(read: &Shape, width: u32, bytes: &[u8]) -> bool
         Shape::Text => is_between(bytes, width) && has_no_space(bytes),
         Shape::Set(members) => is_between(bytes, width) && are_members(members, bytes),
         Shape::Chars => bytes.len() == width as usize,
-        Shape::Int(_) | Shape::Count => false,
+        Shape::Int(_) | Shape::Float | Shape::Count => false,
     }
 }
 
@@ -63,7 +64,8 @@ fn value_fits(conv: &PrintConv, scan: &Conversion, value: Value<'_>) -> bool
 {
     match value {
         Value::Text(bytes) => text_fits(&scan.shape, width_of(scan), bytes),
-        Value::F32(_) | Value::F64(_) => false,
+        Value::F32(_) => false,
+        Value::F64(bits) => double_fits(conv, scan, bits),
         number => number.kind() == conv.kind && core_len(conv, number) <= width_of(scan),
     }
 }

@@ -9,7 +9,8 @@ ghost use Rattle.sf_pair.specs.Fits.{value_fits, fits_or_not, all_fit, conversio
 use crate::as_shown::AsShown;
 use crate::fitting::{assigned, text_fits};
 use crate::pairing::width_of;
-use sf_base::Shown;
+use crate::reals::double_is_read;
+use sf_base::{Real, Shown};
 use sf_format::{Conversion, Directive, PrintConv, Unit};
 use sf_print::{visible_len, write_value};
 
@@ -38,7 +39,8 @@ fn text_is_read(conv: &PrintConv, scan: &Conversion, value: Shown<'_>, text: &[u
         Shown::Number(number) => {
             number.kind == conv.kind && visible_len(text) <= width_of(scan) as usize
         }
-        Shown::Real(_) => false,
+        Shown::Real(Real::F32(_)) => false,
+        Shown::Real(Real::F64(bits)) => double_is_read(conv, scan, bits, text),
     }
 }
 

@@ -17,7 +17,9 @@ pub fn aligned_is_accepted()
 #[tactic(auto, using(crate::proofs::FitTests::fits_is_fit))]
 pub fn fits_is_fit()
     ensures { FitsIsFit }
-{}
+{
+    laws_below();
+}
 
 /// What a print format prints of values that fit, an aligned scan format reads back, whatever follows.
 pub fn round_trip()

@@ -10,6 +10,7 @@ pub mod laws;
 mod neighbours;
 mod pair;
 mod pairing;
+mod reals;
 mod walk;
 mod widths;
 

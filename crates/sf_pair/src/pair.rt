@@ -93,6 +93,7 @@ impl<'f> Pair<'f> {
         ensures fits { IsTrue result ↔ Fit self.now.print self.now.scan (map datum_of values.now) }
         ensures test { result ≡ fits self.now.print self.now.scan (map datum_of values.now) }
     {
+        laws_below();
         let count = self.print.values();
         values.len() == count as usize
             && all_fit(self.print.directives(), self.scan.directives(), values)
@@ -110,6 +111,7 @@ impl<'f> Pair<'f> {
         ensures answers { Fit self.now.print self.now.scan (map V.datum values.now)
             → length (printed self.now.print (map V.datum values.now)) + 21 ≤ length buf.old → IsSome result }
     {
+        laws_below();
         if values.len() != self.print.values() as usize {
             return None;
         }

@@ -4,10 +4,11 @@ ghost use Rattle.sf_print.specs.Printed.{same_kind};
 ghost use Rattle.sf_print.specs.Text.{pads_with_zeros, least_digits};
 ghost use Rattle.sf_print.specs.Visible.{least};
 ghost use Rattle.sf_pair.specs.Neighbours.{meet, first_by, stop_set};
-ghost use Rattle.sf_pair.specs.Groups.{is_integer, is_text, is_chars, is_auto, letters_pair, width_of, kinds_differ, numbers_differ, bad_flag, has_no_width, too_narrow, leading_zero, pairing_fault, always_full, closing_fault};
+ghost use Rattle.sf_pair.specs.Groups.{is_integer, is_number, is_text, is_chars, is_auto, letters_pair, width_of, kinds_differ, numbers_differ, bad_flag, has_no_width, too_narrow, leading_zero, pairing_fault, always_full, closing_fault};
 
 use crate::fault::PairWhy;
 use crate::neighbours::{goes_on, is_auto_base, may_begin, pads_with_zeros};
+use crate::reals::zero_len;
 use sf_base::{Rule, first_fault};
 use sf_format::{Base, Conversion, PrintConv, PrintLetter, Shape, Unit};
 use sf_print::least_len;
@@ -17,6 +18,12 @@ fn is_integer(read: &Shape) -> bool
     ensures { result ≡ is_integer read.now }
 {
     matches!(read, Shape::Int(_))
+}
+
+fn is_number(read: &Shape) -> bool
+    ensures { result ≡ is_number read.now }
+{
+    matches!(read, Shape::Int(_) | Shape::Float)
 }
 
 fn is_text(read: &Shape) -> bool
@@ -51,13 +58,15 @@ fn letters_pair(letter: PrintLetter, read: &Shape) -> bool
         (PrintLetter::Binary, Shape::Int(Base::Bin)) => true,
         (PrintLetter::Text, Shape::Text | Shape::Set(_) | Shape::Chars) => true,
         (PrintLetter::One, Shape::Chars) => true,
+        (PrintLetter::Float(..), Shape::Float) => true,
         _ => false,
     }
 }
 
 /// The scan's width, 1 where it has none.
 pub(crate) fn width_of(scan: &Conversion) -> u32
-    ensures { result ≡ width_of scan.now }
+    ensures value { result ≡ width_of scan.now }
+    ensures short { result ≤ 65535 }
 {
     match scan.width {
         Some(width) => width as u32,
@@ -90,11 +99,11 @@ fn numbers_differ(conv: &PrintConv, scan: &Conversion) -> bool
 fn bad_flag(conv: &PrintConv, scan: &Conversion) -> bool
     ensures { result ≡ bad_flag conv.now scan.now }
 {
-    let integer = is_integer(&scan.shape);
+    let number = is_number(&scan.shape);
     conv.minus
-        || (integer && least_digits(conv) == 0)
-        || (!integer && conv.precision.is_some())
-        || (!integer && !is_text(&scan.shape) && conv.width > 0)
+        || (is_integer(&scan.shape) && least_digits(conv) == 0)
+        || (!number && conv.precision.is_some())
+        || (!number && !is_text(&scan.shape) && conv.width > 0)
         || (conv.letter == PrintLetter::One && width_of(scan) != 1)
 }
 
@@ -107,7 +116,11 @@ fn has_no_width(scan: &Conversion) -> bool
 fn too_narrow(conv: &PrintConv, scan: &Conversion) -> bool
     ensures { result ≡ too_narrow conv.now scan.now }
 {
-    is_integer(&scan.shape) && least_len(conv) > width_of(scan)
+    match &scan.shape {
+        Shape::Int(_) => least_len(conv) > width_of(scan),
+        Shape::Float => zero_len(conv) > width_of(scan),
+        _ => false,
+    }
 }
 
 fn leading_zero(conv: &PrintConv, scan: &Conversion) -> bool
@@ -155,10 +168,10 @@ fn always_full(conv: &PrintConv, scan: &Conversion) -> bool
     if is_chars(&scan.shape) {
         return true;
     }
-    let least = if is_integer(&scan.shape) {
-        least_len(conv)
-    } else {
-        1
+    let least = match &scan.shape {
+        Shape::Int(_) => least_len(conv),
+        Shape::Float => zero_len(conv),
+        _ => 1,
     };
     least == width_of(scan)
 }
@@ -170,7 +183,7 @@ fn runs_on(conv: &PrintConv, read: &Shape, follower: &Unit, next: &Shape) -> boo
     let lone = least_len(conv) == 1;
     for k in 0..256u16 {
         let b = k as u8;
-        if may_begin(follower, next, b) && goes_on(read, lone, b) {
+        if may_begin(follower, next, b) && goes_on(conv, read, lone, b) {
             bytes_are_tried();
             return true;
         }

@@ -164,6 +164,8 @@ fn take_group<'a>(
         Directive::Conv(scan) => {
             if matches!(scan.shape, Shape::Count) {
                 Err(PairWhy::NotWritten)
+            } else if scan.optional {
+                Err(PairWhy::MayBeMissing)
             } else if scan.slot.is_some() {
                 take_paired(scan, units, next)
             } else {

@@ -167,7 +167,8 @@ module _ (laws : PairLaws) (nothing : AlignedEndsOnNothing) (one : EachHasOneRep
       (run.scan (printed us values ++ z) input) (run.bounded (bounded_by laws us ds checked)) input run.waited (inl (fine sound)) in
       let count : length values ≡ length (destinations_of ds) =
       (laws.slots us ds checked.printed checked.scanned aligned values fit).count in
-      gives_by to_come kinds listed new us ds result values z run.report run.answers back.report_is back.row back.left (shape.0 ∙ sym count)
+      let same : length kinds ≡ length values = shape.count ∙ sym count in
+      gives_by to_come kinds listed new us ds result values z run.report run.answers back.report_is back.row back.left same
 
   ends_rows : failures new.source ≡ 0 → input_of to_come now ≡ Some [] → EndsRows to_come new result
   ends_rows sound input =

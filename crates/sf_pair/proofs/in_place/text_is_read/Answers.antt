@@ -10,6 +10,6 @@ returns-in-Text c =
     let b = c.in-Text.bytes.now in
     let s = c.args.scan.now in
     c.text_fits.ensures.fits
-    ∙ ap (λ (w : ℕ). text_fits s.shape w b) c.width_of.ensures
+    ∙ ap (λ (w : ℕ). text_fits s.shape w b) c.width_of.ensures.value
     ∙ sym (ap (λ (t : Bool). t && text_fits s.shape (width_of s) b) c.text_fits.ensures.bytes)
     ∙ ap (λ (v : Shown). value_fits c.args.conv.now s (datum_of_shown v)) (sym c.in-Text.is)

@@ -1,4 +1,4 @@
-use Rattle.std.proofs.Common.{nat_eq, ℕ, sym, ap, ◌∙◌, arith}
+use Rattle.std.proofs.Common.{sym, ◌∙◌, arith}
 use Rattle.sf_pair.specs.Neighbours.{first_by, stop_set}
 use Rattle.sf_pair.proofs.Meets.{meet_at, no_meet}
 use Rattle.sf_pair.proofs.pairing.runs_on.Goals as goal
@@ -6,8 +6,7 @@ use Rattle.sf_pair.proofs.pairing.runs_on.Goals as goal
 pub returns-then-goes_on : goal.returns-then-goes_on
 returns-then-goes_on c = meet_at c.bytes_are_tried.ensures (first_by c.args.follower.now c.args.next.now)
     (stop_set c.args.read.now c.args.conv.now) c.loop-k.k (omega (arith, c.loop-k-test.true))
-    (sym c.may_begin.ensures ∙ c.if-may_begin.true) (sym (c.goes_on.ensures c.args.conv.now
-    (ap (λ (n : ℕ). nat_eq n 1) c.least_len-lone.ensures)) ∙ c.if-goes_on.true)
+    (sym c.may_begin.ensures ∙ c.if-may_begin.true) (sym c.goes_on.ensures ∙ c.if-goes_on.true)
 
 pub returns : goal.returns
 returns c = no_meet (first_by c.args.follower.now c.args.next.now) (stop_set c.args.read.now c.args.conv.now) c.loop-k.k
