@@ -13,16 +13,17 @@ abbrev pub is_wide_after_l : ℕ → Bool
 is_wide_after_l b = nat_eq b 99 || (nat_eq b 115 || nat_eq b 91)
 
 -- what C or POSIX has at this byte of a format, and sf has not: at p pointers; at C, S, and where l stands before c, s or [, wide
--- characters; at m memory; at * a value for a width; at ' groups of digits; at n a count; at every other floating point
+-- characters; at L long double; at m memory; at * a value for a width; at ' groups of digits; at n a count; at every other floating point
 abbrev pub left_out_sentence : ℕ → List ℕ
 left_out_sentence b =
     if nat_eq b 112 then codes "pointers are not part of sf"
     else if nat_eq b 67 || (nat_eq b 83 || is_wide_after_l b) then codes "wide characters are not part of sf"
+    else if nat_eq b 76 then codes "long double is not part of sf"
     else if nat_eq b 109 then codes "memory of the scan's own is not part of sf"
     else if nat_eq b 42 then codes "a width or a precision among the values is not part of sf; of two formats the print format comes first"
     else if nat_eq b 39 then codes "groups of digits are not part of sf"
     else if nat_eq b 110 then codes "a count is not part of sf's print formats; of two formats the print format comes first"
-    else codes "floating point is left out of profiles 1 and 2; print formats have it by --profile 3"
+    else codes "floating point is left out of profiles 1 and 2; formats have it by --profile 3"
 
 -- ---- a byte that is no letter of a conversion
 
@@ -45,11 +46,12 @@ abbrev pub is_flag : ℕ → Bool
 is_flag b = nat_eq b 45 || (nat_eq b 43 || (nat_eq b 32 || nat_eq b 35))
 
 -- what has this byte in the other format, by the bytes after it: `.` (46) a precision, which C has before a letter of floating
--- point too; `[` (91) a set; and flags
+-- point too; `?` (63) what may be missing; `[` (91) a set; and flags
 abbrev pub unknown_sentence : ℕ → List ℕ → List ℕ
 unknown_sentence b rest =
-    if nat_eq b 46 && is_float_after rest then codes "floating point is left out of profiles 1 and 2; print formats have it by --profile 3"
+    if nat_eq b 46 && is_float_after rest then codes "floating point is left out of profiles 1 and 2; formats have it by --profile 3"
     else if nat_eq b 46 then codes "a precision stands in a print format alone; of two formats the print format comes first"
+    else if nat_eq b 63 then codes "what may be missing is marked so in a scan format, by --profile 3"
     else if nat_eq b 91 then codes "a set stands in a scan format alone; of two formats the print format comes first"
     else if is_flag b then codes "a flag stands first in a conversion, and in a print format alone; of two formats the print format comes first"
     else codes "no conversion of this profile is written so; %% stands for a percent sign"
@@ -94,6 +96,7 @@ pair_sentence why.RunsOn = codes "what is written next could be read by this dir
 pair_sentence why.OpenEnd = codes "nothing is written after this, so what follows could be read as more of it: end the print format with \\n and the scan format with %*1[\\n]"
 pair_sentence why.LeadingZero = codes "%i reads a leading zero as octal"
 pair_sentence why.NotWritten = codes "nothing is written for %n"
+pair_sentence why.MayBeMissing = codes "what may be missing is not written: leave out the ?"
 pair_sentence why.BadFlagHere = codes "what this flag, width or precision writes is not read back"
 pair_sentence why.NoValues = codes "a pair has at least one value"
 

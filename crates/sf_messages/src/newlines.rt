@@ -50,7 +50,7 @@ fn takes_newline(directives: &[Directive]) -> bool
         [Directive::Conv(Conversion { shape, .. }), ..] => match shape {
             Shape::Set(members) => members.contains(b'\n'),
             Shape::Chars => true,
-            Shape::Int(_) | Shape::Text | Shape::Count => false,
+            Shape::Int(_) | Shape::Text | Shape::Float | Shape::Count => false,
         },
         _ => false,
     }

@@ -41,6 +41,7 @@ fn left_out_sentence(b: u8) -> &'static str
     match b {
         b'p' => "pointers are not part of sf",
         b'C' | b'S' | b'c' | b's' | b'[' => "wide characters are not part of sf",
+        b'L' => "long double is not part of sf",
         b'm' => "memory of the scan's own is not part of sf",
         b'*' => {
             "a width or a precision among the values is not part of sf; of two formats the print format comes first"
@@ -49,7 +50,7 @@ fn left_out_sentence(b: u8) -> &'static str
         b'n' => {
             "a count is not part of sf's print formats; of two formats the print format comes first"
         }
-        _ => "floating point is left out of profiles 1 and 2; print formats have it by --profile 3",
+        _ => "floating point is left out of profiles 1 and 2; formats have it by --profile 3",
     }
 }
 
@@ -84,10 +85,11 @@ fn unknown_sentence(b: u8, rest: &[u8]) -> &'static str
 {
     match b {
         b'.' if is_float_after(rest) =>
-            "floating point is left out of profiles 1 and 2; print formats have it by --profile 3",
+            "floating point is left out of profiles 1 and 2; formats have it by --profile 3",
         b'.' => {
             "a precision stands in a print format alone; of two formats the print format comes first"
         }
+        b'?' => "what may be missing is marked so in a scan format, by --profile 3",
         b'[' => "a set stands in a scan format alone; of two formats the print format comes first",
         b'-' | b'+' | b' ' | b'#' => {
             "a flag stands first in a conversion, and in a print format alone; of two formats the print format comes first"
@@ -229,6 +231,7 @@ pub(crate) fn pair_sentence(why: PairWhy) -> &'static str
             "nothing is written after this, so what follows could be read as more of it: end the print format with \\n and the scan format with %*1[\\n]",
         PairWhy::LeadingZero => "%i reads a leading zero as octal",
         PairWhy::NotWritten => "nothing is written for %n",
+        PairWhy::MayBeMissing => "what may be missing is not written: leave out the ?",
         PairWhy::BadFlagHere => "what this flag, width or precision writes is not read back",
         PairWhy::NoValues => "a pair has at least one value",
     }

@@ -98,7 +98,7 @@ static OPTIONS: [CommandOption; 19] = [
             default: Some("1"),
         },
         of: OptionOf::All,
-        help: "The formats that are read: 1 those of C, 2 base 2 too, 3 printed floats too",
+        help: "The formats that are read: 1 those of C, 2 base 2 too, 3 floats too",
     },
     CommandOption {
         name: "explain",

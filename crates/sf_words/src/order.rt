@@ -27,7 +27,7 @@ pub enum Profile {
     One,
     /// The same, with base 2.
     Two,
-    /// That of `Two`, with floats in print formats.
+    /// That of `Two`, with floats, and what may be missing.
     Three,
 }
 
