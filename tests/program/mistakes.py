@@ -17,19 +17,19 @@ import program
 FORMATS = (
     (r"scan %f", """
 sf: scan format: F5 LeftOut at 1
-  %f: floating point is left out of profiles 1 and 2; print formats have it by --profile 3
+  %f: floating point is left out of profiles 1 and 2; formats have it by --profile 3
   "%f"
     ^
 """),
     (r"scan '%s %5.2f'", """
 sf: scan format: F4 UnknownLetter at 5
-  ".": floating point is left out of profiles 1 and 2; print formats have it by --profile 3
+  ".": floating point is left out of profiles 1 and 2; formats have it by --profile 3
   "%s %5.2f"
         ^
 """),
     (r"print %5.2f 1.5", """
 sf: print format: F5 LeftOut at 4
-  %f: floating point is left out of profiles 1 and 2; print formats have it by --profile 3
+  %f: floating point is left out of profiles 1 and 2; formats have it by --profile 3
   "%5.2f"
        ^
 """),
