@@ -241,12 +241,14 @@ fn floats_are_refused_by_their_kind(rt: HostRuntime) -> Result<(), Fail> {
 }
 
 #[test]
-fn profile_three_scans_as_profile_two(rt: HostRuntime) -> Result<(), Fail> {
+fn profile_three_scans_floats(rt: HostRuntime) -> Result<(), Fail> {
     let binary = ScanFormat::parse(rt.alloc(), Profile::Three, b"%b")?;
     is(&binary.kind(1), &Some(Kind::U32), &"%b")?;
-    match ScanFormat::parse(rt.alloc(), Profile::Three, b"%f") {
+    let float = ScanFormat::parse(rt.alloc(), Profile::Three, b"%f")?;
+    is(&float.kind(1), &Some(Kind::F32), &"%f")?;
+    match ScanFormat::parse(rt.alloc(), Profile::Three, b"%Lf") {
         Ok(_) => Err(Fail::new("a format")),
-        Err(FormatFault { at, why }) => is(&(at, why), &(1, FormatWhy::LeftOut), &"%f"),
+        Err(FormatFault { at, why }) => is(&(at, why), &(1, FormatWhy::LeftOut), &"%Lf"),
     }
 }
 
