@@ -8,8 +8,8 @@ import struct
 
 import program
 from answers import difference
-from floats import finite_double, printed_by_c
-from floats import number_of as float_of
+from float_texts import finite_double, printed_by_c
+from float_texts import number_of as float_of
 
 DIGITS, SPACES, ALL = set(b"0123456789"), set(b" \t\n\v\f\r"), set(range(256))
 HEXADECIMAL = DIGITS | set(b"abcdefABCDEF")

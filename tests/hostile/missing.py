@@ -9,7 +9,7 @@ import re
 import struct
 
 import program
-from floats import MATCH as FLOAT, FRONT as FLOAT_FRONT, number_of
+from float_texts import MATCH as FLOAT, FRONT as FLOAT_FRONT, number_of
 
 SPACE = b" \t\n\v\f\r"
 KINDS = {"hh": 8, "h": 16, "": 32, "l": 64, "ll": 64, "j": 64, "z": 64, "t": 64}
