@@ -234,9 +234,13 @@ impl ScanFormat {
     }
 
     /// Whether the destination with the slot has a `?`: a run may leave it without a value.
+    #[inline(always)]
     pub fn may_miss(&self, slot: u8) -> bool
         ensures { result ≡ may_miss slot self.now }
     {
+        if !self.optional {
+            return false;
+        }
         may_miss(self.directives(), slot)
     }
 

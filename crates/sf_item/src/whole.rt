@@ -23,6 +23,9 @@ const SURE_DECIMAL: usize = 19;
 /// The most hexadecimal ones.
 const SURE_HEX: usize = 16;
 
+/// The most decimal digits of a number of 32 bits.
+const DIGITS_OF_32_BITS: usize = 10;
+
 /// How many bytes of a text are looked at at once.
 const SIGHT: u16 = 16;
 
@@ -198,6 +201,30 @@ fn longer_decimal(digits: &[u8], piece: &[u8], first: usize, before: u64) -> Opt
     Some((number, count))
 }
 
+/// As `decimal_number`, where the first eight bytes are digits; None where more than two others follow them. It is a loop
+/// whose length is known, so that a number of 32 bits takes no call.
+#[inline(always)]
+fn short_decimal(digits: &[u8], piece: &[u8], before: u64) -> Option<(u64, usize)>
+    requires front { digits.now ≡ take (length digits.now) piece.now }
+    requires eight { LANES ≤ length digits.now }
+    requires read { ReadsIn 10 0 (take LANES piece.now) before }
+    requires small { before < 10 ^ LANES }
+    ensures { IfSome result (λ r. DigitsOf 10 digits.now r.1 r.0) }
+{
+    let mut number = before;
+    for i in LANES..DIGITS_OF_32_BITS + 1 {
+        if i == digits.len() {
+            return Some((number, i));
+        }
+        let b = piece[i];
+        if b < b'0' || b > b'9' {
+            return Some((number, i));
+        }
+        number = number * 10 + (b - b'0') as u64;
+    }
+    None
+}
+
 /// As `long_number`, for the decimal digits that the piece begins with. The piece may go on after them.
 #[inline(always)]
 fn decimal_number(digits: &[u8], piece: &[u8]) -> Option<(u64, usize)>
@@ -207,6 +234,11 @@ fn decimal_number(digits: &[u8], piece: &[u8]) -> Option<(u64, usize)>
     let (number, first) = first_digits(piece, digits.len());
     if 0 < first && first < LANES {
         return Some((number, first));
+    }
+    if first == LANES {
+        if let Some(read) = short_decimal(digits, piece, number) {
+            return Some(read);
+        }
     }
     longer_decimal(digits, piece, first, number)
 }
