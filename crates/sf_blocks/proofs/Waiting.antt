@@ -1,7 +1,9 @@
 -- The bytes of a block that wait for a writer.
-use Rattle.std.proofs.Common.{◌≡◌, ℕ, ◌+◌, ◌-◌, ◌≤◌, List, [], ◌++◌, length, take, drop, ap, sym, ◌∙◌, arith, append_assoc, append-nil, Option, Some, None}
+use Rattle.std.proofs.Common.{◌≡◌, ℕ, ◌+◌, ◌-◌, ◌≤◌, List, [], ◌++◌, length, take, drop, ap, sym, ◌∙◌, arith, append_assoc, append-nil, Option, Some, None, IfSome, refl}
 use Rattle.std.specs.List.{slice_range}
-use Rattle.std.proofs.lemmas.List.{length-append, take-append-drop, drop-take, drop-drop, drop-append-le, length-take-le, length-drop}
+use Rattle.std.proofs.lemmas.List.{length-append, take-append-drop, drop-take, drop-drop, drop-append-le, length-take-le, length-drop, take-take}
+use Rattle.std.proofs.lemmas.Slice.{take-put_mid}
+use borrow.Rule.Slice.PartMut.{put_mid}
 use Rattle.std.proofs.Math.Seq.{take-append-add, take-append_seam}
 use Rattle.std.specs.Io.KnownBytes.{Appends, Keeps, append_known}
 
@@ -24,6 +26,45 @@ waits_behind block bytes start end s e =
     {y = length (slice_range block start end) + length bytes} (omega arith)
     ∙ take-append-add (slice_range block start end) (bytes ++ rest) (length bytes)
     ∙ ap (λ (t : List ℕ). slice_range block start end ++ t) (take-append_seam bytes rest)
+
+-- What waits in a block, by the front of the block.
+waits_in_front : (block : List ℕ) (start end : ℕ) → start ≤ end → slice_range block start end ≡ drop start (take end block)
+waits_in_front block start end s =
+    sym (ap (λ (n : ℕ). drop start (take n block)) {x = end} {y = start + (end - start)} (omega arith) ∙ drop-take start (end - start) block)
+
+-- Bytes that were written after the waiting ones wait after them.
+pub waits_after : (block new bytes : List ℕ) (start end len : ℕ) → start ≤ end → end ≤ length block
+    → take (end + len) new ≡ take end block ++ bytes → slice_range new start (end + len) ≡ slice_range block start end ++ bytes
+waits_after block new bytes start end len s e written =
+    let whole = length-take-le end block e in
+    waits_in_front new start (end + len) (omega arith) ∙ ap (drop start) written
+    ∙ drop-append-le start (take end block) bytes (omega arith)
+    ∙ ap (λ (t : List ℕ). t ++ bytes) (sym (waits_in_front block start end s))
+
+-- Where the front of the block is as before, the same bytes wait.
+pub waits_still : (block new : List ℕ) (start end : ℕ) → start ≤ end → take end new ≡ take end block
+    → slice_range new start end ≡ slice_range block start end
+waits_still block new start end s same =
+    waits_in_front new start end s ∙ ap (drop start) same ∙ sym (waits_in_front block start end s)
+
+-- how many bytes were written there
+pub written_length : (block new bytes : List ℕ) (end len : ℕ) → end ≤ length block → end + len ≤ length new
+    → take (end + len) new ≡ take end block ++ bytes → length bytes ≡ len
+written_length block new bytes end len e fits written =
+    omega (arith, ap length written, length-append (take end block) bytes, length-take-le end block e, length-take-le (end + len) new fits)
+
+-- A text that was written into what follows a front of the block.
+pub written_after : (block room text : List ℕ) (end : ℕ) (r : Option ℕ) → end ≤ length block → IfSome r (λ len. len ≤ length room)
+    → IfSome r (λ len. take len room ≡ text)
+    → IfSome r (λ len. take (end + len) (put_mid end (length block - end) block room) ≡ take end block ++ text)
+written_after block room text end None e within written = tt
+written_after block room text end (Some len) e within written =
+    let whole = length-take-le end block e in
+    let all : List ℕ = put_mid end (length block - end) block room in
+    sym (take-take (end + len) (end + length room) all (omega (arith, within)))
+    ∙ ap (take (end + len)) (take-put_mid end (length block - end) block room (end + length room) refl e)
+    ∙ ap (λ (n : ℕ). take n (take end block ++ room)) {x = end + len} {y = length (take end block) + len} (omega arith)
+    ∙ take-append-add (take end block) room len ∙ ap (λ (t : List ℕ). take end block ++ t) written
 
 -- Where the writer took the first n of the waiting bytes, the others wait.
 pub others_wait : (block : List ℕ) (start end n : ℕ) → start ≤ end → end ≤ length block → n ≤ length (slice_range block start end)

@@ -1,11 +1,11 @@
 //! A writer with a block of bytes in front of it.
-ghost use Rattle.std.specs.Prelude.{◌≡◌, ◌≤◌, ◌<◌, ◌+◌, ◌||◌, false, true, [], length, Option, List, ℕ, None, Some, Ok, OnErr, OnOk, IfOk, IfErr, IsSome, is_err};
+ghost use Rattle.std.specs.Prelude.{◌≡◌, ◌≤◌, ◌<◌, ◌+◌, ◌++◌, ◌||◌, false, true, [], length, take, Option, List, ℕ, None, Some, Ok, OnErr, OnOk, IfOk, IfErr, IfSome, IsNone, IsSome, is_err};
 ghost use Rattle.std.specs.Bool.{OnTrue, OnFalse};
 ghost use Rattle.std.specs.Io.{WritesAtMost};
 ghost use Rattle.std.specs.Io.KnownBytes.{Appends, Keeps, WriteAppends};
 
 use crate::writing::write_some;
-use sf_print::{Sink, SinkFault, copy_over};
+use sf_print::{Sink, SinkFault, TextInPlace, copy_over};
 use std::alloc::{AllocError, Global};
 use std::io::{self, Write};
 
@@ -244,10 +244,24 @@ impl<W: Write + Drop> BlockSink<W> {
     }
 }
 
+/// Writes the text after the first `end` bytes of the block, which stay, and answers its length. None where the text
+/// isn't written there.
+#[inline(always)]
+fn write_after<T: TextInPlace>(text: &T, block: &mut [u8], end: usize) -> Option<usize>
+    requires { end ≤ length block.old }
+    ensures within { IfSome result (λ len. end + len ≤ length block.new) }
+    ensures written { IfSome result (λ len. take (end + len) block.new ≡ take end block.old ++ T.text text.now) }
+    ensures fits { IfSome result (λ _. T.Fits text.now) }
+    ensures answers { T.Fits text.now → end + length (T.text text.now) + 21 ≤ length block.old → IsSome result }
+    ensures before { take end block.new ≡ take end block.old }
+{
+    text.write_in(&mut block[end..])
+}
+
 impl<W: Write + Drop> Sink for BlockSink<W> {
     ghost use Rattle.sf_print.specs.Sinks.{counted_on};
     ghost use Rattle.std.specs.Prelude.{if◌then◌else◌};
-    ghost use Rattle.sf_blocks.specs.Blocks.{HoldsNothing, TakesShort, has_failed_flush, last_error_of, room_of, taken_by};
+    ghost use Rattle.sf_blocks.specs.Blocks.{HoldsNothing, TakesShort, has_failed_flush, last_error_of, room_of, taken_by, writer_of};
 
     ghost contents = { taken_by };
 
@@ -279,5 +293,26 @@ impl<W: Write + Drop> Sink for BlockSink<W> {
                 Err(SinkFault)
             }
         }
+    }
+
+    /// Has the text written after the bytes that wait. It is, wherever the block has room for 21 bytes more.
+    #[inline(always)]
+    fn take_in_place<T: TextInPlace>(&mut self, text: &T) -> Option<usize>
+        ensures took { IfSome result (λ len. Appends (taken_by self.old) (taken_by self.new) (T.text text.now)) }
+        ensures len { IfSome result (λ len. len ≡ length (T.text text.now)) }
+        ensures fits { IfSome result (λ len. T.Fits text.now) }
+        ensures refused { IsNone result → taken_by self.new ≡ taken_by self.old }
+        ensures failures { ⟦<BlockSink<W> as Sink>⟧.failures self.new ≡ ⟦<BlockSink<W> as Sink>⟧.failures self.old }
+        ensures answers { T.Fits text.now → length (T.text text.now) + 21 ≤ room_of self.old → IsSome result }
+        ensures writer { writer_of self.new ≡ writer_of self.old }
+        ensures room { IfSome result (λ len. room_of self.new + len ≡ room_of self.old) }
+        ensures kept { IsNone result → room_of self.new ≡ room_of self.old }
+        ensures nothing { HoldsNothing self.old → HoldsNothing self.new }
+        ensures flushed { has_failed_flush self.new ≡ has_failed_flush self.old }
+        ensures error { last_error_of self.new ≡ last_error_of self.old }
+    {
+        let len = write_after(text, &mut self.block, self.end)?;
+        self.end += len;
+        Some(len)
     }
 }

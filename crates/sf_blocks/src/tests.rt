@@ -1,6 +1,6 @@
 //! Tests over a writer that takes as few bytes as it likes, and fails once.
 use crate::BlockSink;
-use sf_print::Sink;
+use sf_print::{Sink, TextInPlace, copy_over};
 use std::alloc::Global;
 use std::io::{self, ErrorKind, Write};
 use std::process::Abort;
@@ -57,6 +57,26 @@ fn write_whole(sink: &mut BlockSink<Device>, text: &[u8]) {
         if let Ok(count) = sink.write(rest) {
             rest = &rest[count..];
         }
+    }
+}
+
+/// Bytes that are written in place.
+#[derive(Drop)]
+struct Text<'a> {
+    bytes: &'a [u8],
+}
+
+impl TextInPlace for Text<'_> {
+    ghost text = { λ t. t.bytes.now };
+
+    ghost Fits = { λ t. Unit {0} };
+
+    fn write_in(&self, room: &mut [u8]) -> Option<usize> {
+        if room.len() < self.bytes.len() {
+            return None;
+        }
+        copy_over(self.bytes, room, 0);
+        Some(self.bytes.len())
     }
 }
 
@@ -146,6 +166,40 @@ fn the_last_error_is_known(rt: HostRuntime) -> Result<(), Fail> {
     let failed = sink.flush().is_err();
     let known = matches!(sink.last_error(), Some(error) if error.kind() == ErrorKind::WriteZero);
     assert!(rt; failed && known);
+    Ok(())
+}
+
+/// Texts that are written in place come after those that were copied, and one that has no room there isn't begun.
+#[test]
+fn texts_in_place_come_in_order(rt: HostRuntime) -> Result<(), Fail> {
+    for &(most, before_failure) in &DEVICES {
+        let device = Device::new(rt.alloc(), most, before_failure);
+        let mut sink = BlockSink::in_blocks(rt.alloc(), device)?;
+        for _ in 0..1500u16 {
+            write_whole(&mut sink, b"record\n");
+            if sink.take_in_place(&Text { bytes: b"record\n" }).is_none() {
+                write_whole(&mut sink, b"record\n");
+            }
+        }
+        let _ = sink.flush();
+        let flushed = sink.flush().is_ok() && are_texts(&sink.writer().bytes, b"record\n", 3000);
+        assert!(rt; flushed, "at {most}, {before_failure}");
+    }
+    let mut sink = BlockSink::in_blocks(rt.alloc(), Device::new(rt.alloc(), 9000, u64::MAX))?;
+    let first = sink.take_in_place(&Text {
+        bytes: &[b'a'; 8000],
+    });
+    let second = sink.take_in_place(&Text {
+        bytes: &[b'b'; 193],
+    });
+    let third = sink.take_in_place(&Text {
+        bytes: &[b'c'; 192],
+    });
+    assert!(rt; first == Some(8000) && second.is_none() && third == Some(192));
+    assert!(rt; sink.flush().is_ok() && sink.writer().bytes.len() == 8192);
+    let mut at_once = BlockSink::at_once(rt.alloc(), Device::new(rt.alloc(), 9, u64::MAX));
+    let refused = at_once.take_in_place(&Text { bytes: b"record\n" });
+    assert!(rt; refused.is_none() && at_once.writer().bytes.is_empty());
     Ok(())
 }
 

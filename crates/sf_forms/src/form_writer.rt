@@ -10,7 +10,7 @@ use crate::form::OutputForm;
 use crate::heads::{push_names, push_object, push_tagged};
 use crate::line::push_record;
 use crate::output::write_whole;
-use crate::short_line::{LINE_BYTES, write_line};
+use crate::short_line::{LINE_BYTES, Record, write_line};
 use sf_base::Store;
 use sf_print::Sink;
 use sf_report::Report;
@@ -73,10 +73,10 @@ impl FormWriter {
         }
     }
 
-    /// Writes the record of a format that has so many destinations, by the report of a run. A record of at most 1,023
-    /// bytes takes no memory.
-    #[inline(always)]
-    pub fn write<K: Sink, T: Store>(
+    /// As `write`, where the sink doesn't have the record written in place. It is a call of its own, so that records in
+    /// place don't pay for it.
+    #[inline(never)]
+    fn write_apart<K: Sink, T: Store>(
         &mut self,
         to: &mut K,
         report: &Report<'_, T>,
@@ -98,6 +98,34 @@ impl FormWriter {
             return Err(RecordFault::Memory);
         }
         send(to, &self.text)
+    }
+
+    /// Writes the record of a format that has so many destinations, by the report of a run. A record of at most 1,023
+    /// bytes takes no memory.
+    #[inline(always)]
+    pub fn write<K: Sink, T: Store>(
+        &mut self,
+        to: &mut K,
+        report: &Report<'_, T>,
+        destinations: u8,
+    ) -> Result<(), RecordFault>
+        ensures same { self.new ≡ self.old }
+        ensures written { WritesText (record_text self.old destinations report.now) (K.contents to.old)
+            (K.contents to.new) result }
+        ensures failures { K.failures to.new
+            ≡ (if is_sink_fault result then counted_on (K.failures to.old) else K.failures to.old) }
+        ensures short { length (record_text self.old destinations report.now) < 1024
+            → IsErrOf result RecordFault.Memory → ⊥ }
+    {
+        let record = Record {
+            form: self.form,
+            report,
+            destinations,
+        };
+        if to.take_in_place(&record).is_some() {
+            return Ok(());
+        }
+        self.write_apart(to, report, destinations)
     }
 
     /// Writes the record of a format, by the report of a run: first the number of the format, if it is given, and then

@@ -13,7 +13,7 @@ use crate::quote::{are_plain, write_plain, write_quoted};
 use crate::real::write_real;
 use crate::tables::write_tsv_text;
 use sf_base::{Shown, Store};
-use sf_print::write_number;
+use sf_print::{TextInPlace, write_number};
 use sf_report::Report;
 
 /// The room for a short line: 1,023 bytes, and as many as the longest number has.
@@ -233,5 +233,24 @@ pub(crate) fn write_line<S: Store>(
         OutputForm::Tsv | OutputForm::Json | OutputForm::Csv => {
             write_other(form, report, destinations, buf)
         }
+    }
+}
+
+/// The record, in this form, of a format that has so many destinations, by the report of a run.
+#[derive(Drop)]
+pub(crate) struct Record<'a, 'r, S: Store> {
+    pub(crate) form: OutputForm,
+    pub(crate) report: &'a Report<'r, S>,
+    pub(crate) destinations: u8,
+}
+
+impl<S: Store> TextInPlace for Record<'_, '_, S> {
+    ghost text = { λ r. record_text r.form r.destinations r.report.now };
+
+    ghost Fits = { λ r. Unit {0} };
+
+    #[inline(always)]
+    fn write_in(&self, room: &mut [u8]) -> Option<usize> {
+        write_line(self.form, self.report, self.destinations, room)
     }
 }

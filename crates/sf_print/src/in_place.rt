@@ -1,8 +1,9 @@
 //! Texts of values, written in place.
-ghost use Rattle.std.specs.Prelude.{◌≡◌, ◌≤◌, ◌+◌, ◌++◌, length, take, IfSome, IsSome, None};
+ghost use Rattle.std.specs.Prelude.{◌≡◌, ◌≤◌, ◌+◌, ◌++◌, length, map, take, IfSome, IsSome, None};
 ghost use Rattle.std.specs.List.{flat_map};
 ghost use Rattle.sf_base.specs.Data.{datum_of, datum_of_shown};
 ghost use Rattle.sf_print.specs.Floats.{real_of, real_text};
+ghost use Rattle.sf_print.specs.Printed.{printed, unit_text};
 ghost use Rattle.sf_print.specs.Runs.{piece_bytes};
 ghost use Rattle.sf_print.specs.Text.{value_text};
 ghost use Rattle.sf_print.specs.Visible.{without_blanks};
@@ -11,12 +12,13 @@ use crate::copies::copy_over;
 use crate::decimal::write_number;
 use crate::floats::{FLOAT_BYTES, float_pieces};
 use crate::integer::DIGIT_BYTES;
+use crate::judging::value_of_slot;
 use crate::piece::Piece;
 use crate::plain::is_plain_conv;
 use crate::text::value_pieces;
 use crate::visible::visible_bytes;
 use sf_base::{Real, Shown, Value};
-use sf_format::PrintConv;
+use sf_format::{PrintConv, Unit};
 
 /// A minus and the digits of any number.
 const NUMBER_BYTES: usize = 21;
@@ -161,4 +163,33 @@ pub fn write_value(conv: &PrintConv, value: Shown<'_>, buf: &mut [u8], at: usize
         }
         Shown::Real(real) => write_real(conv, real, buf, at),
     }
+}
+
+/// Writes the text of a unit from a place on, and answers where it ends. None where there is too little room.
+#[inline(always)]
+fn write_unit(unit: &Unit, values: &[Value<'_>], buf: &mut [u8], at: usize) -> Option<usize>
+    requires { at ≤ length buf.old }
+    ensures within { IfSome result (λ end. end ≤ length buf.new) }
+    ensures written { IfSome result (λ end. take end buf.new
+        ≡ take at buf.old ++ unit_text (map datum_of values.now) unit.now) }
+{
+    match unit {
+        Unit::Byte(byte) => write_piece(&Piece::Bytes(&[*byte]), buf, at),
+        Unit::Conv(conv) => match value_of_slot(values, conv.slot) {
+            None => Some(at),
+            Some(value) => write_value(conv, value.shown(), buf, at),
+        },
+    }
+}
+
+/// Writes the texts of the units, one after the other, and answers where they end. None where there is too little room.
+pub(crate) fn write_units(units: &[Unit], values: &[Value<'_>], buf: &mut [u8]) -> Option<usize>
+    ensures within { IfSome result (λ end. end ≤ length buf.new) }
+    ensures written { IfSome result (λ end. take end buf.new ≡ printed units.now (map datum_of values.now)) }
+{
+    let mut end = 0;
+    for unit in units {
+        end = write_unit(unit, values, buf, end)?;
+    }
+    Some(end)
 }

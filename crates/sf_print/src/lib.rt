@@ -33,6 +33,6 @@ pub use judging::value_of_slot;
 pub use list_sink::ListSink;
 pub use print::{fprint, printed_len};
 pub use script_sink::{ScriptSink, WriteStep};
-pub use sink::{Sink, SinkFault};
+pub use sink::{Sink, SinkFault, TextInPlace};
 pub use std_sink::StdSink;
 pub use visible::{core_len, least_len, visible_bytes, visible_len};

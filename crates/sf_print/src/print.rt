@@ -12,7 +12,8 @@ ghost use Rattle.sf_print.specs.Printed.{unit_text, printed, length_or_fault, me
 use crate::decimal::decimal_len;
 use crate::fault::PrintFault;
 use crate::floats::{FLOAT_BYTES, float_pieces, real_of};
-use crate::handing::{flush, put, put_byte, put_number};
+use crate::handing::{flush, put, put_byte, put_number, write_text};
+use crate::in_place;
 use crate::integer::DIGIT_BYTES;
 use crate::judging::{find_lowest_fault, value_of_slot};
 use crate::piece::{pieces_len, put_pieces};
@@ -29,6 +30,9 @@ pub(crate) const MOST_BYTES: u32 = 2147483647;
 /// The greatest length of a text that needs no measuring: 4096 units of which each prints one, padded to the
 /// greatest width, are within `MOST_BYTES`.
 const SHORT_BYTES: usize = 65536;
+
+/// A text that is written at once, before the sink is handed it.
+const LINE_BYTES: usize = 160;
 
 /// Puts the text of a float, by its pieces. It is a call of its own, so that other values pay for no such buffer.
 #[inline(never)]
@@ -294,11 +298,9 @@ fn refuse(format: &PrintFormat, values: &[Value<'_>]) -> Result<(), PrintFault>
     }
 }
 
-/// Prints the values by the format to the sink, and answers how many bytes were printed (C11 7.21.6.1).
-///
-/// It refuses as `printed_len` does, before anything is written. Where the sink fails, `PrintFault::Sink` has how many
-/// bytes of the text it had taken: less than all. It takes no memory but what the sink takes.
-pub fn fprint<K: Sink>(
+/// As `fprint`, of a text that is longer than a line. It is a call of its own, so that others don't pay for its stage.
+#[inline(never)]
+fn fprint_long<K: Sink>(
     to: &mut K,
     format: &PrintFormat,
     values: &[Value<'_>],
@@ -315,4 +317,28 @@ pub fn fprint<K: Sink>(
         Ok(len) => Ok(len),
         Err(written) => Err(PrintFault::Sink { written }),
     }
+}
+
+/// Prints the values by the format to the sink, and answers how many bytes were printed (C11 7.21.6.1).
+///
+/// It refuses as `printed_len` does, before anything is written. Where the sink fails, `PrintFault::Sink` has how many
+/// bytes of the text it had taken: less than all. It takes no memory but what the sink takes.
+pub fn fprint<K: Sink>(
+    to: &mut K,
+    format: &PrintFormat,
+    values: &[Value<'_>],
+) -> Result<u32, PrintFault>
+    ensures refused { IfErr (measured format.now (map datum_of values.now))
+        (λ f. (result ≡ Err f) × (to.new ≡ to.old)) }
+    ensures written { OnOk (measured format.now (map datum_of values.now))
+        (WritesText (K.contents to.old) (K.contents to.new) (printed format.now (map datum_of values.now)) result) }
+    ensures failures { K.failures to.new
+        ≡ (if is_sink_fault result then counted_on (K.failures to.old) else K.failures to.old) }
+{
+    refuse_values(format.directives(), format.values(), values)?;
+    let mut line = [0; LINE_BYTES];
+    if let Some(len) = in_place::write_units(format.directives(), values, &mut line) {
+        return write_text(to, &line[..len]);
+    }
+    fprint_long(to, format, values)
 }

@@ -1,6 +1,7 @@
 //! Where printed bytes go.
-ghost use Rattle.std.specs.Prelude.{◌≡◌, ◌<◌, ◌≤◌, ℕ, List, Option, length, IfOk, is_err, if◌then◌else◌};
+ghost use Rattle.std.specs.Prelude.{◌≡◌, ◌<◌, ◌≤◌, ◌+◌, ℕ, List, Option, length, take, IfOk, IfSome, IsNone, IsSome, is_err, if◌then◌else◌};
 ghost use Rattle.std.specs.Io.{WritesAtMost};
+ghost use Rattle.std.specs.Io.KnownBytes.{Appends};
 ghost use Rattle.std.specs.Io.KnownBytes.{WriteAppends};
 ghost use Rattle.sf_print.specs.Sinks.{counted_on};
 
@@ -10,6 +11,23 @@ use thiserror::Error;
 #[derive(Clone, Copy, Debug, Error, PartialEq, Eq)]
 #[error("write fault")]
 pub struct SinkFault;
+
+/// A text that is written into room that is lent for it.
+pub trait TextInPlace {
+    /// The text.
+    ghost text: { Self → List ℕ };
+
+    /// What holds wherever it is written.
+    ghost Fits: { Self → Type 0 };
+
+    /// Writes the text at the start of the room, and answers its length. None where it doesn't fit, or where the room
+    /// has fewer than 21 bytes more than the text, as many as the longest number has.
+    fn write_in(&self, room: &mut [u8]) -> Option<usize>
+        ensures within { IfSome result (λ len. len ≤ length room.new) }
+        ensures written { IfSome result (λ len. take len room.new ≡ text self.now) }
+        ensures fits { IfSome result (λ _. Fits self.now) }
+        ensures answers { Fits self.now → length (text self.now) + 21 ≤ length room.old → IsSome result };
+}
 
 /// What takes bytes.
 pub trait Sink {
@@ -27,6 +45,20 @@ pub trait Sink {
         ensures took { WriteAppends (contents self.old) (contents self.new) result bytes.now }
         ensures failures { failures self.new
             ≡ (if is_err result then counted_on (failures self.old) else failures self.old) };
+
+    /// Has the text written into a block of its own, where it takes it whole and can't fail, and answers its length.
+    /// None, and nothing is taken, where there is no block, or the text isn't written there. A sink without a block
+    /// leaves this as it is.
+    fn take_in_place<T: TextInPlace>(&mut self, text: &T) -> Option<usize>
+        ensures took { IfSome result (λ len. Appends (contents self.old) (contents self.new) (T.text text.now)) }
+        ensures len { IfSome result (λ len. len ≡ length (T.text text.now)) }
+        ensures fits { IfSome result (λ len. T.Fits text.now) }
+        ensures refused { IsNone result → contents self.new ≡ contents self.old }
+        ensures failures { failures self.new ≡ failures self.old }
+    {
+        let _ = text;
+        None
+    }
 }
 
 impl<K: Sink> Sink for &mut K {
@@ -36,5 +68,10 @@ impl<K: Sink> Sink for &mut K {
 
     fn write(&mut self, bytes: &[u8]) -> Result<usize, SinkFault> {
         Sink::write(&mut **self, bytes)
+    }
+
+    #[inline(always)]
+    fn take_in_place<T: TextInPlace>(&mut self, text: &T) -> Option<usize> {
+        Sink::take_in_place(&mut **self, text)
     }
 }

@@ -61,16 +61,35 @@ sink_part units ds row old new w f n w_is f_is same unfit P long written = by (f
     by true e = long_or_not e (nat_le (length (printed units row)) most_bytes) refl
     by false e = other (Err write.NotFitting) refl (unfit.1 (λ fit. true≢false (sym ((same units ds row).1 fit) ∙ e)))
 
+most : (n : ℕ) → n ≤ most_bytes → nat_le n most_bytes ≡ true
+most n h = grind (arith, nat_tests)
+
+-- a text that a print of values that fit has is copied, where it is short enough
+pub copied : (units : List PrintUnit) (ds : List Directive) (row : List Datum) (text : List ℕ) → text ≡ printed units row
+    → length text ≤ most_bytes → FitsIsFit → Fit units ds row → is_copied units ds row ≡ true
+copied units ds row text is short same fit =
+    let few : nat_le (length (printed units row)) most_bytes ≡ true =
+    ap (λ (t : List ℕ). nat_le (length t) most_bytes) (sym is) ∙ most (length text) short in
+    (λ i. (same units ds row).1 fit i && few i)
+
+both : (a b : Bool) → a && b ≡ true → (a ≡ true) × (b ≡ true)
+both true b e = (refl, e)
+both false b e = absurd (true≢false (sym e))
+
+-- of values that are copied: they fit, and their text is short enough
+pub copied_fit : (units : List PrintUnit) (ds : List Directive) (row : List Datum) → FitsIsFit → is_copied units ds row ≡ true
+    → Fit units ds row
+copied_fit units ds row same e = (same units ds row).0 ((both (fits units ds row) (nat_le (length (printed units row)) most_bytes) e).0)
+
+pub copied_short : (units : List PrintUnit) (ds : List Directive) (row : List Datum) → is_copied units ds row ≡ true
+    → length (printed units row) ≤ most_bytes
+copied_short units ds row e =
+    within (length (printed units row)) most_bytes ((both (fits units ds row) (nat_le (length (printed units row)) most_bytes) e).1)
+
 -- a copy that was written in place, and handed to the sink
 pub sent : (units : List PrintUnit) (ds : List Directive) (row : List Datum) (text : List ℕ) (old new : Option (List ℕ))
     (r : Result (Unit {0}) Unwritten) → text ≡ printed units row → length text ≤ most_bytes → FitsIsFit → Fit units ds row
     → Writes true text old new r → Writes (is_copied units ds row) (printed units row) old new r
 sent units ds row text old new r is short same fit writes =
-    let few : nat_le (length (printed units row)) most_bytes ≡ true =
-    ap (λ (t : List ℕ). nat_le (length t) most_bytes) (sym is) ∙ most (length text) short in
-    let copied : is_copied units ds row ≡ true = (λ i. (same units ds row).1 fit i && few i) in
-    subst (λ (b : Bool). Writes b (printed units row) old new r) (sym copied)
+    subst (λ (b : Bool). Writes b (printed units row) old new r) (sym (copied units ds row text is short same fit))
     (subst (λ (t : List ℕ). Writes true t old new r) is writes)
-  where
-    most : (n : ℕ) → n ≤ most_bytes → nat_le n most_bytes ≡ true
-    most n h = grind (arith, nat_tests)

@@ -1,11 +1,11 @@
 -- The records that a loop wrote are those of its runs' values.
-use Rattle.std.proofs.Common.{◌≡◌, ℕ, zero, suc, ◌+◌, Bool, true, false, cond, nat_eq, nat_lt, List, [], ◌∷◌, ◌++◌, map, length, take}
-use Rattle.std.proofs.Common.{drop, ◌⊎◌, Option, Some, None, inl, inr, refl, sym, ap, ap₂, subst, ◌∙◌, arith, append_assoc, append-nil}
+use Rattle.std.proofs.Common.{◌≡◌, ℕ, zero, suc, ◌+◌, Bool, true, false, cond, nat_eq, List, [], ◌∷◌, ◌++◌, length, take}
+use Rattle.std.proofs.Common.{drop, ◌⊎◌, Option, Some, None, inl, inr, refl, sym, ap, ap₂, subst, ◌∙◌, arith, append-nil}
 use Rattle.std.proofs.Common.{length-append, true≢false}
-use Rattle.std.specs.List.{AllByRecursion, flat_map}
+use Rattle.std.specs.List.{flat_map}
 use Rattle.std.proofs.lemmas.Grind.{flat_map-append}
 use Rattle.sf_base.specs.Bytes.{AreBytes}
-use Rattle.sf_base.specs.Data.{Datum, kind_of}
+use Rattle.sf_base.specs.Data.{Datum}
 use Rattle.sf_format.specs.declared.directive.Directive.{Directive}
 use Rattle.sf_format.specs.Proper.{IsAccepted, destinations_of, has_optional}
 use Rattle.sf_run.specs.outcome.Ending.{Ending}
@@ -16,20 +16,17 @@ use Rattle.sf_run.specs.Laws.{EachDoneRunHasItsRow}
 use Rattle.sf_run.specs.Limits.{RunWithin}
 use Rattle.sf_run.specs.Rows.{kinds_of}
 use Rattle.sf_run.specs.Runs.{RunReport}
-use Rattle.sf_read.specs.Ahead.{Ahead}
 use Rattle.sf_records.specs.declared.end.ToolEnd.{ToolEnd}
-use Rattle.sf_records.specs.declared.end.ToolFault.TheVariants as faults
 use Rattle.sf_forms.specs.declared.form.OutputForm.{OutputForm}
-use Rattle.sf_forms.specs.declared.form.OutputForm.TheVariants.{Tsv, Json}
 use Rattle.sf_records.specs.declared.turn.Turn.{Turn}
 use Rattle.sf_records.specs.declared.turn.Turn.TheVariants.{Goes, Ends, Cut, Failed, Stalled, Unfit, RanOut}
 use Rattle.sf_records.specs.Forms.{row_text, writing}
 use Rattle.sf_records.specs.Judging.{is_write}
 use Rattle.sf_records.specs.ReadingBack.{AreDone, AreRows, AreRowsOf, HaveKinds, JsonReadsBack, ReadsAsRows, RecordsAreRows, TsvReadsBack}
 use Rattle.sf_records.specs.ReadingBack.{WrittenReadsBack}
-use Rattle.sf_forms.specs.JsonReading.{element_of, json_rows}
+use Rattle.sf_forms.specs.JsonReading.{json_rows}
 use Rattle.sf_forms.specs.Tables.{tsv_rows}
-use Rattle.sf_records.specs.Records.{EndsWith, IsCutShort, Loops, Passed, StopsAt, end_by, ended, ending_by, input_by}
+use Rattle.sf_records.specs.Records.{EndsWith, IsCutShort, Passed, end_by, ending_by, input_by}
 use Rattle.sf_records.specs.Turns.{turn_by, turn_of, writes}
 use Rattle.sf_records.specs.Works.{Work, last_text, texts, turn_in}
 use Rattle.sf_records.proofs.Copying.{fit_is}

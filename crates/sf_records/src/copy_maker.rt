@@ -1,5 +1,5 @@
 //! Copies of reports by a pair of formats.
-ghost use Rattle.std.specs.Prelude.{◌≡◌, ◌≤◌, ◌+◌, length, map, refl, take, true, IfSome, if◌then◌else◌};
+ghost use Rattle.std.specs.Prelude.{◌≡◌, ◌≤◌, ◌+◌, length, map, refl, take, true, IfSome, IsSome, if◌then◌else◌};
 ghost use Rattle.sf_base.specs.Data.{datum_of};
 ghost use Rattle.sf_print.specs.Printed.{printed};
 ghost use Rattle.sf_print.specs.Sinks.{counted_on};
@@ -12,12 +12,15 @@ use sf_format::ScanFormat;
 use sf_makers::{FEW_VALUES, MOST_VALUES, Maker, Unwritten, row, shown_row};
 use sf_pair::laws::fits_is_fit;
 use sf_pair::{Pair, WriteFault};
-use sf_print::{PrintFault, Sink, write_text};
+use sf_print::{PrintFault, Sink, TextInPlace, write_text};
 use sf_run::Report;
 use std::marker::Model;
 
 /// The room for the copy of a record that is written in place: 1,023 bytes, and as many as the longest number has.
 const LINE_BYTES: usize = 1044;
+
+/// The greatest length of a printed text.
+const MOST_BYTES: usize = 2147483647;
 
 /// Prints the values of each report by a pair, if they fit it.
 #[derive(Drop)]
@@ -77,6 +80,9 @@ fn write_line<'r, T: Store>(
     ensures written { IfSome result (λ end. take end line.new
         ≡ printed pair.now.print (row_of destinations report.now.values)) }
     ensures fits { IfSome result (λ _. Fit pair.now.print pair.now.scan (row_of destinations report.now.values)) }
+    ensures answers { Fit pair.now.print pair.now.scan (row_of destinations report.now.values)
+        → length (printed pair.now.print (row_of destinations report.now.values)) + 21 ≤ length line.old
+        → IsSome result }
 {
     let count = shown_row(report, destinations, places);
     pair.write_in_place(&places[..count], line)
@@ -95,6 +101,9 @@ fn write_long_line<T: Store>(
     ensures written { IfSome result (λ end. take end line.new
         ≡ printed pair.now.print (row_of destinations report.now.values)) }
     ensures fits { IfSome result (λ _. Fit pair.now.print pair.now.scan (row_of destinations report.now.values)) }
+    ensures answers { Fit pair.now.print pair.now.scan (row_of destinations report.now.values)
+        → length (printed pair.now.print (row_of destinations report.now.values)) + 21 ≤ length line.old
+        → IsSome result }
 {
     let mut places = [Shown::Text(&[]); MOST_VALUES];
     write_line(pair, report, destinations, &mut places, line)
@@ -107,6 +116,8 @@ fn write_copy<T: Store>(pair: &Pair<'_>, report: &Report<'_, T>, line: &mut [u8]
     ensures written { IfSome result (λ end. take end line.new
         ≡ printed pair.now.print (row_in pair.now.scan report.now)) }
     ensures fits { IfSome result (λ _. Fit pair.now.print pair.now.scan (row_in pair.now.scan report.now)) }
+    ensures answers { Fit pair.now.print pair.now.scan (row_in pair.now.scan report.now)
+        → length (printed pair.now.print (row_in pair.now.scan report.now)) + 21 ≤ length line.old → IsSome result }
 {
     let destinations = pair.scan().destinations();
     if destinations as usize <= FEW_VALUES {
@@ -146,8 +157,33 @@ fn copy_apart<K: Sink, T: Store>(
     copy_row(to, pair, &row::<T, MOST_VALUES>(report, destinations))
 }
 
-/// Prints the values of the record, if they fit the pair.
-fn copy_record<K: Sink, T: Store>(
+/// The copy of a record by a pair.
+#[derive(Drop)]
+struct RecordCopy<'a, 'f, 'r, T: Store> {
+    pair: &'a Pair<'f>,
+    report: &'a Report<'r, T>,
+}
+
+impl<T: Store> TextInPlace for RecordCopy<'_, '_, '_, T> {
+    ghost text = { λ copy. printed copy.pair.now.print (row_in copy.pair.now.scan copy.report.now) };
+
+    ghost Fits = { λ copy. is_copied copy.pair.now.print copy.pair.now.scan (row_in copy.pair.now.scan copy.report.now)
+        ≡ true };
+
+    #[inline(always)]
+    fn write_in(&self, room: &mut [u8]) -> Option<usize> {
+        fits_is_fit();
+        let len = write_copy(self.pair, self.report, room)?;
+        if len > MOST_BYTES {
+            return None;
+        }
+        Some(len)
+    }
+}
+
+/// As `copy_record`, by a line. It is a call of its own, so that copies in the sink's block don't pay for it.
+#[inline(never)]
+fn copy_by_line<K: Sink, T: Store>(
     to: &mut K,
     pair: &Pair<'_>,
     report: &Report<'_, T>,
@@ -163,6 +199,26 @@ fn copy_record<K: Sink, T: Store>(
         return send(to, &line[..end]);
     }
     copy_apart(to, pair, report)
+}
+
+/// Prints the values of the record, if they fit the pair.
+#[inline(always)]
+fn copy_record<K: Sink, T: Store>(
+    to: &mut K,
+    pair: &Pair<'_>,
+    report: &Report<'_, T>,
+    line: &mut [u8; LINE_BYTES],
+) -> Result<(), Unwritten>
+    ensures made { Writes (is_copied pair.now.print pair.now.scan (row_in pair.now.scan report.now))
+        (printed pair.now.print (row_in pair.now.scan report.now)) (K.contents to.old) (K.contents to.new) result }
+    ensures failures { K.failures to.new
+        ≡ (if sink_failed result then counted_on (K.failures to.old) else K.failures to.old) }
+{
+    let copy = RecordCopy { pair, report };
+    if to.take_in_place(&copy).is_some() {
+        return Ok(());
+    }
+    copy_by_line(to, pair, report, line)
 }
 
 impl Maker for CopyMaker<'_, '_> {

@@ -1,4 +1,5 @@
-use Rattle.std.proofs.Common.{◌≡◌, ◌∙◌, List, ap, length, subst, take, IfSome}
+use Rattle.std.proofs.Common.{◌≡◌, ◌∙◌, ◌+◌, ◌≤◌, List, ap, length, subst, take, IfSome}
+use Rattle.std.specs.Prelude.{IsSome}
 use Rattle.sf_base.specs.Data.{Datum}
 use Rattle.sf_format.specs.declared.directive.Directive.{Directive}
 use Rattle.sf_format.specs.Proper.{destinations_of}
@@ -18,6 +19,8 @@ returns-then-destinations-le-FEW_VALUES g c =
       within = w.ensures.within;
       written = subst (λ (row : List Datum). IfSome w.result (λ end. take end w.new.line ≡ printed pair.print row)) same w.ensures.written;
       fits = subst (λ (row : List Datum). IfSome w.result (λ end. Fit pair.print pair.scan row)) same w.ensures.fits;
+      answers = subst (λ (row : List Datum). Fit pair.print pair.scan row → length (printed pair.print row) + 21 ≤ length c.args.line.now
+          → IsSome w.result) same w.ensures.answers;
     }
 
 pub returns : goal.returns
@@ -31,4 +34,6 @@ returns g c =
       within = w.ensures.within;
       written = subst (λ (row : List Datum). IfSome w.result (λ end. take end w.new.line ≡ printed pair.print row)) same w.ensures.written;
       fits = subst (λ (row : List Datum). IfSome w.result (λ end. Fit pair.print pair.scan row)) same w.ensures.fits;
+      answers = subst (λ (row : List Datum). Fit pair.print pair.scan row → length (printed pair.print row) + 21 ≤ length c.args.line.now
+          → IsSome w.result) same w.ensures.answers;
     }

@@ -1,4 +1,5 @@
-use Rattle.std.proofs.Common.{◌≡◌, List, subst, take, IfSome}
+use Rattle.std.proofs.Common.{◌≡◌, ◌+◌, ◌≤◌, List, length, subst, take, IfSome}
+use Rattle.std.specs.Prelude.{IsSome}
 use Rattle.sf_base.specs.Data.{Datum}
 use Rattle.sf_pair.specs.Fits.{Fit}
 use Rattle.sf_print.specs.Printed.{printed}
@@ -13,3 +14,9 @@ pub returns-clause-fits : goal.returns-clause-fits
 returns-clause-fits g c =
     subst (λ (row : List Datum). IfSome c.write_in_place.result (λ end. Fit c.args.pair.now.print c.args.pair.now.scan row))
     c.shown_row-count.ensures.row c.write_in_place.ensures.fits
+
+pub returns-clause-answers : goal.returns-clause-answers
+returns-clause-answers g c =
+    let pair = c.args.pair.now in
+    subst (λ (row : List Datum). Fit pair.print pair.scan row → length (printed pair.print row) + 21 ≤ length c.args.line.now
+    → IsSome c.write_in_place.result) c.shown_row-count.ensures.row c.write_in_place.ensures.answers

@@ -2,7 +2,7 @@ use Rattle.std.proofs.Common.{arith, take}
 use Rattle.std.proofs.lemmas.List.{length-take-le}
 use Rattle.sf_records.specs.Copies.{row_in}
 use Rattle.sf_records.proofs.CopyRow.{sent}
-use Rattle.sf_records.proofs.copy_maker.copy_record.Goals as goal
+use Rattle.sf_records.proofs.copy_maker.copy_by_line.Goals as goal
 
 pub returns-in-Some-clause-made : goal.returns-in-Some-clause-made
 returns-in-Some-clause-made g c =
