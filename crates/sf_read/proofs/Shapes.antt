@@ -1,5 +1,5 @@
 -- Rows and the destinations of formats.
-use Rattle.std.proofs.Common.{◌≡◌, ℕ, ◌+◌, ◌-◌, ◌≤◌, Bool, true, false, cond, not, ◌&&◌, ◌||◌, nat_eq, List, [], ◌∷◌, length, take, drop, Option, Some, None, Result, Err, is_some, if◌then◌else◌, refl, sym, ap, subst, ◌∙◌, arith}
+use Rattle.std.proofs.Common.{◌≡◌, inl, inr, ℕ, ◌+◌, ◌-◌, ◌≤◌, Bool, true, false, cond, not, ◌&&◌, ◌||◌, nat_eq, List, [], ◌∷◌, length, take, drop, Option, Some, None, Result, Err, is_some, if◌then◌else◌, refl, sym, ap, subst, ◌∙◌, arith}
 use Rattle.std.proofs.Math.Nat.{lt_of_not-le}
 use Rattle.std.proofs.lemmas.List.{take-append-drop, length-take-le}
 use Rattle.std.proofs.lemmas.Option.{slice_get_past}
@@ -10,7 +10,7 @@ use Rattle.std.specs.Option.{option_eq}
 use Rattle.sf_base.specs.declared.values.Kind.{Kind}
 use Rattle.sf_format.specs.declared.directive.Directive.{Directive}
 use Rattle.sf_format.specs.declared.directive.Directive.TheVariants.{Space, Byte, Percent, Conv}
-use Rattle.sf_format.specs.Proper.{AreKinded, destinations_of, kind_at, may_miss}
+use Rattle.sf_format.specs.Proper.{AreKinded, destinations_of, has_optional, kind_at, may_miss}
 use Rattle.sf_format.specs.Slots.{AreSlots, kind_with}
 use Rattle.sf_format.proofs.Outcomes.{by_test}
 use Rattle.sf_format.proofs.SlotLookups.{kinds_are}
@@ -18,18 +18,19 @@ use Rattle.sf_run.specs.outcome.Ending.{Ending}
 use Rattle.sf_run.specs.outcome.Status.TheVariants.{Done}
 use Rattle.sf_run.specs.Stopping.{is_memory_status}
 use Rattle.sf_run.specs.Limits.{RunTold}
-use Rattle.sf_run.specs.Rows.{AreGiven, at_slot}
+use Rattle.sf_run.specs.Rows.{Suits, at_slot}
 use Rattle.sf_run.specs.Runs.{RunReport}
-use Rattle.sf_report.proofs.Filling.{done_fills, each_given}
+use Rattle.sf_report.proofs.Filling.{done_fills, none_may}
 use Rattle.sf_report.proofs.Values.{readable_at}
 use Rattle.sf_run.specs.declared.feeding.StartFault.{StartFault}
-use Rattle.sf_base.specs.Data.{Datum}
+use Rattle.sf_base.specs.Data.{Datum, datum_at}
 use Rattle.sf_base.specs.Kept.{Kept}
 use Rattle.sf_run.specs.Memory.{capacity_of}
 use Rattle.sf_read.specs.declared.row.ScanRowFault.{ScanRowFault}
 use Rattle.sf_read.specs.declared.row.ScanRowFault.TheVariants.{Start}
 use Rattle.sf_read.specs.Ahead.{Ahead, input_of}
 use Rattle.sf_read.specs.Counts.{counted_on}
+use Rattle.sf_read.specs.Rows.{AreGivenAs, IsGivenAs}
 use Rattle.sf_read.specs.RowScans.{Answers, HasShape, RowScan, is_run}
 use Rattle.sf_read.specs.Scan.{Scan, is_fault}
 use Rattle.sf_read.proofs.Blocks.{no_reads}
@@ -85,23 +86,32 @@ no_may slot (Conv c ∷ ds) unkinded = by c.slot refl (no_may slot ds)
         (λ same e. absurd (own_kind n own e)) (λ other e. rw (own, e, rest (later n own e)) (and_nothing c.optional)) refl
 
 -- what was compared slot by slot
-pub has_shape : (shape : List Kind) (ds : List Directive) → AreSlots (destinations_of ds) → length shape ≡ length (destinations_of ds)
-    → ((slot : ℕ) → 1 ≤ slot → slot ≤ length (destinations_of ds)
-    → (at_slot slot shape ≡ kind_at slot ds) × (may_miss slot ds ≡ false)) → HasShape shape ds
-has_shape shape ds slots same each = record { count = same; each = λ slot. by slot; whole = λ slot. missing slot }
+pub has_shape : (shape : List Kind) (optional : ℕ → Bool) (ds : List Directive) → AreSlots (destinations_of ds)
+    → length shape ≡ length (destinations_of ds)
+    → ((slot : ℕ) → 1 ≤ slot → slot ≤ length (destinations_of ds) → at_slot slot shape ≡ kind_at slot ds)
+    → ((slot : ℕ) → may_miss slot ds ≡ true → optional slot ≡ true) → HasShape shape optional ds
+has_shape shape optional ds slots same each missing = record { count = same; each = λ slot. by slot; missing = missing }
   where
-    missing : (slot : ℕ) → may_miss slot ds ≡ false
-    missing slot = by_test (is_some (kind_at slot ds)) (λ v. may_miss slot ds ≡ false)
-        (λ some. let known = (kinds_are slot (destinations_of ds) slots).0 some in (each slot known.0 known.1).1)
-        (λ no. no_may slot ds no)
-
     by : (slot : ℕ) → at_slot slot shape ≡ kind_at slot ds
     by slot =
         let known = kinds_are slot (destinations_of ds) slots in
         by_test (is_some (kind_at slot ds)) (λ v. at_slot slot shape ≡ kind_at slot ds)
-        (λ some. (each slot (known.0 some).0 (known.0 some).1).0)
+        (λ some. each slot (known.0 some).0 (known.0 some).1)
         (λ none. no_kind shape slot (λ h. let some = known.1 (h.0, omega (arith, same, h.1)) in absurd cc)
         ∙ sym (none_is (kind_at slot ds) none))
+
+-- no other slots may be missing than those of the destinations
+pub takes_each : (optional : ℕ → Bool) (ds : List Directive) → AreSlots (destinations_of ds)
+    → ((slot : ℕ) → 1 ≤ slot → slot ≤ length (destinations_of ds) → may_miss slot ds ≡ true → optional slot ≡ true)
+    → (slot : ℕ) → may_miss slot ds ≡ true → optional slot ≡ true
+takes_each optional ds slots each slot may = by_test (is_some (kind_at slot ds)) (λ v. optional slot ≡ true)
+    (λ some. let known = (kinds_are slot (destinations_of ds) slots).0 some in each slot known.0 known.1 may)
+    (λ none. let never = no_may slot ds none in absurd cc)
+
+-- where none may be, any row takes those that may
+pub takes_none : (optional : ℕ → Bool) (ds : List Directive) → has_optional ds ≡ false
+    → (slot : ℕ) → may_miss slot ds ≡ true → optional slot ≡ true
+takes_none optional ds none slot may = let never = none_may slot ds none in absurd cc
 
 same_number : (a b : ℕ) → nat_eq a b ≡ true → a ≡ b
 same_number a b same = grind (arith, nat_tests)
@@ -109,17 +119,12 @@ same_number a b same = grind (arith, nat_tests)
 lower : (slot n : ℕ) → nat_eq slot (n + 1) ≡ false → slot ≤ n + 1 → slot ≤ n
 lower slot n other high = grind (arith, nat_tests)
 
--- such a slot, which isn't missing
-abbrev IsSame : List Kind → List Directive → ℕ → Type 0
-IsSame shape ds slot = (at_slot slot shape ≡ kind_at slot ds) × (may_miss slot ds ≡ false)
-
-pub one_more_slot : (shape : List Kind) (ds : List Directive) (n : ℕ)
-    → ((slot : ℕ) → 1 ≤ slot → slot ≤ n → (at_slot slot shape ≡ kind_at slot ds) × (may_miss slot ds ≡ false))
-    → at_slot (n + 1) shape ≡ kind_at (n + 1) ds → may_miss (n + 1) ds ≡ false → (slot : ℕ) → 1 ≤ slot → slot ≤ n + 1
-    → (at_slot slot shape ≡ kind_at slot ds) × (may_miss slot ds ≡ false)
-one_more_slot shape ds n each last whole slot low high =
-    by_test (nat_eq slot (n + 1)) (λ v. IsSame shape ds slot)
-    (λ same. rw (same_number slot (n + 1) same) (last, whole)) (λ other. each slot low (lower slot n other high))
+-- what holds of the slots so far, and of the next one
+pub one_more_slot : (P : ℕ → Type 0) (n : ℕ) → ((slot : ℕ) → 1 ≤ slot → slot ≤ n → P slot) → P (n + 1)
+    → (slot : ℕ) → 1 ≤ slot → slot ≤ n + 1 → P slot
+one_more_slot P n each last slot low high =
+    by_test (nat_eq slot (n + 1)) (λ v. P slot) (λ same. subst P (sym (same_number slot (n + 1) same)) last)
+    (λ other. each slot low (lower slot n other high))
 
 -- the answers of the test whether two options differ
 pub same_option : {A : Type 0} (eq : A → A → Bool) → ((a b : A) → eq a b ≡ true → a ≡ b) → (a b : Option A) {differ : Bool}
@@ -133,20 +138,30 @@ same_option eq same (Some a) (Some b) test is = ap Some (same a b (not_false (eq
     not_false true e = refl
     not_false false e = absurd cc
 
+-- a slot of the row's kind was given something of it; or nothing, where it may be missing in the format, and so in the row
+given_as : (may : Bool) (kind : Option Kind) (ds : List Directive) (slot : ℕ) (v : Option Datum) → kind ≡ kind_at slot ds
+    → (may_miss slot ds ≡ true → may ≡ true) → Suits ds slot v → IsGivenAs may kind v
+given_as false kind ds slot v same missing (inl is) = is ∙ sym same
+given_as false kind ds slot v same missing (inr (may, none)) = let never = missing may in absurd cc
+given_as true kind ds slot None same missing suits = tt
+given_as true kind ds slot (Some d) same missing (inl is) = is ∙ sym same
+given_as true kind ds slot (Some d) same missing (inr (may, none)) = absurd cc
+
 -- where the shapes are the same, these are the values that a row is made of
-pub given : (shape : List Kind) (ds : List Directive) (m : ℕ) (x : List ℕ) (ending : Ending) (report : RunReport) → AreKinded ds
-    → AreSlots (destinations_of ds) → HasShape shape ds
-    → RunTold ds m x ending report → report.status ≡ Done → AreGiven shape report.values
-given shape ds m x ending report kinded slots same told done = λ slot. (
-  each_given ds report.values same.whole (done_fills ds m x ending report kinded slots told done) slot ∙ sym (same.each slot),
+pub given : (shape : List Kind) (optional : ℕ → Bool) (ds : List Directive) (m : ℕ) (x : List ℕ) (ending : Ending) (report : RunReport)
+    → AreKinded ds → AreSlots (destinations_of ds) → HasShape shape optional ds
+    → RunTold ds m x ending report → report.status ≡ Done → AreGivenAs shape optional report.values
+given shape optional ds m x ending report kinded slots same told done = λ slot. (
+  given_as (optional slot) (at_slot slot shape) ds slot (datum_at slot report.values) (same.each slot) (same.missing slot)
+      (done_fills ds m x ending report kinded slots told done slot),
   readable_at ds m x ending report told done slot,
 )
 
 -- a run that was made isn't answered with a fault of its start
-pub no_start : {T : Type 0} (kinds : List Kind) (listed : T → List Datum) (report : RunReport) (r : Result T ScanRowFault)
-    → Answers kinds listed report r
+pub no_start : {T : Type 0} (kinds : List Kind) (given_by : T → List (Option Datum)) (report : RunReport) (r : Result T ScanRowFault)
+    → Answers kinds given_by report r
     → (fault : StartFault) → r ≡ Err (Start fault) → ⊥
-no_start kinds listed report r answers fault e = subst (Answers kinds listed report) e answers
+no_start kinds given_by report r answers fault e = subst (Answers kinds given_by report) e answers
 
 -- nor is it where there was one
 pub run_no_start : {T : Type 0} (r : Result T ScanRowFault) → is_run r ≡ true → (fault : StartFault) → r ≡ Err (Start fault) → ⊥
@@ -154,13 +169,13 @@ run_no_start r is fault e = let h = subst (λ s. is_run s ≡ true) e is in absu
 
 -- a record that was held whole, consumed without a read
 pub row_scanned : {S T : Type 0} (to_come : S → Option (List ℕ)) (reads failures : S → ℕ) (N : ℕ) (kinds : List Kind)
-    (listed : T → List Datum) (ds : List Directive) (m : ℕ) (old new : Ahead S) (report : RunReport) (result : Result T ScanRowFault)
+    (given_by : T → List (Option Datum)) (ds : List Directive) (m : ℕ) (old new : Ahead S) (report : RunReport) (result : Result T ScanRowFault)
     → report.status ≡ Done → report.met ≡ None → new.source ≡ old.source → report.used ≤ length old.held
-    → new.held ≡ drop report.used old.held → Answers kinds listed report result
+    → new.held ≡ drop report.used old.held → Answers kinds given_by report result
     → ((t : List ℕ) → input_of to_come old ≡ Some t → Scan to_come ds m t old new report)
     → ((x : List ℕ) × (ending : Ending) × RunTold ds m x ending report)
-    → RowScan to_come reads failures N kinds listed ds m old new result
-row_scanned to_come reads failures N kinds listed ds m old new report result done met same within held answers scan told = record {
+    → RowScan to_come reads failures N kinds given_by ds m old new result
+row_scanned to_come reads failures N kinds given_by ds m old new report result done met same within held answers scan told = record {
   report = report;
   answers = answers;
   scan = scan;

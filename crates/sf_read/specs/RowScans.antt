@@ -9,7 +9,7 @@ use Rattle.sf_run.specs.outcome.Ending.{Ending}
 use Rattle.sf_run.specs.outcome.Ending.TheVariants.{End}
 use Rattle.sf_run.specs.outcome.Status.TheVariants.{Done}
 use Rattle.sf_run.specs.Limits.{RunTold, RunWithin}
-use Rattle.sf_run.specs.Rows.{at_slot, AreRowOf}
+use Rattle.sf_run.specs.Rows.{at_slot}
 use Rattle.sf_run.specs.Runs.{RunReport}
 use Rattle.sf_run.specs.Stopping.{is_memory_status}
 use Rattle.sf_run.specs.Views.{report_by}
@@ -18,13 +18,14 @@ use Rattle.sf_read.specs.declared.row.ScanRowFault.TheVariants.{ShapeDiffers, St
 use Rattle.sf_read.specs.Ahead.{Ahead, input_of}
 use Rattle.sf_read.specs.Counts.{counted_on}
 use Rattle.sf_read.specs.Reads.{WaitedFor}
+use Rattle.sf_read.specs.Rows.{AreSlotsOf}
 use Rattle.sf_read.specs.Scan.{Scan, is_fault}
 
--- the slots with these kinds are the destinations of the format, with theirs, and none may be missing
-pub record HasShape (kinds : List Kind) (ds : List Directive) : Type 0 where
+-- the slots with these kinds are the destinations of the format, with theirs; those of the format that may be missing may be so in the row
+pub record HasShape (kinds : List Kind) (optional : ℕ → Bool) (ds : List Directive) : Type 0 where
   pub count : length kinds ≡ length (destinations_of ds)
   pub each : (slot : ℕ) → at_slot slot kinds ≡ kind_at slot ds
-  pub whole : (slot : ℕ) → may_miss slot ds ≡ false
+  pub missing : (slot : ℕ) → may_miss slot ds ≡ true → optional slot ≡ true
 
 -- the format stores eight numbers or fewer, and no texts
 abbrev pub IsOfFew : List Directive → Type 0
@@ -39,19 +40,19 @@ is_run (Err (Failed outcome)) = true
 is_run (Err NoMemory) = true
 
 -- what is answered where the run has this report
-abbrev pub Answers : {T : Type 0} → List Kind → (T → List Datum) → RunReport → Result T ScanRowFault → Type 0
-Answers kinds listed report (Ok row) = (report.status ≡ Done) × AreRowOf (length kinds) (listed row) report.values
-Answers kinds listed report (Err ShapeDiffers) = ⊥
-Answers kinds listed report (Err (Start fault)) = ⊥
-Answers kinds listed report (Err (Failed outcome)) = (report.status ≢ Done) × (report_by outcome report.values ≡ report)
-Answers kinds listed report (Err NoMemory) = report.status ≡ Done
+abbrev pub Answers : {T : Type 0} → List Kind → (T → List (Option Datum)) → RunReport → Result T ScanRowFault → Type 0
+Answers kinds given report (Ok row) = (report.status ≡ Done) × AreSlotsOf (length kinds) (given row) report.values
+Answers kinds given report (Err ShapeDiffers) = ⊥
+Answers kinds given report (Err (Start fault)) = ⊥
+Answers kinds given report (Err (Failed outcome)) = (report.status ≢ Done) × (report_by outcome report.values ≡ report)
+Answers kinds given report (Err NoMemory) = report.status ≡ Done
 
 -- there was a run, and its one report is answered
 pub record RowScan {S T : Type 0} (to_come : S → Option (List ℕ)) (reads failures : S → ℕ) (N : ℕ) (kinds : List Kind)
-    (listed : T → List Datum)
+    (given : T → List (Option Datum))
     (ds : List Directive) (m : ℕ) (old new : Ahead S) (result : Result T ScanRowFault) : Type 0 where
   pub report : RunReport
-  pub answers : Answers kinds listed report result
+  pub answers : Answers kinds given report result
   pub scan : (t : List ℕ) → input_of to_come old ≡ Some t → Scan to_come ds m t old new report
   -- the report is that of some input, also where the source doesn't make its own known
   pub told : (x : List ℕ) × (ending : Ending) × RunTold ds m x ending report
@@ -62,9 +63,9 @@ pub record RowScan {S T : Type 0} (to_come : S → Option (List ℕ)) (reads fai
   pub waited : WaitedFor to_come reads N ds m old new report.used
 
 -- there was a run of the whole text, and its one report is answered
-pub record TextRow {T : Type 0} (kinds : List Kind) (listed : T → List Datum) (ds : List Directive) (m : ℕ) (text : List ℕ)
+pub record TextRow {T : Type 0} (kinds : List Kind) (given : T → List (Option Datum)) (ds : List Directive) (m : ℕ) (text : List ℕ)
     (result : Result T ScanRowFault) : Type 0 where
   pub report : RunReport
-  pub answers : Answers kinds listed report result
+  pub answers : Answers kinds given report result
   pub told : RunTold ds m text End report
   pub bounded : IsSome (width_sum ds) → RunWithin ds m text End report

@@ -18,7 +18,7 @@ mod whole;
 pub use field::Field;
 pub use lookahead::Lookahead;
 pub use row::{ScanRowFault, has_shape, scan_row, scan_row_over};
-pub use rows::{Row, RowFault};
+pub use rows::{GivenRow, Row, RowFault};
 pub use script_source::{ReadStep, ScriptSource};
 pub use slice_source::SliceSource;
 pub use source::{Source, SourceFault};

@@ -1,17 +1,17 @@
 //! Rows of what a source gives.
 ghost use Rattle.std.specs.Prelude.{◌≡◌, length, ◌≤◌, ◌<◌, ◌+◌, ◌⊎◌, ◌↔◌, ℕ, List, true, false, Some, IfErr, IfOk, IfSome, IsErrOf, IsNone, IsOk, IsSome, unwrap_or, if◌then◌else◌};
 ghost use Rattle.sf_base.specs.Kept.{nothing_kept};
-ghost use Rattle.sf_format.specs.Proper.{AreKinded, IsAccepted, destinations_of};
+ghost use Rattle.sf_format.specs.Proper.{AreKinded, IsAccepted, destinations_of, may_miss};
 ghost use Rattle.sf_format.specs.Widths.{width_sum};
 ghost use Rattle.sf_run.specs.Limits.{RunTold};
 ghost use Rattle.sf_run.specs.Memory.{capacity_of};
 ghost use Rattle.sf_run.specs.outcome.Status.TheVariants.{Done};
 ghost use Rattle.sf_run.specs.Quick.{IsDoneWithin};
-ghost use Rattle.sf_run.specs.Rows.{AreGiven};
 ghost use Rattle.sf_run.specs.Stopping.{is_memory_status};
 ghost use Rattle.sf_read.specs.Ahead.{input_of};
 ghost use Rattle.sf_read.specs.Counts.{counted_on};
 ghost use Rattle.sf_read.specs.Reads.{WaitedFor};
+ghost use Rattle.sf_read.specs.Rows.{AreGivenAs, present, slots_by};
 ghost use Rattle.sf_read.specs.RowScans.{Answers, HasShape, IsOfFew, RowScan, is_run};
 ghost use Rattle.sf_read.specs.Scan.{Scan, is_fault};
 
@@ -31,7 +31,7 @@ pub(crate) const FEW_NUMBERS: usize = 8;
 #[derive(Clone, Copy, Debug, PartialEq, Eq)]
 pub enum ScanRowFault {
     /// The slots of the row and their kinds are not the destinations of the format and theirs, or one of these may be
-    /// missing.
+    /// missing and not so in the row.
     ShapeDiffers,
     /// The run was not started.
     Start(StartFault),
@@ -65,10 +65,23 @@ impl fmt::Display for ScanRowFault {
 
 impl Error for ScanRowFault {}
 
-/// Whether the slots of the row and their kinds are the destinations of the format and theirs, none of which may be
-/// missing.
+/// Whether the row may be without a value in each slot that may be missing.
+#[inline(never)]
+fn takes_missing<T: Row>(format: &ScanFormat) -> bool
+    ensures { (result ≡ true) ↔ ((slot : ℕ) → may_miss slot format.now ≡ true → T.optional slot ≡ true) }
+{
+    for before in 0..format.destinations() {
+        if format.may_miss(before + 1) && !T::may_miss(before + 1) {
+            return false;
+        }
+    }
+    true
+}
+
+/// Whether the slots of the row and their kinds are the destinations of the format and theirs, and the row may be
+/// without a value in each that may be missing.
 pub fn has_shape<T: Row>(format: &ScanFormat) -> bool
-    ensures same { (result ≡ true) ↔ HasShape T.kinds format.now }
+    ensures same { (result ≡ true) ↔ HasShape T.kinds T.optional format.now }
     ensures kinded { AreKinded format.now }
     ensures accepted { IsAccepted format.now }
 {
@@ -80,9 +93,9 @@ pub fn has_shape<T: Row>(format: &ScanFormat) -> bool
         if T::shape(before + 1) != format.kind(before + 1) {
             return false;
         }
-        if format.may_miss(before + 1) {
-            return false;
-        }
+    }
+    if format.has_optional() {
+        return takes_missing::<T>(format);
     }
     true
 }
@@ -92,8 +105,9 @@ pub(crate) fn row_of<T: Row, K: Store>(
     alloc: Global,
     scanned: &Scanned<K>,
 ) -> Result<T, ScanRowFault>
-    requires { scanned.now.report.status ≡ Done → AreGiven T.kinds scanned.now.report.values }
-    ensures { Answers T.kinds T.listed scanned.now.report result }
+    requires { scanned.now.report.status ≡ Done → AreGivenAs T.kinds T.optional scanned.now.report.values }
+    ensures report { Answers T.kinds (slots_by T.given T.listed) scanned.now.report result }
+    ensures listed { IfOk result (λ row. T.listed row ≡ present (slots_by T.given T.listed row)) }
 {
     let report = scanned.report();
     let outcome = report.outcome();
@@ -168,10 +182,11 @@ fn row_held_into<T: Row, K: Store, S: Source, const N: usize>(
     requires empty { K.kept store.old ≡ nothing_kept (K.kept store.old).room }
     requires slots { length (destinations_of format.now) ≤ K.slots }
     requires accepted { IsAccepted format.now }
-    requires shape { HasShape T.kinds format.now }
-    ensures run { IfSome result (λ row. RowScan S.to_come S.reads S.failures N T.kinds T.listed format.now limit
+    requires shape { HasShape T.kinds T.optional format.now }
+    ensures run { IfSome result (λ row. RowScan S.to_come S.reads S.failures N T.kinds (slots_by T.given T.listed) format.now limit
         from.old from.new row) }
     ensures is_run { IfSome result (λ row. is_run row ≡ true) }
+    ensures listed { IfSome result (λ row. IfOk row (λ made. T.listed made ≡ present (slots_by T.given T.listed made))) }
     ensures answers { IsDoneWithin format.now limit from.old.held (capacity_of (K.kept store.old)) → IsSome result }
     ensures no_read { from.new.source ≡ from.old.source }
     ensures stays { from.new.at_end ≡ from.old.at_end }
@@ -197,10 +212,11 @@ fn row_held<T: Row, S: Source, const N: usize>(
     limit: u32,
 ) -> Option<Result<T, ScanRowFault>>
     requires accepted { IsAccepted format.now }
-    requires shape { HasShape T.kinds format.now }
-    ensures run { IfSome result (λ row. RowScan S.to_come S.reads S.failures N T.kinds T.listed format.now limit
+    requires shape { HasShape T.kinds T.optional format.now }
+    ensures run { IfSome result (λ row. RowScan S.to_come S.reads S.failures N T.kinds (slots_by T.given T.listed) format.now limit
         from.old from.new row) }
     ensures is_run { IfSome result (λ row. is_run row ≡ true) }
+    ensures listed { IfSome result (λ row. IfOk row (λ made. T.listed made ≡ present (slots_by T.given T.listed made))) }
     ensures no_read { from.new.source ≡ from.old.source }
     ensures stays { from.new.at_end ≡ from.old.at_end }
     ensures none { IsNone result → from.new ≡ from.old }
@@ -221,10 +237,11 @@ fn row_of_few<T: Row, S: Source, const N: usize>(
     limit: u32,
 ) -> Option<Result<T, ScanRowFault>>
     requires accepted { IsAccepted format.now }
-    requires shape { HasShape T.kinds format.now }
-    ensures run { IfSome result (λ row. RowScan S.to_come S.reads S.failures N T.kinds T.listed format.now limit
+    requires shape { HasShape T.kinds T.optional format.now }
+    ensures run { IfSome result (λ row. RowScan S.to_come S.reads S.failures N T.kinds (slots_by T.given T.listed) format.now limit
         from.old from.new row) }
     ensures is_run { IfSome result (λ row. is_run row ≡ true) }
+    ensures listed { IfSome result (λ row. IfOk row (λ made. T.listed made ≡ present (slots_by T.given T.listed made))) }
     ensures limit { IsSome result → limit ≤ 2147483647 }
     ensures answers { limit ≤ 2147483647 → IsOfFew format.now → IsDoneWithin format.now limit from.old.held 0
         → IsSome result }
@@ -252,14 +269,15 @@ fn row_by_scan<T: Row, S: Source, const N: usize>(
     limit: u32,
 ) -> Result<T, ScanRowFault>
     requires accepted { IsAccepted format.now }
-    requires shape { HasShape T.kinds format.now }
+    requires shape { HasShape T.kinds T.optional format.now }
     ensures shape { IsErrOf result ScanRowFault.ShapeDiffers → ⊥ }
     ensures limit { IsErrOf result (ScanRowFault.Start StartFault.BadLimit) ↔ (2147483647 < limit) }
     ensures start { (fault : StartFault) → IsErrOf result (ScanRowFault.Start fault)
         → (fault ≡ StartFault.BadLimit) ⊎ (fault ≡ StartFault.NoMemory) }
     ensures unread { is_run result ≡ false → from.new ≡ from.old }
-    ensures run { is_run result ≡ true → RowScan S.to_come S.reads S.failures N T.kinds T.listed format.now limit
+    ensures run { is_run result ≡ true → RowScan S.to_come S.reads S.failures N T.kinds (slots_by T.given T.listed) format.now limit
         from.old from.new result }
+    ensures listed { IfOk result (λ row. T.listed row ≡ present (slots_by T.given T.listed row)) }
     ensures no_read { from.old.at_end ≡ true → from.new.source ≡ from.old.source }
     ensures stays { from.old.at_end ≡ true → from.new.at_end ≡ true }
     ensures enough { IfSome store.old (λ s. unwrap_or (width_sum format.now) 0 ≤ capacity_of s
@@ -287,14 +305,15 @@ fn row_over<T: Row, S: Source, const N: usize>(
     limit: u32,
 ) -> Result<T, ScanRowFault>
     requires accepted { IsAccepted format.now }
-    requires shape { HasShape T.kinds format.now }
+    requires shape { HasShape T.kinds T.optional format.now }
     ensures shape { IsErrOf result ScanRowFault.ShapeDiffers → ⊥ }
     ensures limit { IsErrOf result (ScanRowFault.Start StartFault.BadLimit) ↔ (2147483647 < limit) }
     ensures start { (fault : StartFault) → IsErrOf result (ScanRowFault.Start fault)
         → (fault ≡ StartFault.BadLimit) ⊎ (fault ≡ StartFault.NoMemory) }
     ensures unread { is_run result ≡ false → from.new ≡ from.old }
-    ensures run { is_run result ≡ true → RowScan S.to_come S.reads S.failures N T.kinds T.listed format.now limit
+    ensures run { is_run result ≡ true → RowScan S.to_come S.reads S.failures N T.kinds (slots_by T.given T.listed) format.now limit
         from.old from.new result }
+    ensures listed { IfOk result (λ row. T.listed row ≡ present (slots_by T.given T.listed row)) }
     ensures no_read { from.old.at_end ≡ true → from.new.source ≡ from.old.source }
     ensures stays { from.old.at_end ≡ true → from.new.at_end ≡ true }
     ensures enough { IfSome store.old (λ s. unwrap_or (width_sum format.now) 0 ≤ capacity_of s
@@ -330,14 +349,15 @@ pub fn scan_row<T: Row, S: Source, const N: usize>(
     format: &ScanFormat,
     limit: u32,
 ) -> Result<T, ScanRowFault>
-    ensures shape { IsErrOf result ScanRowFault.ShapeDiffers ↔ (HasShape T.kinds format.now → ⊥) }
+    ensures shape { IsErrOf result ScanRowFault.ShapeDiffers ↔ (HasShape T.kinds T.optional format.now → ⊥) }
     ensures limit { IsErrOf result (ScanRowFault.Start StartFault.BadLimit) ↔
-        (HasShape T.kinds format.now × (2147483647 < limit)) }
+        (HasShape T.kinds T.optional format.now × (2147483647 < limit)) }
     ensures start { (fault : StartFault) → IsErrOf result (ScanRowFault.Start fault)
         → (fault ≡ StartFault.BadLimit) ⊎ (fault ≡ StartFault.NoMemory) }
     ensures unread { is_run result ≡ false → from.new ≡ from.old }
-    ensures run { is_run result ≡ true → RowScan S.to_come S.reads S.failures N T.kinds T.listed format.now limit
+    ensures run { is_run result ≡ true → RowScan S.to_come S.reads S.failures N T.kinds (slots_by T.given T.listed) format.now limit
         from.old from.new result }
+    ensures listed { IfOk result (λ row. T.listed row ≡ present (slots_by T.given T.listed row)) }
     ensures no_read { from.old.at_end ≡ true → from.new.source ≡ from.old.source }
     ensures stays { from.old.at_end ≡ true → from.new.at_end ≡ true }
     ensures few { IsOfFew format.now → IsDoneWithin format.now limit from.old.held 0
@@ -362,14 +382,15 @@ pub fn scan_row_over<T: Row, S: Source, const N: usize>(
     format: &ScanFormat,
     limit: u32,
 ) -> Result<T, ScanRowFault>
-    ensures shape { IsErrOf result ScanRowFault.ShapeDiffers ↔ (HasShape T.kinds format.now → ⊥) }
+    ensures shape { IsErrOf result ScanRowFault.ShapeDiffers ↔ (HasShape T.kinds T.optional format.now → ⊥) }
     ensures limit { IsErrOf result (ScanRowFault.Start StartFault.BadLimit) ↔
-        (HasShape T.kinds format.now × (2147483647 < limit)) }
+        (HasShape T.kinds T.optional format.now × (2147483647 < limit)) }
     ensures start { (fault : StartFault) → IsErrOf result (ScanRowFault.Start fault)
         → (fault ≡ StartFault.BadLimit) ⊎ (fault ≡ StartFault.NoMemory) }
     ensures unread { is_run result ≡ false → from.new ≡ from.old }
-    ensures run { is_run result ≡ true → RowScan S.to_come S.reads S.failures N T.kinds T.listed format.now limit
+    ensures run { is_run result ≡ true → RowScan S.to_come S.reads S.failures N T.kinds (slots_by T.given T.listed) format.now limit
         from.old from.new result }
+    ensures listed { IfOk result (λ row. T.listed row ≡ present (slots_by T.given T.listed row)) }
     ensures no_read { from.old.at_end ≡ true → from.new.source ≡ from.old.source }
     ensures stays { from.old.at_end ≡ true → from.new.at_end ≡ true }
     ensures enough { IfSome store.old (λ s. unwrap_or (width_sum format.now) 0 ≤ capacity_of s

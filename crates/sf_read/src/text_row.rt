@@ -1,6 +1,7 @@
 //! Rows of whole texts.
-ghost use Rattle.std.specs.Prelude.{◌≡◌, ◌≤◌, ◌<◌, ◌⊎◌, ◌↔◌, length, true, IfSome, IsErrOf, IsSome};
+ghost use Rattle.std.specs.Prelude.{◌≡◌, ◌≤◌, ◌<◌, ◌⊎◌, ◌↔◌, length, true, IfOk, IfSome, IsErrOf, IsSome};
 ghost use Rattle.sf_format.specs.Proper.{IsAccepted};
+ghost use Rattle.sf_read.specs.Rows.{present, slots_by};
 ghost use Rattle.sf_read.specs.RowScans.{HasShape, TextRow, is_run};
 
 use crate::row::{FEW_NUMBERS, row_of};
@@ -21,9 +22,10 @@ fn row_of_short<T: Row>(
     limit: u32,
 ) -> Option<Result<T, ScanRowFault>>
     requires accepted { IsAccepted format.now }
-    requires shape { HasShape T.kinds format.now }
-    ensures run { IfSome result (λ row. TextRow T.kinds T.listed format.now limit text.now row) }
+    requires shape { HasShape T.kinds T.optional format.now }
+    ensures run { IfSome result (λ row. TextRow T.kinds (slots_by T.given T.listed) format.now limit text.now row) }
     ensures is_run { IfSome result (λ row. is_run row ≡ true) }
+    ensures listed { IfSome result (λ row. IfOk row (λ made. T.listed made ≡ present (slots_by T.given T.listed made))) }
     ensures limit { IsSome result → limit ≤ 2147483647 }
 {
     if limit > MOST_BYTES
@@ -49,12 +51,13 @@ fn row_by_sscan<T: Row>(
     limit: u32,
 ) -> Result<T, ScanRowFault>
     requires accepted { IsAccepted format.now }
-    requires shape { HasShape T.kinds format.now }
+    requires shape { HasShape T.kinds T.optional format.now }
     ensures shape { IsErrOf result ScanRowFault.ShapeDiffers → ⊥ }
     ensures limit { IsErrOf result (ScanRowFault.Start StartFault.BadLimit) ↔ (2147483647 < limit) }
     ensures start { (fault : StartFault) → IsErrOf result (ScanRowFault.Start fault)
         → (fault ≡ StartFault.BadLimit) ⊎ (fault ≡ StartFault.NoMemory) }
-    ensures run { is_run result ≡ true → TextRow T.kinds T.listed format.now limit text.now result }
+    ensures run { is_run result ≡ true → TextRow T.kinds (slots_by T.given T.listed) format.now limit text.now result }
+    ensures listed { IfOk result (λ row. T.listed row ≡ present (slots_by T.given T.listed row)) }
 {
     match sscan(alloc, text, format, limit) {
         Ok(scanned) => row_of(alloc, &scanned),
@@ -75,12 +78,13 @@ pub fn sscan_row<T: Row>(
     format: &ScanFormat,
     limit: u32,
 ) -> Result<T, ScanRowFault>
-    ensures shape { IsErrOf result ScanRowFault.ShapeDiffers ↔ (HasShape T.kinds format.now → ⊥) }
+    ensures shape { IsErrOf result ScanRowFault.ShapeDiffers ↔ (HasShape T.kinds T.optional format.now → ⊥) }
     ensures limit { IsErrOf result (ScanRowFault.Start StartFault.BadLimit) ↔
-        (HasShape T.kinds format.now × (2147483647 < limit)) }
+        (HasShape T.kinds T.optional format.now × (2147483647 < limit)) }
     ensures start { (fault : StartFault) → IsErrOf result (ScanRowFault.Start fault)
         → (fault ≡ StartFault.BadLimit) ⊎ (fault ≡ StartFault.NoMemory) }
-    ensures run { is_run result ≡ true → TextRow T.kinds T.listed format.now limit text.now result }
+    ensures run { is_run result ≡ true → TextRow T.kinds (slots_by T.given T.listed) format.now limit text.now result }
+    ensures listed { IfOk result (λ row. T.listed row ≡ present (slots_by T.given T.listed row)) }
 {
     if !has_shape::<T>(format) {
         return Err(ScanRowFault::ShapeDiffers);

@@ -33,6 +33,10 @@ impl Row for Named {
         }
     }
 
+    fn may_miss(_slot: u8) -> bool {
+        false
+    }
+
     fn from_report<S: Store>(alloc: Global, report: &Report<'_, S>) -> Result<Self, RowFault> {
         let (Some(Value::I32(number)), Some(Value::Text(text))) = (report.value(1), report.value(2))
         else {

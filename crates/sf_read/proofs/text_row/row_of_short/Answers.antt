@@ -1,8 +1,8 @@
 use Rattle.std.proofs.Common.{inl, length, subst}
 use Rattle.sf_run.specs.outcome.Ending.TheVariants.{End}
-use Rattle.sf_run.specs.Rows.{AreRowOf}
 use Rattle.sf_run.specs.Runs.{RunReport}
 use Rattle.sf_run.specs.Views.{report_by}
+use Rattle.sf_read.specs.Rows.{AreSlotsOf, slots_by}
 use Rattle.sf_read.proofs.Shapes.{given}
 use Rattle.sf_read.proofs.text_row.row_of_short.Goals as goal
 
@@ -11,7 +11,7 @@ from_report-requires-clause-given g c =
     let e = c.in_ok-outcome.ensures in
     let report : RunReport = report_by c.in_ok-outcome.outcome c.scan_short.new.store.values in
     rw (c.new.ensures)
-    (given g.T.Row.kinds c.args.format.now c.args.limit c.args.text.now End report c.requires.accepted.kinded c.requires.accepted.slots
+    (given g.T.Row.kinds g.T.Row.optional c.args.format.now c.args.limit c.args.text.now End report c.requires.accepted.kinded c.requires.accepted.slots
     c.requires.shape (inl e.run) e.done)
 
 pub returns-in-Ok-clause-run : goal.returns-in-Ok-clause-run
@@ -21,8 +21,8 @@ returns-in-Ok-clause-run g c =
       report = report_by c.in_ok-outcome.outcome c.scan_short.new.store.values;
       answers = (
         e.done,
-        subst (λ (r : RunReport). AreRowOf (length g.T.Row.kinds) (g.T.Row.listed c.in-Ok.row) r.values) c.new.ensures
-            c.in-Ok.ensures,
+        subst (λ (r : RunReport). AreSlotsOf (length g.T.Row.kinds) (slots_by g.T.Row.given g.T.Row.listed c.in-Ok.row) r.values) c.new.ensures
+            c.in-Ok.ensures.row,
       );
       told = inl e.run;
       bounded = λ _. e.run;
