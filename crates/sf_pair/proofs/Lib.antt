@@ -43,3 +43,4 @@ pub mod Nothing
 pub mod Held
 pub mod JoinedTexts
 pub mod Longest
+pub mod LongestReals

@@ -64,7 +64,7 @@ hex_length : (k n : ℕ) → length (hex_digits k n) ≡ k
 hex_length zero n = refl
 hex_length (suc k) n = omega (arith, length-append (hex_digits k (n / 16)) (hex_digit (n % 16) ∷ []), hex_length k (n / 16))
 
-hex_size : (alt : Bool) (d n : ℕ) → length (hex_text alt d n) ≡ 1 + pointed_size alt d
+pub hex_size : (alt : Bool) (d n : ℕ) → length (hex_text alt d n) ≡ 1 + pointed_size alt d
 hex_size alt d n =
     omega (arith, length-append (hex_digits 1 (n / 16 ^ d)) (hex_point alt d n), hex_length 1 (n / 16 ^ d), by (nat_lt 0 d || alt))
   where
@@ -72,7 +72,8 @@ hex_size alt d n =
     by true = omega (arith, hex_length d n)
     by false = refl
 
-binary_exponent_size : (power : ℕ) → let size = (power - 1022) + (1022 - power) in length (binary_exponent_of power) ≡ 2 + count_of 0 size
+pub binary_exponent_size : (power : ℕ)
+    → let size = (power - 1022) + (1022 - power) in length (binary_exponent_of power) ≡ 2 + count_of 0 size
 binary_exponent_size power = let size = (power - 1022) + (1022 - power) in omega (arith, fixed_length (count_of 0 size) size)
 
 -- ---- 0
@@ -149,7 +150,7 @@ hexadecimal_zero alt precision =
 
 -- ---- the least number that passes a test
 
-passing : (test : ℕ → Bool) (k i : ℕ) (b : Bool) → test i ≡ b
+pub passing : (test : ℕ → Bool) (k i : ℕ) (b : Bool) → test i ≡ b
     → (test (first_passing test k b i) ≡ true) ⊎ (first_passing test k b i ≡ i + k)
 passing test zero i b is = inr (omega arith)
 passing test (suc k) i true is = inl is
@@ -171,7 +172,7 @@ below_power : (k : ℕ) → k < 10 ^ k
 below_power zero = omega arith
 below_power (suc k) = omega (arith, below_power k, pow-suc 10 k)
 
-count_fits : (d n : ℕ) → n < 10 ^ (count_of d n + d)
+pub count_fits : (d n : ℕ) → n < 10 ^ (count_of d n + d)
 unfolding count_of
 count_fits d n = elim (passing test n 1 (test 1) refl) [
   | inl h ↦ ltb-true n (10 ^ (first_passing test n (test 1) 1 + d)) h
@@ -204,7 +205,7 @@ power_zero x k e = (
 )
 
 -- with one power less there are more digits
-power_low : (x : Float) (k : ℕ) → is_zero_size x ≡ false → 0 < power_of x k → 10 ^ k ≤ scaled_at x k (power_of x k - 1)
+pub power_low : (x : Float) (k : ℕ) → is_zero_size x ≡ false → 0 < power_of x k → 10 ^ k ≤ scaled_at x k (power_of x k - 1)
 unfolding power_of
 power_low x k e some =
     let r : ℕ = least_passing test 1000 0 in
@@ -444,7 +445,7 @@ unfolding is_sign_negative
 zero_positive = refl
 
 -- where the sign is that of a number that isn't negative
-record Signs (c : FloatConv) (x : Float) : Type 0 where
+pub record Signs (c : FloatConv) (x : Float) : Type 0 where
   pub here : hidden c x + length (bare_sign c x) ≤ 1
   pub zero_here : hidden c zero_number + length (bare_sign c zero_number) ≤ 1
   pub no_longer : length (bare_sign c zero_number) ≤ length (bare_sign c x)
@@ -456,7 +457,7 @@ bare_by n p = cond n (45 ∷ []) (cond p (43 ∷ []) [])
 abbrev hidden_by : Bool → Bool → Bool → ℕ
 hidden_by n p b = cond n 0 (cond p 0 (cond b 1 0))
 
-signs_of : (c : FloatConv) (x : Float) → Signs c x
+pub signs_of : (c : FloatConv) (x : Float) → Signs c x
 signs_of c x = record {
   here = one (is_sign_negative x) c.plus c.blank;
   zero_here = one (is_sign_negative zero_number) c.plus c.blank;

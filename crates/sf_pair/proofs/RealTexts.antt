@@ -102,7 +102,7 @@ exponent_long e = by (nat_lt e 100)
     by true = omega (arith, fixed_length 2 e)
     by false = omega (arith, fixed_length 3 e)
 
-exponent_all : (e : ℕ) → All digits (exponent_digits e)
+pub exponent_all : (e : ℕ) → All digits (exponent_digits e)
 exponent_all e = by (nat_lt e 100)
   where
     by : (t : Bool) → All digits (cond t (fixed_digits 2 e) (fixed_digits 3 e))
@@ -120,7 +120,7 @@ pub record Signed (t : List ℕ) : Type 0 where
   pub all : All digits after
   pub begun : 0 < length before
 
-exponent_is : (negative : Bool) (e : List ℕ) → 0 < length e → exponent_with true negative e ≡ 101 ∷ cond negative 45 43 ∷ e
+pub exponent_is : (negative : Bool) (e : List ℕ) → 0 < length e → exponent_with true negative e ≡ 101 ∷ cond negative 45 43 ∷ e
 exponent_is negative [] some = absurd (omega arith)
 exponent_is true (d ∷ ds) some = refl
 exponent_is false (d ∷ ds) some = refl

@@ -1,5 +1,5 @@
 //! Floats of a pair: the length of the text of 0, and whether the text of a float is read as it.
-ghost use Rattle.std.specs.Prelude.{false, not, ◌≡◌, ◌≤◌, ◌+◌, ◌&&◌, ◌||◌, nat_lt, nat_le, if◌then◌else◌, length, max, from_bits};
+ghost use Rattle.std.specs.Prelude.{false, not, ◌≡◌, ◌≤◌, ◌+◌, ◌&&◌, ◌||◌, nat_lt, nat_le, if◌then◌else◌, length, max, unwrap_or, from_bits};
 ghost use Rattle.std.specs.Float.{float_is_finite};
 ghost use Rattle.std.specs.Float.Ieee.{binary64};
 ghost use Rattle.sf_base.specs.declared.real.Real.TheVariants as reals;
@@ -9,6 +9,7 @@ ghost use Rattle.sf_format.specs.declared.unit.PrintLetter.TheVariants.{Float};
 ghost use Rattle.sf_print.specs.Floats.{number_of, style_of, real_text};
 ghost use Rattle.sf_pair.specs.Reals.{seen, zero_seen, has_point, is_read_as};
 ghost use Rattle.sf_pair.specs.Fits.{real_fits};
+ghost use Rattle.sf_pair.specs.Widths.{written_style, pointed, significant, longest_digits, mark_digits, longest_by, longest_float};
 
 use crate::below::laws_below;
 use crate::pairing::width_of;
@@ -34,7 +35,8 @@ pub(crate) fn has_point(conv: &PrintConv) -> bool
 
 /// How the letter writes digits; of the others, which print no float, as `f` does.
 fn float_style(letter: PrintLetter) -> FloatStyle
-    ensures { style_of (Float result false) ≡ style_of letter }
+    ensures style { result ≡ written_style letter }
+    ensures text { style_of (Float result false) ≡ style_of letter }
 {
     match letter {
         PrintLetter::Float(style, _) => style,
@@ -117,6 +119,46 @@ pub(crate) fn zero_len(conv: &PrintConv) -> u32
     let style = float_style(conv.letter);
     let bare = sign_len(conv) + mark_len(style) + zero_digits_len(style, conv);
     filled_len(conv, bare) - hidden_len(conv)
+}
+
+/// How many bytes the digits of a double have at most, without its sign and without the `0x` of `a`.
+fn longest_digits_len(style: FloatStyle, conv: &PrintConv) -> u32
+    ensures len { result ≡ longest_digits style conv.now }
+    ensures short { result ≤ 565 }
+    ensures few { unwrap_or conv.now.precision 6 ≤ 255 }
+{
+    let decimals = conv.precision.unwrap_or(6);
+    match style {
+        FloatStyle::Fixed => pointed_len(decimals, conv.alt) + 308,
+        FloatStyle::Exponent => pointed_len(decimals, conv.alt) + 5,
+        FloatStyle::General => {
+            let digits = decimals.max(1);
+            if digits > 1 || conv.alt {
+                digits as u32 + 6
+            } else {
+                6
+            }
+        }
+        FloatStyle::Hexadecimal => pointed_len(conv.precision.unwrap_or(13), conv.alt) + 6,
+    }
+}
+
+/// The length of the longest text that the conversion prints of a finite double, without the blanks before it.
+pub(crate) fn longest_float_len(conv: &PrintConv) -> u32
+    ensures len { result ≡ longest_float conv.now }
+    ensures few { unwrap_or conv.now.precision 6 ≤ 255 }
+{
+    let style = float_style(conv.letter);
+    let mark = match style {
+        FloatStyle::Hexadecimal => 2,
+        _ => 0,
+    };
+    let bare = 1 + mark + longest_digits_len(style, conv);
+    if conv.zero {
+        bare.max(conv.width as u32)
+    } else {
+        bare
+    }
 }
 
 fn is_finite(bits: u64) -> bool

@@ -1,11 +1,13 @@
 //! How wide a scan has to be for each number that a conversion prints.
-ghost use Rattle.std.specs.Prelude.{◌≡◌, ◌<◌, false, None, MatchOption};
+ghost use Rattle.std.specs.Prelude.{◌≡◌, ◌≢◌, ◌⊎◌, ◌<◌, true, false, Some, None, MatchOption, IfSome};
 ghost use Rattle.sf_base.specs.Kinds.{bounds_of};
 ghost use Rattle.sf_base.specs.Data.{datum_of};
 ghost use Rattle.sf_print.specs.Text.{least_digits};
-ghost use Rattle.sf_pair.specs.Widths.{AreExtremes, IsLongest};
+ghost use Rattle.sf_format.specs.Units.{is_double};
+ghost use Rattle.sf_pair.specs.Widths.{AreExtremes, IsLongest, NoneIsLonger, longest_float};
 
 use crate::below::laws_below;
+use crate::reals::longest_float_len;
 use sf_base::{Kind, Value};
 use sf_format::PrintConv;
 use sf_print::core_len;
@@ -29,15 +31,24 @@ fn extremes(kind: Kind) -> Option<(Value<'static>, Value<'static>)>
 }
 
 /// The length of the longest text that the conversion prints of a number of its kind, without the blanks before it: the
-/// least width of a conversion that reads each of them, as 11 for `%d`. None of a text or a float.
+/// least width of a conversion that reads each of them, as 11 for `%d` and 314 for `%.3f`. Of the kind of doubles that
+/// is of the finite ones. None of a text.
 ///
-/// A `-` pads with blanks after the number, and the precision 0 prints no digit of 0: of such a conversion, which no
-/// scan reads back, the length isn't said.
+/// A `-` pads with blanks after the number, and the precision 0 prints no digit of the integer 0: of such a conversion,
+/// which no scan reads back, the length isn't said.
 pub fn longest_len(conv: &PrintConv) -> Option<u32>
-    ensures { MatchOption result (bounds_of conv.now.kind ≡ None)
-        (λ n. conv.now.minus ≡ false → 0 < least_digits conv.now → IsLongest conv.now n) }
+    ensures none { MatchOption result ((bounds_of conv.now.kind ≡ None) × (is_double conv.now.kind ≡ false))
+        (λ n. (bounds_of conv.now.kind ≢ None) ⊎ (is_double conv.now.kind ≡ true)) }
+    ensures integer { IfSome result (λ n. bounds_of conv.now.kind ≢ None → conv.now.minus ≡ false
+        → 0 < least_digits conv.now → IsLongest conv.now n) }
+    ensures float { is_double conv.now.kind ≡ true → result ≡ Some (longest_float conv.now) }
+    ensures enough { is_double conv.now.kind ≡ true → conv.now.minus ≡ false
+        → IfSome result (NoneIsLonger conv.now) }
 {
     laws_below();
+    if conv.kind == Kind::F64 {
+        return Some(longest_float_len(conv));
+    }
     let (least, greatest) = extremes(conv.kind)?;
     Some(core_len(conv, least).max(core_len(conv, greatest)))
 }
