@@ -39,6 +39,7 @@ pub mod FitTests
 pub mod InPlace
 pub mod Written
 pub mod SlotCounts
+pub mod NoneMissing
 pub mod Nothing
 pub mod Held
 pub mod JoinedTexts

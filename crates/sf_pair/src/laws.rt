@@ -3,7 +3,7 @@
 ghost use Rattle.sf_pair.specs.Walk.{AlignedIsAccepted};
 ghost use Rattle.sf_pair.specs.Fits.{FitsIsFit};
 ghost use Rattle.sf_pair.specs.Joined.{JoinedRoundTrip};
-ghost use Rattle.sf_pair.specs.Laws.{AlignedEndsOnNothing, AlignedIsBounded, AlignedSlotsAgree, EachStopIsOne, HeldIsBounded, LiteralsAreRunInto, OpenEndsAreOpen, PrintsSome, ReadWithin, RoundTrip};
+ghost use Rattle.sf_pair.specs.Laws.{AlignedEndsOnNothing, AlignedIsBounded, AlignedIsWhole, AlignedMissesNone, AlignedSlotsAgree, EachStopIsOne, HeldIsBounded, LiteralsAreRunInto, OpenEndsAreOpen, PrintsSome, ReadWithin, RoundTrip};
 
 use crate::below::laws_below;
 
@@ -55,6 +55,13 @@ pub fn slots_agree()
 #[tactic(auto, using(crate::proofs::Bounds::aligned_is_bounded))]
 pub fn aligned_is_bounded()
     ensures { AlignedIsBounded }
+{}
+
+/// A scan format that is aligned with a print format has no conversion whose item may be missing, and so no slot that
+/// may have no value.
+pub fn aligned_is_whole()
+    ensures conversions { AlignedIsWhole }
+    ensures slots { AlignedMissesNone }
 {}
 
 /// No text that is printed of values that fit is empty.
