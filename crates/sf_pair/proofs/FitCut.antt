@@ -64,7 +64,7 @@ pub all_rest : (P : PrintUnit → Type 0) (xs ys : List PrintUnit) → AllByRecu
 all_rest P [] ys h = h
 all_rest P (x ∷ xs) ys h = all_rest P xs ys h.1
 
-space_prints_none : (group rest : List PrintUnit) → AreSpace group → conversions (group ++ rest) ≡ conversions rest
+pub space_prints_none : (group rest : List PrintUnit) → AreSpace group → conversions (group ++ rest) ≡ conversions rest
 space_prints_none [] rest h = refl
 space_prints_none (unit.Byte b ∷ us) rest h = space_prints_none us rest h.1
 space_prints_none (unit.Conv c ∷ us) rest h = absurd h

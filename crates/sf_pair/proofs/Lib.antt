@@ -45,3 +45,11 @@ pub mod Held
 pub mod JoinedTexts
 pub mod Longest
 pub mod LongestReals
+pub mod ParsedNumerals
+pub mod PaddedNumerals
+pub mod PaddedHexadecimals
+pub mod SignificantDigits
+pub mod ShortenedDigits
+pub mod EnoughDigits
+pub mod BinaryDigits
+pub mod EachDouble

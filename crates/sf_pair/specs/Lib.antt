@@ -10,3 +10,4 @@ pub mod Laws
 pub mod Joined
 pub mod Texts
 pub mod Widths
+pub mod Doubles
