@@ -30,17 +30,17 @@ use Rattle.sf_float_value.specs.Values.{is_minus, stored, IsHexValue, IsStored, 
 use Rattle.sf_print.specs.Text.{zeros}
 use Rattle.sf_print.specs.Floats.{style_of, float_conv}
 use Rattle.sf_pair.specs.Groups.{IsConversionGroup, IsGroup, AreCut, is_left_out, next_of}
-use Rattle.sf_pair.specs.Widths.{written_style}
+use Rattle.sf_pair_texts.specs.Widths.{written_style}
 use Rattle.sf_pair.specs.Fits.{RealFits, ValueFits, FitsAt, AllFit, conversions, assigned_conversions}
 use Rattle.sf_pair.specs.Doubles.{WritesEnough, CarriesDoubles, IsFiniteDouble, IsCarried, AllCarried, FiniteDoublesFit}
 use Rattle.sf_pair.proofs.Paired.{Pairs, pairs}
 use Rattle.sf_pair.proofs.FitCut.{all_rest, space_prints_none}
-use Rattle.sf_pair.proofs.RealTexts.{size_of, bare_sign, mark_bytes, after_sign, body, mark_is, seen_is}
-use Rattle.sf_pair.proofs.LongestReals.{none_is_longer}
-use Rattle.sf_pair.proofs.PaddedNumerals.{Decimal, padded_numeral, padded_back}
-use Rattle.sf_pair.proofs.PaddedHexadecimals.{hex_padded}
-use Rattle.sf_pair.proofs.EnoughDigits.{exponent_reads, general_reads}
-use Rattle.sf_pair.proofs.BinaryDigits.{hexadecimal_right}
+use Rattle.sf_pair_texts.proofs.RealTexts.{size_of, bare_sign, mark_bytes, after_sign, body, mark_is, seen_is}
+use Rattle.sf_pair_texts.proofs.LongestReals.{none_is_longer}
+use Rattle.sf_pair_texts.proofs.PaddedNumerals.{Decimal, padded_numeral, padded_back}
+use Rattle.sf_pair_texts.proofs.PaddedHexadecimals.{hex_padded}
+use Rattle.sf_pair_texts.proofs.EnoughDigits.{exponent_reads, general_reads}
+use Rattle.sf_pair_texts.proofs.BinaryDigits.{hexadecimal_right}
 
 -- the laws of the crates below
 pub record FloatsReadBack : Type 0 where

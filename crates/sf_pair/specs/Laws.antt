@@ -23,7 +23,7 @@ use Rattle.sf_print.specs.Text.{value_text}
 use Rattle.sf_report.specs.Steps.{StepEnd, Step}
 use Rattle.sf_pair.specs.declared.fault.PairWhy.TheVariants as why
 use Rattle.sf_pair.specs.declared.fault.PairFault.{PairFault}
-use Rattle.sf_pair.specs.Neighbours.{is_spare}
+use Rattle.sf_pair_texts.specs.Neighbours.{is_spare}
 use Rattle.sf_pair.specs.Walk.{pair_fault}
 use Rattle.sf_pair.specs.Groups.{IsGroup, IsAligned, next_of}
 use Rattle.sf_pair.specs.Fits.{Fit, ValueFits}

@@ -6,9 +6,9 @@ ghost use Rattle.sf_pair.specs.Fits.{FitsIsFit};
 ghost use Rattle.sf_pair.specs.Joined.{JoinedRoundTrip};
 ghost use Rattle.sf_pair.specs.Laws.{AlignedEndsOnNothing, AlignedIsBounded, AlignedIsWhole, AlignedMissesNone, AlignedSlotsAgree, EachStopIsOne, HeldIsBounded, LiteralsAreRunInto, OpenEndsAreOpen, PrintsSome, ReadWithin, RoundTrip};
 
-use crate::below::laws_below;
 use sf_float::laws::{general_reads_back, general_zero_reads_back};
 use sf_float_value::laws::hexadecimal_reads_back;
+use sf_pair_texts::laws_below;
 
 /// The walk finds no fault exactly where the formats are aligned.
 #[tactic(auto, using(crate::proofs::Cutting::aligned_is_accepted))]
