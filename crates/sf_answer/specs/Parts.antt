@@ -11,7 +11,8 @@ use Rattle.sf_format.specs.declared.unit.PrintConv.{PrintConv}
 use Rattle.sf_format.specs.declared.unit.Unit.{Unit as PrintUnit}
 use Rattle.sf_format.specs.declared.unit.Unit.TheVariants as unit
 use Rattle.sf_print.specs.Text.{least_digits}
-use Rattle.sf_pair.specs.Widths.{IsLongest}
+use Rattle.sf_format.specs.Units.{is_double}
+use Rattle.sf_pair.specs.Widths.{IsLongest, longest_float}
 
 -- ---- a literal
 
@@ -74,9 +75,16 @@ in_order n [] = true
 in_order n (unit.Byte b ∷ us) = in_order n us
 in_order n (unit.Conv c ∷ us) = (c.slot == n) && in_order (n + 1) us
 
--- the width of a number is the length of its longest text. Blanks of a `-`, and a 0 without digits, aren't read back: there it is any
+-- the width of an integer is the length of its longest text. Blanks of a `-`, and a 0 without digits, aren't read back: there it is any
+abbrev pub IsIntegerWidth : PrintConv → ℕ → Type 0
+IsIntegerWidth c n = bounds_of c.kind ≢ None → c.minus ≡ false → 0 < least_digits c → IsLongest c n
+
+-- that of a double is the length of the longest text of a finite one
+abbrev pub IsDoubleWidth : PrintConv → ℕ → Type 0
+IsDoubleWidth c n = is_double c.kind ≡ true → n ≡ longest_float c
+
 abbrev pub IsWidthOf : PrintConv → ℕ → Type 0
-IsWidthOf c n = bounds_of c.kind ≢ None → c.minus ≡ false → 0 < least_digits c → IsLongest c n
+IsWidthOf c n = IsIntegerWidth c n × IsDoubleWidth c n
 
 abbrev pub IsNumberPart : Bool → PrintConv → List ℕ → Type 0
 IsNumberPart numbered c part =

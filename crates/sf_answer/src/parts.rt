@@ -1,7 +1,7 @@
 //! The parts of a scan format, each of which reads one unit of a print format.
 ghost use Rattle.std.specs.Prelude.{◌≡◌, ◌++◌, List, ℕ, Option, OnOk};
 ghost use Rattle.std.specs.Fmt.{decimal};
-ghost use Rattle.sf_answer.specs.Parts.{literal_part, number_part, width_part, length_part, letter_part, opening_part, stop_of, text_part, in_order, IsNumberPart, IsPart, IsPartBy};
+ghost use Rattle.sf_answer.specs.Parts.{literal_part, number_part, width_part, length_part, letter_part, opening_part, stop_of, text_part, in_order, IsWidthOf, IsNumberPart, IsPart, IsPartBy};
 
 use sf_base::{Kind, is_space};
 use sf_format::{PrintConv, PrintLetter, Unit};
@@ -97,11 +97,18 @@ fn letter_text(letter: PrintLetter) -> &'static str
     }
 }
 
+/// The width of the scan's conversion that reads each number.
+fn number_width(conv: &PrintConv) -> u32
+    ensures { IsWidthOf conv.now result }
+{
+    longest_len(conv).unwrap_or(1)
+}
+
 fn push_number_part(to: &mut Vec<u8>, numbered: bool, conv: &PrintConv) -> Result<(), AllocError>
     ensures { OnOk result ((part : List ℕ) × IsNumberPart numbered conv.now part
         × (to.new.items ≡ to.old.items ++ part)) }
 {
-    let width = longest_len(conv).unwrap_or(1);
+    let width = number_width(conv);
     push_opening(to, numbered, conv.slot, Some(width))?;
     push_text(to, length_text(conv.kind))?;
     push_text(to, letter_text(conv.letter))

@@ -91,6 +91,24 @@ fn base_two_is_of_the_second_profile(rt: HostRuntime) -> Result<(), Fail> {
 }
 
 #[test]
+fn floats_are_of_the_third_profile(rt: HostRuntime) -> Result<(), Fail> {
+    let alloc = rt.alloc();
+    let print = PrintFormat::parse(alloc, Profile::Three, b"%.3f,%e %a;")?;
+    let text = scan_text(alloc, Profile::Three, &print, None)?;
+    is(
+        &text.as_slice(),
+        &b"%314lf,%14lf%*1[ ]%24lf;".as_slice(),
+        &"profile 3",
+    )?;
+    let print = PrintFormat::parse(alloc, Profile::Three, b"%f%f;")?;
+    let found = match scan_text(alloc, Profile::Three, &print, None) {
+        Err(NoScanText::Unpaired(fault)) => Some(fault.why),
+        _ => None,
+    };
+    is(&found, &Some(PairWhy::RunsOn), &"two floats")
+}
+
+#[test]
 fn one_part_is_what_to_write_instead(rt: HostRuntime) -> Result<(), Fail> {
     let alloc = rt.alloc();
     let number = PrintFormat::parse(alloc, Profile::One, b"%d,%s;")?;

@@ -17,10 +17,10 @@ use Rattle.sf_report.specs.Machine.{shape_skips}
 use Rattle.sf_report.specs.Laws.{EachByteIsTried}
 use Rattle.sf_report.specs.Computed.{skip}
 use Rattle.sf_pair.specs.declared.fault.PairWhy.TheVariants as why
-use Rattle.sf_pair.specs.Neighbours.{Bytes as ByteTest, meet, first_of, first_by_letter, reads, stop_set}
+use Rattle.sf_pair_texts.specs.Neighbours.{Bytes as ByteTest, meet, first_of, first_by_letter, reads, stop_set}
 use Rattle.sf_pair.specs.Groups.{AreSpace, is_count, starts_with_space, keeps_space, space_fault, always_full, follow_fault, closing_fault, next_of}
-use Rattle.sf_pair.proofs.Bodies.{StartsInk, FirstByte}
-use Rattle.sf_pair.proofs.Firsts.{FirstIn, first_append}
+use Rattle.sf_pair_texts.proofs.Bodies.{StartsInk, FirstByte}
+use Rattle.sf_pair_texts.proofs.Firsts.{FirstIn, first_append}
 use Rattle.sf_pair.proofs.Taken.{FirstOut}
 use Rattle.sf_pair.proofs.FitCut.{PairedReads, FitCut}
 

@@ -15,8 +15,8 @@ use Rattle.sf_format.specs.Units.{IsProperConv, IsProperUnit, AreProperUnits}
 use Rattle.sf_format.specs.Proper.{IsProperWidth, HasItsWidth, IsSized, AreSized, IsProper, AreProper}
 use Rattle.sf_print.specs.Printed.{value_at, value_fault}
 use Rattle.sf_report.specs.Machine.{shape_skips}
-use Rattle.sf_pair.specs.Below.{LawsBelow}
-use Rattle.sf_pair.specs.Neighbours.{only, no_byte, reads}
+use Rattle.sf_pair_texts.specs.Below.{LawsBelow}
+use Rattle.sf_pair_texts.specs.Neighbours.{only, no_byte, reads}
 use Rattle.sf_pair.specs.Groups.{IsLiteral, AreSpace, IsSpaceRun, IsPaired, IsConversionGroup, IsGroup, AreCut, is_count, is_left_out, is_width_one, members_of, suppressed_by, closing_fault, next_of}
 use Rattle.sf_pair.specs.Fits.{FitsAt, AllFit, conversions, assigned_by, assigned_conversions}
 use Rattle.sf_pair.proofs.Paired.{or_none, Pairs, pairs, slot_is}
@@ -64,7 +64,7 @@ pub all_rest : (P : PrintUnit → Type 0) (xs ys : List PrintUnit) → AllByRecu
 all_rest P [] ys h = h
 all_rest P (x ∷ xs) ys h = all_rest P xs ys h.1
 
-space_prints_none : (group rest : List PrintUnit) → AreSpace group → conversions (group ++ rest) ≡ conversions rest
+pub space_prints_none : (group rest : List PrintUnit) → AreSpace group → conversions (group ++ rest) ≡ conversions rest
 space_prints_none [] rest h = refl
 space_prints_none (unit.Byte b ∷ us) rest h = space_prints_none us rest h.1
 space_prints_none (unit.Conv c ∷ us) rest h = absurd h

@@ -26,8 +26,8 @@ use Rattle.sf_float_value.specs.Computed.{stored_in}
 use Rattle.sf_item.specs.Tests.{is_ink}
 use Rattle.sf_print.specs.Printed.{value_at, same_kind}
 use Rattle.sf_print.specs.Visible.{visible}
-use Rattle.sf_pair.specs.Below.{LawsBelow}
-use Rattle.sf_pair.specs.Reals.{seen, is_pattern, is_read_as}
+use Rattle.sf_pair_texts.specs.Below.{LawsBelow}
+use Rattle.sf_pair_texts.specs.Reals.{seen, is_pattern, is_read_as}
 use Rattle.sf_pair.specs.Groups.{width_of}
 use Rattle.sf_pair.specs.Fits.{is_negative, TextFits, RealFits, ValueFits, FitsAt, AllFit, Fit, conversions, assigned_by, assigned_conversions, is_number_so, is_of_kind, is_byte, is_item_of, text_fits, real_fits, value_fits, fits_or_not, all_fit, fits, FitsIsFit}
 use Rattle.sf_pair.specs.Formats.{Formats}

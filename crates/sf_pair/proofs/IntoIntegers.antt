@@ -24,13 +24,13 @@ use Rattle.sf_print.specs.Text.{zeros, base_mark, is_octal, least_digits, pads_w
 use Rattle.sf_print.specs.Visible.{without_blanks, visible, least}
 use Rattle.sf_report.specs.Machine.{shape_skips}
 use Rattle.sf_base.specs.Kinds.{bounds_of}
-use Rattle.sf_pair.specs.Below.{LawsBelow}
-use Rattle.sf_pair.specs.Neighbours.{prefix_letters, stop_set}
+use Rattle.sf_pair_texts.specs.Below.{LawsBelow}
+use Rattle.sf_pair_texts.specs.Neighbours.{prefix_letters, stop_set}
 use Rattle.sf_pair.specs.Groups.{is_number, is_chars, is_auto, letters_pair, width_of, least_by, always_full}
 use Rattle.sf_pair.specs.Fits.{IsOfKind, ValueFits}
 use Rattle.sf_pair.specs.Laws.{TakesInto}
-use Rattle.sf_pair.proofs.Parts.{bare_sign, zero_digit, one_digit}
-use Rattle.sf_pair.proofs.Bodies.{StartsInk, without_some, Body}
+use Rattle.sf_pair_texts.proofs.Parts.{bare_sign, zero_digit, one_digit}
+use Rattle.sf_pair_texts.proofs.Bodies.{StartsInk, without_some, Body}
 use Rattle.sf_pair.proofs.Numbers.{NumberRead, lone_zero_read, mark_of_zero, none_marked}
 use Rattle.sf_pair.proofs.Paired.{and_so, full_by, Pairs, width_is}
 use Rattle.sf_pair.proofs.Back.{SkipsSo, ReadsBack}

@@ -1,19 +1,8 @@
-pub mod Parts
 pub mod ReadDigits
-pub mod Bodies
 pub mod Numbers
 pub mod Taken
 pub mod TakenTexts
-pub mod Shortest
-pub mod Firsts
 pub mod Paired
-pub mod Places
-pub mod RealTexts
-pub mod RealSizes
-pub mod RealCode
-pub mod RealZero
-pub mod ZeroRead
-pub mod ZeroStored
 pub mod Back
 pub mod ReadReals
 pub mod ReadBack
@@ -23,7 +12,6 @@ pub mod Ahead
 pub mod Steps
 pub mod Whole
 pub mod Cutting
-pub mod Meets
 pub mod Walking
 pub mod Bounds
 pub mod RunsOn
@@ -39,7 +27,8 @@ pub mod FitTests
 pub mod InPlace
 pub mod Written
 pub mod SlotCounts
+pub mod NoneMissing
 pub mod Nothing
 pub mod Held
 pub mod JoinedTexts
-pub mod Longest
+pub mod EachDouble

@@ -13,27 +13,12 @@ use Rattle.sf_format.specs.Units.{is_unsigned}
 use Rattle.sf_print.specs.Printed.{same_kind}
 use Rattle.sf_print.specs.Text.{least_digits}
 use Rattle.sf_base.specs.Rules.{first_reason}
+pub use Rattle.sf_pair_texts.proofs.Tests.{or_none, not_none, and_so, and_both}
 use Rattle.sf_pair.specs.declared.fault.PairWhy.TheVariants as why
 use Rattle.sf_pair.specs.Groups.{is_integer, is_number, is_text, is_chars, is_one, letters_pair, width_of, least_by, kinds_differ, numbers_differ, bad_flag, has_no_width, too_narrow, leading_zero, rule, pairing_fault}
 use Rattle.sf_pair.specs.Fits.{IsOfKind}
 
 -- ---- tests
-
-pub or_none : (x y : Bool) → (x || y) ≡ false → (x ≡ false) × (y ≡ false)
-or_none true y e = absurd cc
-or_none false y e = (refl, e)
-
-pub not_none : (x : Bool) → not x ≡ false → x ≡ true
-not_none true e = refl
-not_none false e = absurd cc
-
-pub and_so : (x y : Bool) → x ≡ true → y ≡ true → (x && y) ≡ true
-and_so true y e h = h
-and_so false y e h = absurd cc
-
-pub and_both : (x y : Bool) → (x && y) ≡ true → (x ≡ true) × (y ≡ true)
-and_both true y e = (refl, e)
-and_both false y e = absurd cc
 
 six : (a b c d e f : Bool) → first_reason (rule why.KindDiffers a ∷ rule why.NumberDiffers b ∷ rule why.BadFlagHere c ∷ rule why.NoWidth d
     ∷ rule why.TooNarrow e ∷ rule why.LeadingZero f ∷ []) ≡ None

@@ -26,16 +26,16 @@ use Rattle.sf_print.specs.Text.{integer_text, bytes_text, shown_bytes, padded, b
 use Rattle.sf_report.specs.Steps.{Stores}
 use Rattle.sf_report.specs.Machine.{shape_skips}
 use Rattle.sf_print.specs.Visible.{visible, least}
-use Rattle.sf_pair.specs.Below.{LawsBelow}
-use Rattle.sf_pair.specs.Neighbours.{Bytes as ByteTest, stop_set, integer_first, first_by_letter, only, or, any_byte}
+use Rattle.sf_pair_texts.specs.Below.{LawsBelow}
+use Rattle.sf_pair_texts.specs.Neighbours.{Bytes as ByteTest, stop_set, integer_first, first_by_letter, only, or, any_byte}
 use Rattle.sf_pair.specs.Groups.{is_integer, is_number, is_text, is_chars, is_auto, letters_pair, width_of, least_by, always_full}
 use Rattle.sf_pair.specs.Fits.{is_negative, IsOfKind, TextFits, RealFits, ValueFits}
-use Rattle.sf_pair.proofs.Bodies.{StartsInk, FirstByte, blanks_byte, Body, body_of}
+use Rattle.sf_pair_texts.proofs.Bodies.{StartsInk, FirstByte, blanks_byte, Body, body_of}
 use Rattle.sf_pair.proofs.Numbers.{NumberRead, HasMark, read_decimal, read_octal, read_marked, read_auto}
-use Rattle.sf_pair.proofs.Shortest.{least_is_shortest, visible_some}
+use Rattle.sf_pair_texts.proofs.Shortest.{least_is_shortest, visible_some}
 use Rattle.sf_pair.proofs.Back.{SkipsSo, ReadsBack}
 use Rattle.sf_pair.proofs.ReadReals.{real_reads_back}
-use Rattle.sf_pair.proofs.Firsts.{FirstIn, first_weaker, or_right, NoSign, SignFits, integer_text_first}
+use Rattle.sf_pair_texts.proofs.Firsts.{FirstIn, first_weaker, or_right, NoSign, SignFits, integer_text_first}
 use Rattle.sf_pair.proofs.Taken.{FirstOut, integer_takes, integer_stored}
 use Rattle.sf_pair.proofs.TakenTexts.{text_takes, set_takes, chars_takes, text_stored, set_stored, chars_stored}
 use Rattle.sf_pair.proofs.Paired.{full_by, or_none, Pairs, kinds_are, slot_is, width_is, small_of, unsigned_number, no_number_of_text}

@@ -18,8 +18,8 @@ use Rattle.sf_report.specs.Steps.{StepEnd, Passes, Stores, Misses, Fails}
 use Rattle.sf_report.specs.Runs.{is_conversion, is_shape_converted}
 use Rattle.sf_report.specs.Machine.{shape_skips}
 use Rattle.sf_report.specs.Computed.{skip, skip_before, byte_step, byte_choice, step_of}
-use Rattle.sf_pair.specs.Below.{LawsBelow}
-use Rattle.sf_pair.specs.Neighbours.{only}
+use Rattle.sf_pair_texts.specs.Below.{LawsBelow}
+use Rattle.sf_pair_texts.specs.Neighbours.{only}
 use Rattle.sf_pair.specs.Groups.{IsLiteral, AreSpace, is_count, next_of}
 use Rattle.sf_pair.specs.Laws.{with_value, printed_values}
 use Rattle.sf_pair.proofs.Taken.{Takes, conversion_taken}

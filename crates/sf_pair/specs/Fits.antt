@@ -24,7 +24,7 @@ use Rattle.sf_item.specs.Tests.{is_ink}
 use Rattle.sf_print.specs.Printed.{value_at, same_kind}
 use Rattle.sf_print.specs.Visible.{visible}
 use Rattle.sf_float_value.specs.Values.{IsStored}
-use Rattle.sf_pair.specs.Reals.{seen, is_read_as}
+use Rattle.sf_pair_texts.specs.Reals.{seen, is_read_as}
 use Rattle.sf_pair.specs.Groups.{width_of}
 
 abbrev pub is_negative : ℤ → Bool

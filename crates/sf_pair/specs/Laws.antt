@@ -8,7 +8,7 @@ use Rattle.sf_format.specs.declared.directive.Conversion.{Conversion}
 use Rattle.sf_format.specs.declared.directive.Directive.{Directive}
 use Rattle.sf_format.specs.declared.unit.PrintConv.{PrintConv}
 use Rattle.sf_format.specs.Units.{AreAccepted, values_of}
-use Rattle.sf_format.specs.Proper.{IsAccepted, destinations_of}
+use Rattle.sf_format.specs.Proper.{IsAccepted, destinations_of, has_optional, may_miss}
 use Rattle.sf_base.specs.Kept.{texts_in}
 use Rattle.sf_print.specs.Printed.{value_at, printed}
 use Rattle.sf_report.specs.declared.outcome.Ending.{Ending}
@@ -23,7 +23,7 @@ use Rattle.sf_print.specs.Text.{value_text}
 use Rattle.sf_report.specs.Steps.{StepEnd, Step}
 use Rattle.sf_pair.specs.declared.fault.PairWhy.TheVariants as why
 use Rattle.sf_pair.specs.declared.fault.PairFault.{PairFault}
-use Rattle.sf_pair.specs.Neighbours.{is_spare}
+use Rattle.sf_pair_texts.specs.Neighbours.{is_spare}
 use Rattle.sf_pair.specs.Walk.{pair_fault}
 use Rattle.sf_pair.specs.Groups.{IsGroup, IsAligned, next_of}
 use Rattle.sf_pair.specs.Fits.{Fit, ValueFits}
@@ -68,6 +68,14 @@ ReadWithin = (us : List PrintUnit) (ds : List Directive) → AreAccepted us → 
 -- the texts that a scan of an aligned format stores are bounded
 abbrev pub AlignedIsBounded : Type 0
 AlignedIsBounded = (us : List PrintUnit) (ds : List Directive) → IsAccepted ds → IsAligned us ds → IsSome (width_sum ds)
+
+-- no conversion of an aligned scan format may be missing
+abbrev pub AlignedIsWhole : Type 0
+AlignedIsWhole = (us : List PrintUnit) (ds : List Directive) → IsAligned us ds → has_optional ds ≡ false
+
+-- nor may any of its slots
+abbrev pub AlignedMissesNone : Type 0
+AlignedMissesNone = (us : List PrintUnit) (ds : List Directive) → IsAligned us ds → (slot : ℕ) → may_miss slot ds ≡ false
 
 -- no text that is printed of values that fit is empty
 abbrev pub PrintsSome : Type 0

@@ -8,8 +8,8 @@ ghost use Rattle.sf_print.specs.Printed.{value_at};
 ghost use Rattle.sf_pair.specs.Groups.{width_of};
 ghost use Rattle.sf_pair.specs.Fits.{is_byte, is_item_of, text_fits, value_fits, fits_or_not, all_fit, conversions, assigned_conversions, assigned_by, fits};
 
+use crate::doubles::double_fits;
 use crate::pairing::width_of;
-use crate::reals::double_fits;
 use sf_base::{ByteSet, Value, is_space};
 use sf_format::{Conversion, Directive, PrintConv, Shape, Unit};
 use sf_print::{core_len, value_of_slot};

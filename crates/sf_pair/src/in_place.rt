@@ -7,9 +7,9 @@ ghost use Rattle.sf_print.specs.Printed.{printed, text_or_none, value_at};
 ghost use Rattle.sf_pair.specs.Fits.{value_fits, fits_or_not, all_fit, conversions, assigned_conversions};
 
 use crate::as_shown::AsShown;
+use crate::doubles::double_is_read;
 use crate::fitting::{assigned, text_fits};
 use crate::pairing::width_of;
-use crate::reals::double_is_read;
 use sf_base::{Real, Shown};
 use sf_format::{Conversion, Directive, PrintConv, Unit};
 use sf_print::{visible_len, write_value};

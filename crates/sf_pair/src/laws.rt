@@ -1,11 +1,14 @@
 //! Laws of pairs.
 //! None of these functions does anything: its contract is the law.
 ghost use Rattle.sf_pair.specs.Walk.{AlignedIsAccepted};
+ghost use Rattle.sf_pair.specs.Doubles.{FiniteDoublesFit};
 ghost use Rattle.sf_pair.specs.Fits.{FitsIsFit};
 ghost use Rattle.sf_pair.specs.Joined.{JoinedRoundTrip};
-ghost use Rattle.sf_pair.specs.Laws.{AlignedEndsOnNothing, AlignedIsBounded, AlignedSlotsAgree, EachStopIsOne, HeldIsBounded, LiteralsAreRunInto, OpenEndsAreOpen, PrintsSome, ReadWithin, RoundTrip};
+ghost use Rattle.sf_pair.specs.Laws.{AlignedEndsOnNothing, AlignedIsBounded, AlignedIsWhole, AlignedMissesNone, AlignedSlotsAgree, EachStopIsOne, HeldIsBounded, LiteralsAreRunInto, OpenEndsAreOpen, PrintsSome, ReadWithin, RoundTrip};
 
-use crate::below::laws_below;
+use sf_float::laws::{general_reads_back, general_zero_reads_back};
+use sf_float_value::laws::hexadecimal_reads_back;
+use sf_pair_texts::laws_below;
 
 /// The walk finds no fault exactly where the formats are aligned.
 #[tactic(auto, using(crate::proofs::Cutting::aligned_is_accepted))]
@@ -19,6 +22,16 @@ pub fn fits_is_fit()
     ensures { FitsIsFit }
 {
     laws_below();
+}
+
+/// A finite double fits where the print format writes 17 significant digits of it or more, or each hexadecimal digit
+/// (`%.16e`, `%.17g`, `%a`), and the scan format has room for the longest of these texts, which `longest_len` answers.
+pub fn finite_doubles_fit()
+    ensures { FiniteDoublesFit }
+{
+    general_reads_back();
+    general_zero_reads_back();
+    hexadecimal_reads_back();
 }
 
 /// What a print format prints of values that fit, an aligned scan format reads back, whatever follows.
@@ -55,6 +68,13 @@ pub fn slots_agree()
 #[tactic(auto, using(crate::proofs::Bounds::aligned_is_bounded))]
 pub fn aligned_is_bounded()
     ensures { AlignedIsBounded }
+{}
+
+/// A scan format that is aligned with a print format has no conversion whose item may be missing, and so no slot that
+/// may have no value.
+pub fn aligned_is_whole()
+    ensures conversions { AlignedIsWhole }
+    ensures slots { AlignedMissesNone }
 {}
 
 /// No text that is printed of values that fit is empty.

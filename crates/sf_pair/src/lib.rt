@@ -2,19 +2,16 @@
 #![tactic(auto)]
 
 mod as_shown;
-mod below;
+mod doubles;
 mod fault;
 mod fitting;
 mod in_place;
 pub mod laws;
-mod neighbours;
 mod pair;
 mod pairing;
-mod reals;
 mod walk;
-mod widths;
 
 pub use as_shown::AsShown;
 pub use fault::{PairFault, PairWhy, WriteFault};
 pub use pair::Pair;
-pub use widths::longest_len;
+pub use sf_pair_texts::longest_len;

@@ -11,13 +11,13 @@ ghost use Rattle.sf_pair.specs.Fits.{Fit, fits};
 ghost use Rattle.sf_pair.specs.Writing.{WritesWhole, is_sink_failure};
 
 use crate::as_shown::AsShown;
-use crate::below::laws_below;
 use crate::fault::{PairFault, WriteFault};
 use crate::fitting::all_fit;
 use crate::in_place::write_units;
 use crate::walk::pair_fault;
 use sf_base::Value;
 use sf_format::{PrintFormat, ScanFormat};
+use sf_pair_texts::laws_below;
 use sf_print::{Sink, fprint, write_text};
 use std::marker::Model;
 

@@ -1,0 +1,4 @@
+pub mod Below
+pub mod Reals
+pub mod Neighbours
+pub mod Widths
