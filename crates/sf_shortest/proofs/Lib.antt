@@ -1,3 +1,4 @@
+mod Backward
 mod Between
 mod Cuts
 mod Firsts

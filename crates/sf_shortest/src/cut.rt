@@ -5,6 +5,7 @@ ghost use Rattle.sf_float.specs.Quotient.{IsQuotient};
 ghost use Rattle.sf_float.specs.Scaled.{is_zero};
 ghost use Rattle.sf_shortest.specs.Cut.{IsCut};
 
+use crate::powers::ten_to;
 use sf_float::{Natural, Size, sign_and_bits, size_of};
 
 /// Twice a size over 10^(first - 416), cut to a whole number, and whether anything was cut off. The first digit of the
@@ -54,7 +55,9 @@ fn twice_short(size: Size, first: u32) -> (u64, bool)
     requires most { 2 * (size.m * 10 ^ (416 - first)) < 10 ^ 18 * 2 ^ size.down }
     ensures { IsQuotient (2 * (size.m * 10 ^ (416 - first))) (2 ^ size.down) result.0 result.1 }
 {
-    let wide = size.m as u128 * 10u128.pow(416 - first) * 2;
+    let tens = 416 - first;
+    let few = tens.min(19);
+    let wide = (size.m * ten_to(tens - few)) as u128 * ten_to(few) as u128 * 2;
     let whole = wide >> size.down;
     (whole as u64, whole << size.down != wide)
 }

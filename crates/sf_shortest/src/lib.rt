@@ -4,6 +4,7 @@
 mod cut;
 mod laid;
 pub mod laws;
+mod powers;
 mod text;
 mod trial;
 
