@@ -7,6 +7,7 @@ ghost use Rattle.sf_float.specs.Texts.{fixed_digits, exponent_digits, exponent_s
 
 use crate::leading::significant;
 use crate::natural::Natural;
+use crate::short::{put_last, without};
 
 /// Room for the longest text: the 309 digits of the greatest float, a point, and 255 digits after it.
 pub const ROOM: usize = 565;
@@ -32,6 +33,9 @@ pub(crate) fn put_digits(
     ensures end { result ≡ at + (from - to) }
     ensures written { take result out.new ≡ take at out.old ++ fixed_digits (from - to) (n.now / 10 ^ to) }
 {
+    if let Some(value) = n.as_u64() {
+        return put_last(without(value, to), from - to, out, at);
+    }
     let mut k = from;
     let mut end = at;
     while k > to {

@@ -1,4 +1,3 @@
-mod Backward
 mod Between
 mod Cuts
 mod Firsts

@@ -5,8 +5,7 @@ ghost use Rattle.sf_float.specs.Quotient.{IsQuotient};
 ghost use Rattle.sf_float.specs.Scaled.{is_zero};
 ghost use Rattle.sf_shortest.specs.Cut.{IsCut};
 
-use crate::powers::ten_to;
-use sf_float::{Natural, Size, sign_and_bits, size_of};
+use sf_float::{Natural, Size, sign_and_bits, size_of, ten_to};
 
 /// Twice a size over 10^(first - 416), cut to a whole number, and whether anything was cut off. The first digit of the
 /// size is that of 10^(first - 400).

@@ -5,8 +5,8 @@ ghost use Rattle.sf_float.specs.Texts.{fixed_digits, exponent_size, IsCount};
 ghost use Rattle.sf_float.specs.Computed.{count_of};
 ghost use Rattle.sf_shortest.specs.Laid.{is_plain, plain_text, raised_text, laid_out};
 
-use crate::powers::ten_to;
 use sf_base::Real;
+use sf_float::ten_to;
 
 /// Room for a text: a sign, `0.00000`, and 19 digits.
 pub const ROOM: usize = 32;

@@ -4,7 +4,6 @@
 mod cut;
 mod laid;
 pub mod laws;
-mod powers;
 mod text;
 mod trial;
 

@@ -6,9 +6,9 @@ ghost use Rattle.sf_shortest.specs.Cut.{IsCut};
 ghost use Rattle.sf_shortest.specs.Digits.{number_of, most_decimals, near, other, reads_back, tried, searched, trimmed, shortest};
 
 use crate::cut::Cut;
-use crate::powers::ten_to;
 use fast_float::from_parts;
 use sf_base::Real;
+use sf_float::ten_to;
 use std::num::{
     f32_from_bits_with_nan, f32_to_bits_with_nan, f64_from_bits_with_nan, f64_to_bits_with_nan,
 };

@@ -3,7 +3,7 @@ use Rattle.std.proofs.lemmas.List.{take-set-le}
 use Rattle.std.proofs.Math.ListN.{set}
 use Rattle.std.proofs.Math.Seq.{take-add}
 use Rattle.sf_float.specs.Texts.{fixed_digits}
-use Rattle.sf_shortest.proofs.Backward.{next_left, next_digit}
+use Rattle.sf_float.proofs.Backward.{next_left, next_digit}
 use Rattle.sf_shortest.proofs.laid.put_last.Goals as goal
 
 pub loop-k-preserved : goal.loop-k-preserved

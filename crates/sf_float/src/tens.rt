@@ -2,7 +2,7 @@
 ghost use Rattle.std.specs.Prelude.{◌≡◌, ◌^◌, ◌<◌, ◌≤◌};
 
 /// 10^n.
-pub(crate) fn ten_to(n: u32) -> u64
+pub fn ten_to(n: u32) -> u64
     requires { n ≤ 19 }
     ensures value { result ≡ 10 ^ n }
     ensures some { 0 < result }
