@@ -71,8 +71,7 @@ pub(crate) fn put_exponent(power: u32, out: &mut [u8; ROOM], at: usize) -> usize
     let end = put(b'e', out, at);
     let end = put(if power < 400 { b'-' } else { b'+' }, out, end);
     let size = power.saturating_sub(400) + 400u32.saturating_sub(power);
-    let digits = Natural::new(size as u64);
-    put_digits(&digits, if size < 100 { 2 } else { 3 }, 0, out, end)
+    put_last(size as u64, if size < 100 { 2 } else { 3 }, out, end)
 }
 
 fn put_scientific(
