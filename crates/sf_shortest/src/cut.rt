@@ -56,7 +56,8 @@ fn is_short(size: Size, first: u32) -> bool
 
 /// In 128 bits.
 fn twice_short(size: Size, first: u32) -> (u64, bool)
-    requires few { (size.m < 2 ^ 53) × (385 ≤ first) × (first ≤ 416) × (416 - first ≤ size.down) × (size.down ≤ 543 - first) }
+    requires few { (size.m < 2 ^ 53) × (385 ≤ first) × (first ≤ 416) × (416 - first ≤ size.down)
+        × (size.down ≤ 543 - first) }
     requires most { 2 * (size.m * 10 ^ (416 - first)) < 10 ^ 18 * 2 ^ size.down }
     ensures { IsQuotient (2 * (size.m * 10 ^ (416 - first))) (2 ^ size.down) result.0 result.1 }
 {
