@@ -1,6 +1,6 @@
 -- The text of a float is the one that is computed.
-use Rattle.std.proofs.Common.{◌≡◌, ◌≢◌, ℕ, zero, suc, ◌+◌, ◌-◌, ◌*◌, ◌/◌, ◌%◌, ◌^◌, ◌<◌, ◌≤◌, Bool, true, false, ◌&&◌, List, [], ◌∷◌, ◌++◌, max, nat_eq, nat_lt, nat_le, Option, Some, None, refl, sym, ap, ◌∙◌, subst, arith, eq-or-lt_of_le, eq-zero-or-pos, inl, inr, pow-suc, pow_pos, mul-div_cancel, lt_of_lt_of_le, le_trans, not-le_of_lt, add-one, mul-pos, div-add-mod', mul-le-mul_left, ◌⊎◌, unwrap_or, cond}
-use Rattle.std.proofs.lemmas.Bool.{true≢false, eqb-true, eqb-false, eq-eqb, ne_eqb, ltb-true, lt-ltb, le-ltb, le-leb, lt-leb, and_from, and_right}
+use Rattle.std.proofs.Common.{◌≡◌, ℕ, zero, suc, ◌+◌, ◌-◌, ◌*◌, ◌/◌, ◌%◌, ◌^◌, ◌<◌, ◌≤◌, Bool, true, false, List, ◌∷◌, ◌++◌, max, nat_eq, nat_lt, nat_le, Option, Some, None, refl, sym, ap, ◌∙◌, subst, arith, eq-or-lt_of_le, inl, inr, pow-suc, pow_pos, mul-div_cancel, le_trans, mul-pos, div-add-mod', mul-le-mul_left, ◌⊎◌, unwrap_or, cond}
+use Rattle.std.proofs.lemmas.Bool.{true≢false, eqb-true, eq-eqb, ne_eqb, lt-ltb, le-ltb, le-leb, lt-leb, and_from, and_right}
 use Rattle.std.proofs.lemmas.Nat.{pow-add}
 use Rattle.std.proofs.Math.Nat.{pow-le-pow_right}
 use native.Mathlib.Nat.{eq_of_mul-eq-mul_right, mul-mod_left}
@@ -12,7 +12,6 @@ use Rattle.std.specs.Float.Ieee.Nearest.{closest}
 use Rattle.ryu.specs.Plain.{text_with}
 use Rattle.sf_float.specs.declared.text.Style.{Style}
 use Rattle.sf_float.specs.declared.text.Style.TheVariants.{Fixed, Exponent, General, Hexadecimal}
-use Rattle.sf_float.specs.declared.text.FloatConv.{FloatConv}
 use Rattle.sf_float.specs.Scaled.{scaled, scaled_at, is_zero, IsSignificant, IsScientific}
 use Rattle.sf_float.specs.Texts.{fixed_digits, fixed_text, scientific, IsCount}
 use Rattle.sf_float.specs.General.{IsShortened, IsPlainPower, IsGeneralOf}

@@ -136,3 +136,11 @@ wide_rest_fits rest x by R B X = omega arith
 
 pub bounded : (xs : List ℕ) (n : ℕ) → n ≤ 65 → AreZeroFrom xs n → AreNines xs → value_below xs n < limb_weight 65
 bounded xs n l z h = omega (arith, value_below-lt xs 65 h, value_below_zeros xs n 65 z l)
+
+-- a number of two limbs at most
+pub two_limbs : (xs : List ℕ) (len : ℕ) → len ≤ 2 → AreZeroFrom xs len → get_or xs 1 0 * 1000000000 + get_or xs 0 0 ≡ value_below xs len
+unfolding value_below limb_weight
+two_limbs xs zero l z = omega (arith, z 0 (omega arith), z 1 (omega arith))
+two_limbs xs (suc zero) l z = omega (arith, z 1 (omega arith))
+two_limbs xs (suc (suc zero)) l z = omega arith
+two_limbs xs (suc (suc (suc n))) l z = absurd (omega (arith, l))

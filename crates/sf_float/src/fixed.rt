@@ -7,6 +7,7 @@ ghost use Rattle.sf_float.specs.Texts.{fixed_text, IsCount};
 use crate::finite::fixed_number;
 use crate::natural::Natural;
 use crate::scientific::{ROOM, put_digits, put_point};
+use crate::short::{put_short, short_fixed};
 
 /// How many digits stand before the point.
 pub(crate) fn whole_count(n: &Natural, decimals: usize) -> usize
@@ -30,6 +31,9 @@ pub fn write_fixed(x: f64, decimals: u8, alt: bool, out: &mut [u8; ROOM]) -> usi
     ensures text { (count : ℕ) × IsCount decimals (scaled x decimals 0) count
         × (take result out.new ≡ fixed_text alt decimals (scaled x decimals 0) count) }
 {
+    if let Some(n) = short_fixed(x, decimals as u32) {
+        return put_short(n, decimals as usize, alt, out);
+    }
     let n = fixed_number(x, decimals as u32);
     let count = whole_count(&n, decimals as usize);
     let end = put_digits(&n, count + decimals as usize, decimals as usize, out, 0);

@@ -1,5 +1,5 @@
 //! A natural number in a room of fixed size: limbs of nine decimal digits, the lowest first.
-ghost use Rattle.std.specs.Prelude.{◌≡◌, ℕ, ◌+◌, ◌-◌, ◌*◌, ◌/◌, ◌%◌, ◌^◌, ◌<◌, ◌≤◌, slice_index, IsTrue, IsFalse};
+ghost use Rattle.std.specs.Prelude.{◌≡◌, ℕ, ◌+◌, ◌-◌, ◌*◌, ◌/◌, ◌%◌, ◌^◌, ◌<◌, ◌≤◌, slice_index, IsTrue, IsFalse, IfSome};
 ghost use Rattle.sf_float.specs.Limbs.{value_below, limb_weight, AreZeroFrom, AreNines};
 ghost use Rattle.sf_float.specs.Quotient.{IsQuotient};
 
@@ -237,6 +237,16 @@ impl Natural {
         ensures even { IsFalse result → self.now % 2 ≡ 0 }
     {
         self.digit(0) % 2 == 1
+    }
+
+    /// The number, where that is seen to fit.
+    pub fn as_u64(&self) -> Option<u64>
+        ensures { IfSome result (λ n. n ≡ self.now) }
+    {
+        if self.len > 2 {
+            return None;
+        }
+        Some(self.limbs[1] as u64 * BASE + self.limbs[0] as u64)
     }
 
     /// How many digits it has; 0 has none.

@@ -5,6 +5,7 @@ ghost use Rattle.sf_float.specs.Limbs.{limb_weight};
 ghost use Rattle.sf_float.specs.Quotient.{IsQuotient};
 
 use crate::natural::Natural;
+use crate::short::nearest_short;
 
 /// Twice m * 2^up / 2^down * 10^tens_up / 10^tens_down, cut to a whole number, and whether something was cut off.
 pub fn twice_scaled(m: u64, up: u32, down: u32, tens_up: u32, tens_down: u32) -> (Natural, bool)
@@ -44,6 +45,11 @@ pub fn nearest_scaled(m: u64, up: u32, down: u32, tens_up: u32, tens_down: u32) 
     requires room { m * 2 ^ (up + 1) * 10 ^ tens_up < limb_weight 65 }
     ensures { result ≡ closest (m * 2 ^ up * 10 ^ tens_up) (2 ^ down * 10 ^ tens_down) }
 {
+    if up == 0 && tens_down == 0 {
+        if let Some(n) = nearest_short(m, down, tens_up) {
+            return Natural::new(n);
+        }
+    }
     let (twice, lost) = twice_scaled(m, up, down, tens_up, tens_down);
     halved(twice, lost)
 }

@@ -7,6 +7,7 @@ ghost use Rattle.sf_float.specs.Texts.{fixed_digits, exponent_digits, exponent_s
 
 use crate::leading::significant;
 use crate::natural::Natural;
+use crate::short::{put_last, without};
 
 /// Room for the longest text: the 309 digits of the greatest float, a point, and 255 digits after it.
 pub const ROOM: usize = 565;
@@ -32,6 +33,9 @@ pub(crate) fn put_digits(
     ensures end { result ≡ at + (from - to) }
     ensures written { take result out.new ≡ take at out.old ++ fixed_digits (from - to) (n.now / 10 ^ to) }
 {
+    if let Some(value) = n.as_u64() {
+        return put_last(without(value, to), from - to, out, at);
+    }
     let mut k = from;
     let mut end = at;
     while k > to {
@@ -67,8 +71,7 @@ pub(crate) fn put_exponent(power: u32, out: &mut [u8; ROOM], at: usize) -> usize
     let end = put(b'e', out, at);
     let end = put(if power < 400 { b'-' } else { b'+' }, out, end);
     let size = power.saturating_sub(400) + 400u32.saturating_sub(power);
-    let digits = Natural::new(size as u64);
-    put_digits(&digits, if size < 100 { 2 } else { 3 }, 0, out, end)
+    put_last(size as u64, if size < 100 { 2 } else { 3 }, out, end)
 }
 
 fn put_scientific(

@@ -1,5 +1,6 @@
 //! How far a floating-point number has been read.
-ghost use Rattle.std.specs.Prelude.{◌≡◌, ◌↔◌, ◌<◌, ℕ, IsTrue, List, [], ◌∷◌, None};
+ghost use Rattle.std.specs.Prelude.{◌≡◌, ◌↔◌, ◌<◌, ℕ, true, IsTrue, List, [], ◌∷◌, Some, None};
+ghost use Rattle.std.specs.Char.{is_ascii_digit};
 ghost use Rattle.sf_float_item.specs.Sequences.{is_digit, opens_exponent, is_sign};
 ghost use Rattle.sf_float_item.specs.Steps.{Completes, Goes};
 ghost use Rattle.sf_float_item.specs.Tests.{after_exponent, after_letter, letter_of_exponent, after_point, after_fraction, after_digits, first_of_number, after_zero, first, in_parentheses, letter, next, is_whole};
@@ -225,6 +226,18 @@ impl Reached {
         ensures next { result ≡ next self b }
     {
         self.place_after(b)
+    }
+
+    /// Whether decimal digits leave the place as it is.
+    pub(crate) fn takes_digits(self) -> bool
+        ensures { IsTrue result → (b : ℕ) → is_ascii_digit b ≡ true → next self b ≡ Some self }
+    {
+        match self {
+            Reached::Whole(Radix::Ten) => true,
+            Reached::Fraction(Radix::Ten) => true,
+            Reached::Exponent => true,
+            _ => false,
+        }
     }
 
     /// Whether what was read is a matching sequence.

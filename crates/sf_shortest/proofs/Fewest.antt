@@ -21,7 +21,7 @@ use Rattle.sf_shortest.specs.Laws.{NoneShorter}
 use Rattle.sf_shortest.proofs.Between.{parts_fit, reads_itself, between, unsigned, resigned}
 use Rattle.sf_shortest.proofs.Cuts.{cut_of_value, other_above, other_below}
 use Rattle.sf_shortest.proofs.FirstDigits.{count_fits, count_some, count_most, count_least, long, no_longer}
-use Rattle.sf_shortest.proofs.ReadBack.{most_few, pattern_fits, zero_round, finite_sign}
+use Rattle.sf_shortest.proofs.ReadBack.{most_few, pattern_fits, tried_back, zero_round, finite_sign}
 
 -- ---- digits without the zeros at the end
 
@@ -223,6 +223,23 @@ module _ (r : real.Real) (s : Bool) (m : ℕ) (e : _) (is : number_of r ≡ fin 
         by false B true C q = none-some (other x last) (sym q)
         by false B false C q = elim (some false false B C) [ inl t ↦ true≢false (sym t) | inr t ↦ true≢false (sym t) ]
 
+    -- a decimal with fewer digits is one with so many
+    finer : (n q : ℕ) → last ≤ q → reads n q → reads below last ⊎ reads (below + 1) last
+    finer n q l h =
+        let t = q - last in
+        let e : q - 400 + i ≡ t + (j + (400 - q)) = omega (arith, l) in
+        let s : 10 ^ (q - 400) * 10 ^ i ≡ 10 ^ t * (10 ^ j * 10 ^ (400 - q)) = sym (pow-add 10 (q - 400) i) ∙ ap (λ y. 10 ^ y) e
+        ∙ pow-add 10 t (j + (400 - q)) ∙ ap (λ y. 10 ^ t * y) (pow-add 10 j (400 - q)) in
+        let same : n * 10 ^ (q - 400) * 10 ^ i ≡ n * 10 ^ t * 10 ^ j * 10 ^ (400 - q) = omega (arith, ap (λ y. n * y) s) in
+        elim (eq-zero-or-pos (n * 10 ^ t - below)) [
+          | inl z ↦
+              let m : n * 10 ^ t ≤ below = omega (arith, z) in
+              inl (if_less n q (rw same (omega (arith, mul-le-mul_right (10 ^ j * 10 ^ (400 - q)) m))) h)
+          | inr g ↦
+              let m : below + 1 ≤ n * 10 ^ t = omega (arith, g) in
+              inr (if_more n q (rw same (omega (arith, mul-le-mul_right (10 ^ j * 10 ^ (400 - q)) m))) h)
+        ]
+
     near_few : near x last ≤ 10 ^ (k + 1)
     near_few = elim near_is [ inl q ↦ omega (arith, q, short) | inr q ↦ omega (arith, q, short) ]
 
@@ -236,6 +253,21 @@ module _ (r : real.Real) (s : Bool) (m : ℕ) (e : _) (is : number_of r ≡ fin 
         by true c q = subst (λ t. t ≤ 10 ^ (k + 1)) (same_Some _ _ q) near_few
         by false true q = subst (λ t. t ≤ 10 ^ (k + 1)) (same_Some _ _ q) other_few
         by false false q = absurd (none-some n q)
+
+  -- ---- where none of so many digits reads back, none of fewer does
+
+  module _ (k : ℕ) (K : k ≤ 16) (none : tried r (first_power x - k) ≡ None) (j : ℕ) (J : j ≤ k) where
+    not_some : (n : ℕ) → tried r (first_power x - j) ≡ Some n → ⊥
+    not_some n h =
+        let back_as = tried_back r (first_power x - j) n (pattern_fits r) h in
+        found k K (finer k K n (first_power x - j) (omega (arith, J)) (forth n (first_power x - j) back_as)) none
+
+    none_of_fewer : tried r (first_power x - j) ≡ None
+    none_of_fewer = by (tried r (first_power x - j)) refl
+      where
+        by : (o : Option ℕ) → tried r (first_power x - j) ≡ o → o ≡ None
+        by None h = refl
+        by (Some n) h = absurd (not_some n h)
 
   -- ---- the search
 
@@ -308,3 +340,11 @@ by_float r (fin s m e) is F some n q h = fewest r s m e is F some n q h
 
 pub none_shorter : NoneShorter
 none_shorter r n q p some h = by_float r (number_of r) refl (pattern_fits r) some n q h
+
+-- of a float that is not 0
+pub none_before : (r : real.Real) (x : Float) → number_of r ≡ x → is_nonzero x → (k : ℕ) → k ≤ 16
+    → tried r (first_power x - k) ≡ None → (j : ℕ) → j ≤ k → tried r (first_power x - j) ≡ None
+none_before r nan is some k K none j J = absurd some
+none_before r (inf s) is some k K none j J = absurd some
+none_before r (fin s m e) is some k K none j J =
+    none_of_fewer r s m e is (subst (λ y. T (fits (format_of r) y)) is (pattern_fits r)) some k K none j J

@@ -1,5 +1,5 @@
 -- Quotients that are cut, and that know whether anything was cut off.
-use Rattle.std.proofs.Common.{◌≡◌, ℕ, suc, ◌+◌, ◌-◌, ◌*◌, ◌/◌, ◌%◌, ◌^◌, ◌<◌, Bool, true, false, not, ◌||◌, nat_eq, refl, sym, ap, inl, inr, arith, eq-zero-or-pos, mod-lt, div-add-mod', pow-suc, mul-pos}
+use Rattle.std.proofs.Common.{◌≡◌, ℕ, suc, ◌+◌, ◌-◌, ◌*◌, ◌/◌, ◌%◌, ◌^◌, ◌<◌, Bool, true, false, not, ◌||◌, nat_eq, refl, sym, ap, inl, inr, arith, eq-zero-or-pos, mod-lt, div-add-mod', pow-suc, mul-pos, mul-lt-mul_of_pos_right}
 use Rattle.std.proofs.lemmas.Bool.{eqb-true, eqb-false}
 use lib.Dec.{lit<}
 use Rattle.sf_float.specs.Quotient.{IsQuotient}
@@ -66,3 +66,9 @@ next_power a c first n lost C q =
   where
     some : (j : ℕ) → 0 < c * 10 ^ j
     some j = mul-pos C (power_pos 10 j (lit< tt))
+
+-- both parts times the same
+pub times_both : (a d k n : ℕ) (lost : Bool) → 0 < k → IsQuotient a d n lost → IsQuotient (a * k) (d * k) n lost
+times_both a d k n false K q = omega (arith, ap (λ t. t * k) q)
+times_both a d k n true K q =
+    (q.0 * k, omega (arith, ap (λ t. t * k) q.1), mul-pos q.2 K, mul-lt-mul_of_pos_right q.3 K)

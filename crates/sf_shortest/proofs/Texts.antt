@@ -1,5 +1,5 @@
 -- The digits of a text, and its room.
-use Rattle.std.proofs.Common.{◌≡◌, ℕ, ◌+◌, ◌-◌, ◌*◌, ◌^◌, ◌<◌, ◌≤◌, Bool, true, refl, sym, ap, ◌∙◌, arith, mul-lt-mul_of_pos_right, lt_of_lt_of_le, mul-pos, ◌++◌, codes, true≢false}
+use Rattle.std.proofs.Common.{◌≡◌, ℕ, ◌+◌, ◌-◌, ◌*◌, ◌^◌, ◌<◌, ◌≤◌, Bool, true, refl, sym, ap, ◌∙◌, arith, mul-lt-mul_of_pos_right, lt_of_lt_of_le, mul-pos, ◌++◌, codes, true≢false, inl, inr, eq-zero-or-pos}
 use Rattle.std.proofs.lemmas.Bool.{ne_eqb}
 use Rattle.std.proofs.lemmas.Nat.{pow-add}
 use Rattle.std.proofs.Math.Nat.{pow-le-pow_right}
@@ -10,6 +10,7 @@ use Rattle.std.specs.Float.Ieee.{Float, nan, inf, fin, down, up, is_nan}
 use Rattle.std.specs.Float.{is_sign_negative, float_is_infinite}
 use Rattle.std.specs.Fmt.{sign_text}
 use Rattle.sf_base.specs.declared.real.Real as real
+use Rattle.sf_float.specs.Scaled.{is_nonzero}
 use Rattle.sf_float.proofs.Limbs.{power_pos}
 use Rattle.sf_shortest.specs.Cut.{IsCut}
 use Rattle.sf_shortest.specs.Digits.{shortest}
@@ -23,12 +24,10 @@ plain_fits n a k l m =
     lt_of_lt_of_le p (omega (arith, pow-add 10 a k, q))
 
 -- a float of which digits are kept is not 0
-pub kept_text : (r : real.Real) (x : Float) (first twice : ℕ) (lost : Bool) → IsCut x first twice lost
-    → size_text r x ≡ laid_out r (shortest r).0 (shortest r).1
-kept_text r nan first twice lost z = absurd z.value
-kept_text r (inf s) first twice lost z = absurd z.value
-kept_text r (fin s m e) first twice lost z =
-    rw (ne_eqb m 0 none) refl
+pub not_zero : (x : Float) (first twice : ℕ) (lost : Bool) → IsCut x first twice lost → is_nonzero x
+not_zero nan first twice lost z = absurd z.value
+not_zero (inf s) first twice lost z = absurd z.value
+not_zero (fin s m e) first twice lost z = elim (eq-zero-or-pos m) [ inl h ↦ absurd (none h) | inr p ↦ p ]
   where
     none : m ≡ 0 → ⊥
     none h =
@@ -39,6 +38,13 @@ kept_text r (fin s m e) first twice lost z =
         let v : z.a * down e ≡ 0 = sym z.value.1 ∙ ap (λ t. t * up e * z.c) h ∙ omega arith in
         let a : z.a ≡ 0 = eq_of_mul-eq-mul_right (down e) (down_pos e) z.a 0 (v ∙ omega arith) in
         absurd (omega (arith, q, U, ap (λ t. t * i) a))
+
+pub kept_text : (r : real.Real) (x : Float) (first twice : ℕ) (lost : Bool) → IsCut x first twice lost
+    → size_text r x ≡ laid_out r (shortest r).0 (shortest r).1
+kept_text r nan first twice lost z = absurd z.value
+kept_text r (inf s) first twice lost z = absurd z.value
+kept_text r (fin s m e) first twice lost z =
+    rw (ne_eqb m 0 (λ h. absurd (omega (arith, h, not_zero (fin s m e) first twice lost z)))) refl
 
 -- ---- words
 

@@ -1,5 +1,5 @@
 -- The steps of the search.
-use Rattle.std.proofs.Common.{◌≡◌, ◌≢◌, ℕ, zero, suc, ◌+◌, ◌-◌, ◌/◌, ◌%◌, ◌<◌, Some, None, refl, sym, ap, arith}
+use Rattle.std.proofs.Common.{◌≡◌, ◌≢◌, ℕ, zero, suc, ◌+◌, ◌-◌, ◌/◌, ◌%◌, ◌<◌, ◌≤◌, ◌∙◌, Some, None, refl, sym, ap, arith}
 use Rattle.std.proofs.lemmas.Bool.{eq-eqb, ne_eqb}
 use Rattle.sf_base.specs.declared.real.Real as real
 use Rattle.sf_shortest.specs.Digits.{number_of, near, or_else, tried, searched, trimmed}
@@ -15,6 +15,20 @@ searched_next r zero last K e = absurd (omega (arith, K))
 searched_next r (suc k) last K e =
     let p : suc k - 1 ≡ k = omega arith in
     rw p (ap (λ t. or_else t last (searched r k (last - 1))) (sym e))
+
+-- the search begins where one may be found
+pub searched_after : (r : real.Real) (most first k : ℕ) → k ≤ most → ((j : ℕ) → j < k → tried r (first - j) ≡ None)
+    → searched r most first ≡ searched r (most - k) (first - k)
+searched_after r most first zero l none =
+    let e : most ≡ most - 0 = omega arith in
+    let f : first ≡ first - 0 = omega arith in
+    λ i. searched r (e i) (f i)
+searched_after r most first (suc k) l none =
+    let e : most - k - 1 ≡ most - suc k = omega arith in
+    let f : first - k - 1 ≡ first - suc k = omega arith in
+    searched_after r most first k (omega (arith, l)) (λ j h. none j (omega (arith, h)))
+    ∙ searched_next r (most - k) (first - k) (omega (arith, l)) (sym (none k (omega arith)))
+    ∙ (λ i. searched r (e i) (f i))
 
 pub trimmed_next : (k n last : ℕ) → 0 < k → n % 10 ≡ 0 → trimmed k n last ≡ trimmed (k - 1) (n / 10) (last + 1)
 unfolding trimmed

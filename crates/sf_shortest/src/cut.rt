@@ -5,6 +5,7 @@ ghost use Rattle.sf_float.specs.Quotient.{IsQuotient};
 ghost use Rattle.sf_float.specs.Scaled.{is_zero};
 ghost use Rattle.sf_shortest.specs.Cut.{IsCut};
 
+use crate::fives::five_to;
 use sf_float::{Natural, Size, sign_and_bits, size_of};
 
 /// Twice a size over 10^(first - 416), cut to a whole number, and whether anything was cut off. The first digit of the
@@ -41,22 +42,31 @@ fn value_of(n: &Natural) -> u64
     value
 }
 
-/// Where 128 bits hold the size times 2 * 10^tens.
+/// Where 128 bits hold the size's digits times 2 * 5^fives; the powers of two of the tens are taken off the divisor.
 fn is_short(size: Size, first: u32) -> bool
-    ensures { IsTrue result → (size.up ≡ 0) × (size.down ≤ 100) × (394 ≤ first) × (first ≤ 416) }
+    ensures { IsTrue result → (size.up ≡ 0) × (385 ≤ first) × (first ≤ 416) × (416 - first ≤ size.down)
+        × (size.down ≤ 543 - first) }
 {
-    size.up == 0 && size.down <= 100 && first >= 394 && first <= 416
+    size.up == 0
+        && first >= 385
+        && first <= 416
+        && size.down >= 416 - first
+        && size.down <= 543 - first
 }
 
 /// In 128 bits.
 fn twice_short(size: Size, first: u32) -> (u64, bool)
-    requires few { (size.m < 2 ^ 53) × (size.down ≤ 100) × (394 ≤ first) × (first ≤ 416) }
+    requires few { (size.m < 2 ^ 53) × (385 ≤ first) × (first ≤ 416) × (416 - first ≤ size.down)
+        × (size.down ≤ 543 - first) }
     requires most { 2 * (size.m * 10 ^ (416 - first)) < 10 ^ 18 * 2 ^ size.down }
     ensures { IsQuotient (2 * (size.m * 10 ^ (416 - first))) (2 ^ size.down) result.0 result.1 }
 {
-    let wide = size.m as u128 * 10u128.pow(416 - first) * 2;
-    let whole = wide >> size.down;
-    (whole as u64, whole << size.down != wide)
+    let fives = 416 - first;
+    let few = fives.min(27);
+    let wide = (size.m * five_to(fives - few)) as u128 * five_to(few) as u128 * 2;
+    let down = size.down - fives;
+    let whole = wide >> down;
+    (whole as u64, whole << down != wide)
 }
 
 /// By limbs.

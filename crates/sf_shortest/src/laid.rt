@@ -6,6 +6,7 @@ ghost use Rattle.sf_float.specs.Computed.{count_of};
 ghost use Rattle.sf_shortest.specs.Laid.{is_plain, plain_text, raised_text, laid_out};
 
 use sf_base::Real;
+use sf_float::ten_to;
 
 /// Room for a text: a sign, `0.00000`, and 19 digits.
 pub const ROOM: usize = 32;
@@ -30,15 +31,31 @@ pub(crate) fn put_sign(negative: bool, out: &mut [u8; ROOM], at: usize) -> usize
     at
 }
 
-/// The digit after which so many stand.
-fn digit_of(n: u64, places: u32) -> u8
-    ensures value { result ≡ n / 10 ^ places % 10 }
-    ensures few { result < 10 }
+/// A number without its last digits, so many.
+fn without(n: u64, places: u32) -> u64
+    ensures { result ≡ n / 10 ^ places }
 {
     if places > 19 {
         return 0;
     }
-    (n / 10u64.pow(places) % 10) as u8
+    n / ten_to(places)
+}
+
+/// Writes the last digits of a number, so many.
+fn put_last(n: u64, count: u32, out: &mut [u8; ROOM], at: usize) -> usize
+    requires { at + count ≤ 32 }
+    ensures end { result ≡ at + count }
+    ensures written { take result out.new ≡ take at out.old ++ fixed_digits count n }
+{
+    let end = at + count as usize;
+    let mut left = n;
+    let mut k = end;
+    while k > at {
+        k -= 1;
+        out[k] = b'0' + (left % 10) as u8;
+        left /= 10;
+    }
+    end
 }
 
 /// Writes the digits after which `to` others or more stand, and fewer than `from`.
@@ -47,13 +64,20 @@ fn put_digits(n: u64, from: u32, to: u32, out: &mut [u8; ROOM], at: usize) -> us
     ensures end { result ≡ at + (from - to) }
     ensures written { take result out.new ≡ take at out.old ++ fixed_digits (from - to) (n / 10 ^ to) }
 {
-    let mut k = from;
-    let mut end = at;
-    while k > to {
-        k -= 1;
-        end = put(b'0' + digit_of(n, k), out, end);
+    put_last(without(n, to), from - to, out, at)
+}
+
+/// A number of digits that a number has at least, near to what it has.
+fn least_count(n: u64) -> u32
+    ensures { (0 < result) × (result ≤ 20) × (1 < result → 10 ^ (result - 1) ≤ n) }
+{
+    if n < 100_000_000 {
+        1
+    } else if n < 1_000_000_000_000_000 {
+        9
+    } else {
+        16
     }
-    end
 }
 
 /// How many digits a number has.
@@ -63,8 +87,8 @@ fn count_of(n: u64) -> u32
     ensures few { result ≤ 20 }
     ensures below { (k : ℕ) → 0 < k → n < 10 ^ k → result ≤ k }
 {
-    let mut count = 1;
-    while count < 20 && n >= 10u64.pow(count) {
+    let mut count = least_count(n);
+    while count < 20 && n >= ten_to(count) {
         count += 1;
     }
     count
@@ -79,7 +103,7 @@ fn put_plain(n: u64, last: u32, point: u32, out: &mut [u8; ROOM], at: usize) -> 
 {
     let decimals = 400u32.saturating_sub(last).max(1);
     let whole = point.saturating_sub(400).max(1);
-    let number = n * 10u64.pow(last + decimals - 400);
+    let number = n * ten_to(last + decimals - 400);
     let end = put_digits(number, whole + decimals, decimals, out, at);
     let end = put(b'.', out, end);
     put_digits(number, decimals, 0, out, end)

@@ -2,6 +2,7 @@
 #![tactic(auto)]
 
 mod cut;
+mod fives;
 mod laid;
 pub mod laws;
 mod text;

@@ -8,6 +8,7 @@ ghost use Rattle.sf_shortest.specs.Digits.{number_of, most_decimals, near, other
 use crate::cut::Cut;
 use fast_float::from_parts;
 use sf_base::Real;
+use sf_float::ten_to;
 use std::num::{
     f32_from_bits_with_nan, f32_to_bits_with_nan, f64_from_bits_with_nan, f64_to_bits_with_nan,
 };
@@ -70,7 +71,7 @@ fn sides(cut: Cut, decimals: u32) -> (u64, u64)
     ensures other { (x : Float) → IsCut x cut.first cut.twice cut.lost → result.1 ≡ other x (cut.first - decimals) }
     ensures few { (result.0 ≤ 10 ^ 17) × (result.1 ≤ 10 ^ 17) }
 {
-    let half = 10u64.pow(16 - decimals);
+    let half = ten_to(16 - decimals);
     let low = cut.twice / (2 * half);
     let rest = cut.twice % (2 * half);
     if is_nearer_below(low, rest, half, cut.lost) {
@@ -98,16 +99,48 @@ fn tried(real: Real, cut: Cut, decimals: u32) -> Option<u64>
     None
 }
 
-/// The fewest digits of which one reads back, and where the last stands.
-fn searched(real: Real, cut: Cut) -> (u64, u32)
+/// Twice the float's binary digits, as a number. Its size over that is half of the gap to the next float.
+fn twice_digits(real: Real) -> u64
+    ensures { 0 < result }
+{
+    match real {
+        Real::F32(bits) => (bits as u64 % 0x80_0000 + 0x80_0000) * 2,
+        Real::F64(bits) => (bits % 0x10_0000_0000_0000 + 0x10_0000_0000_0000) * 2,
+    }
+}
+
+/// A guess of how many digits after the first are needed: those of the shortest decimal that is no further from the
+/// float than half of the gap to the next one. No result depends on it.
+fn guessed(real: Real, cut: Cut) -> u32
+    requires size { cut.twice < 2 * 10 ^ 17 }
+    ensures { result ≤ most_decimals real }
+{
+    let most = most_decimals(real);
+    let half_gap = cut.twice / twice_digits(real);
+    let parts = 2 * ten_to(16 - most);
+    let mut low = cut.twice.saturating_sub(half_gap + 1) / parts;
+    let mut high = (cut.twice + half_gap) / parts;
+    for zeros in 0..most {
+        low /= 10;
+        high /= 10;
+        if low == high {
+            return most - zeros;
+        }
+    }
+    0
+}
+
+/// The fewest digits of which one reads back, and where the last stands, with so many after the first or more.
+fn searched_from(real: Real, cut: Cut, from: u32) -> (u64, u32)
     requires finite { IsTrue (float_is_finite (number_of real)) }
     requires few { (16 ≤ cut.first) × (cut.first ≤ 900) }
     requires cut { IsCut (number_of real) cut.first cut.twice cut.lost }
-    ensures value { result ≡ searched real (most_decimals real) cut.first }
+    requires from { from ≤ most_decimals real }
+    ensures value { result ≡ searched real (most_decimals real - from) (cut.first - from) }
     ensures few { (result.0 ≤ 10 ^ 17) × (result.1 ≤ 900) }
 {
     let most = most_decimals(real);
-    let mut decimals = 0;
+    let mut decimals = from;
     while decimals < most {
         if let Some(n) = tried(real, cut, decimals) {
             return (n, cut.first - decimals);
@@ -115,6 +148,25 @@ fn searched(real: Real, cut: Cut) -> (u64, u32)
         decimals += 1;
     }
     (sides(cut, most).0, cut.first - most)
+}
+
+/// The fewest digits of which one reads back, and where the last stands. Where none of so many does, none of fewer does,
+/// so the search begins at a guess.
+fn searched(real: Real, cut: Cut) -> (u64, u32)
+    requires finite { IsTrue (float_is_finite (number_of real)) }
+    requires few { (16 ≤ cut.first) × (cut.first ≤ 900) }
+    requires cut { IsCut (number_of real) cut.first cut.twice cut.lost }
+    ensures value { result ≡ searched real (most_decimals real) cut.first }
+    ensures few { (result.0 ≤ 10 ^ 17) × (result.1 ≤ 900) }
+{
+    let mut from = guessed(real, cut);
+    while from > 0 {
+        if tried(real, cut, from - 1).is_none() {
+            return searched_from(real, cut, from);
+        }
+        from -= 1;
+    }
+    searched_from(real, cut, 0)
 }
 
 /// Without the zeros at the end.

@@ -21,18 +21,18 @@ fewest n count k some least K l =
           absurd (not-le_of_lt (lt_of_lt_of_le l up) (least (omega arith)))
     ]
 
-pub returns-else-n-pow-clause-count : goal.returns-else-n-pow-clause-count
-returns-else-n-pow-clause-count c =
+pub returns-else-n-ten_to-clause-count : goal.returns-else-n-ten_to-clause-count
+returns-else-n-ten_to-clause-count c =
     let l = c.loop-count in
-    counted c.args.n l.count l.invariant.0 (omega (arith, c.pow.ensures, c.if-n-pow.false)) l.invariant.2
+    counted c.args.n l.count l.invariant.0 (omega (arith, c.ten_to.ensures.value, c.if-n-ten_to.false)) l.invariant.2
 
-pub returns-else-n-pow-clause-value : goal.returns-else-n-pow-clause-value
-returns-else-n-pow-clause-value c =
+pub returns-else-n-ten_to-clause-value : goal.returns-else-n-ten_to-clause-value
+returns-else-n-ten_to-clause-value c =
     let l = c.loop-count in
-    count_is 0 c.args.n l.count (counted c.args.n l.count l.invariant.0 (omega (arith, c.pow.ensures, c.if-n-pow.false)) l.invariant.2)
+    count_is 0 c.args.n l.count (counted c.args.n l.count l.invariant.0 (omega (arith, c.ten_to.ensures.value, c.if-n-ten_to.false)) l.invariant.2)
 
-pub returns-else-n-pow-clause-below : goal.returns-else-n-pow-clause-below
-returns-else-n-pow-clause-below c k K h =
+pub returns-else-n-ten_to-clause-below : goal.returns-else-n-ten_to-clause-below
+returns-else-n-ten_to-clause-below c k K h =
     fewest c.args.n c.loop-count.count k c.loop-count.invariant.0 c.loop-count.invariant.2 K h
 
 wide : (n count : ℕ) → n < 2 ^ 64 → 20 ≤ count → n < 10 ^ count

@@ -1,33 +1,26 @@
-use Rattle.std.proofs.Common.{◌≡◌, ◌+◌, ◌-◌, ℕ, sym, ap, ◌∙◌, arith}
-use Rattle.sf_shortest.specs.Digits.{number_of, near, searched}
-use Rattle.sf_shortest.proofs.Trials.{searched_found, searched_next, searched_last}
+use Rattle.std.proofs.Common.{◌≡◌, ℕ, ◌-◌, ◌≤◌, false, Option, Some, None, refl, subst, sym, ◌∙◌, arith, true≢false}
+use Rattle.std.specs.Prelude.{is_some}
+use Rattle.sf_shortest.specs.Digits.{number_of, tried}
+use Rattle.sf_shortest.proofs.Fewest.{none_before}
+use Rattle.sf_shortest.proofs.ReadBack.{most_few}
+use Rattle.sf_shortest.proofs.Texts.{not_zero}
+use Rattle.sf_shortest.proofs.Trials.{searched_after}
 use Rattle.sf_shortest.proofs.trial.searched.Goals as goal
 
-pub returns-in-Some-clause-value : goal.returns-in-Some-clause-value
-returns-in-Some-clause-value c =
-    let l = c.loop-decimals in
-    let f = searched_found c.args.real (c.most_decimals-most.result - l.decimals) (c.args.cut.first - l.decimals) c.in-Some.n
-    (omega (arith, c.loop-decimals-test.true)) (sym c.in-Some.is ∙ c.tried.ensures.value) in
-    sym (ap (λ k. searched c.args.real k c.args.cut.first) (sym c.most_decimals-most.ensures.value) ∙ l.invariant.1 ∙ f)
+no_some : (o : Option ℕ) → is_some o ≡ false → o ≡ None
+no_some None h = refl
+no_some (Some n) h = absurd (true≢false h)
 
-pub loop-decimals-preserved : goal.loop-decimals-preserved
-loop-decimals-preserved c =
-    let l = c.loop-decimals in
-    let k = c.most_decimals-most.result - l.decimals in
-    let last = c.args.cut.first - l.decimals in
-    let a : k - 1 ≡ c.most_decimals-most.result - (l.decimals + 1) = omega arith in
-    let b : last - 1 ≡ c.args.cut.first - (l.decimals + 1) = omega arith in
-    let f = searched_next c.args.real k last (omega (arith, c.loop-decimals-test.true)) (sym c.in_default.is ∙ c.tried.ensures.value) in
-    (omega (arith, c.loop-decimals-test.true), l.invariant.1 ∙ f ∙ (λ i. searched c.args.real (a i) (b i)))
-
-pub returns-clause-value : goal.returns-clause-value
-returns-clause-value c =
-    let l = c.loop-decimals in
-    let most = c.most_decimals-most.result in
-    let e : l.decimals ≡ most = omega (arith, l.invariant.0, c.loop-decimals-test.false) in
-    let z : most - l.decimals ≡ 0 = omega arith in
-    let f = searched_last c.args.real (most - l.decimals) (c.args.cut.first - l.decimals) z in
-    let n = c.sides.ensures.near (number_of c.args.real) c.requires.cut in
-    let whole = ap (λ k. searched c.args.real k c.args.cut.first) (sym c.most_decimals-most.ensures.value) ∙ l.invariant.1 ∙ f in
-    (λ i. (n i, c.args.cut.first - most))
-    ∙ sym (whole ∙ ap (λ (d : ℕ). (near (number_of c.args.real) (c.args.cut.first - d), c.args.cut.first - d)) e)
+pub returns-then-is_none-clause-value : goal.returns-then-is_none-clause-value
+returns-then-is_none-clause-value c =
+    let f = c.args.cut.first in
+    let k = c.loop-from.from - 1 in
+    let z = c.requires.cut in
+    let none : tried c.args.real (f - k) ≡ None = sym c.tried.ensures.value ∙ no_some _ c.if-is_none.ensures in
+    let all : (j : ℕ) → j ≤ k → tried c.args.real (f - j) ≡ None =
+    subst (λ (p : ℕ). tried c.args.real (p - k) ≡ None → (j : ℕ) → j ≤ k → tried c.args.real (p - j) ≡ None) (sym z.first_is)
+    (none_before c.args.real (number_of c.args.real) refl (not_zero _ f c.args.cut.twice c.args.cut.lost z) k
+    (omega (arith, c.loop-from.invariant, most_few c.args.real))) none in
+    c.searched_from.ensures.value
+    ∙ sym (searched_after c.args.real _ f c.loop-from.from c.loop-from.invariant
+    (λ j h. all j (omega (arith, h))))
