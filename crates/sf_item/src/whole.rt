@@ -201,8 +201,8 @@ fn longer_decimal(digits: &[u8], piece: &[u8], first: usize, before: u64) -> Opt
     Some((number, count))
 }
 
-/// As `decimal_number`, where the first eight bytes are digits; None where more than two others follow them. It is a loop
-/// whose length is known, so that a number of 32 bits takes no call.
+/// As `decimal_number`, where the first eight bytes are digits; None where more than two others follow them. It is a
+/// loop whose length is known, so that a number of 32 bits takes no call.
 #[inline(always)]
 fn short_decimal(digits: &[u8], piece: &[u8], before: u64) -> Option<(u64, usize)>
     requires front { digits.now ≡ take (length digits.now) piece.now }

@@ -34,7 +34,7 @@ use Rattle.sf_run.specs.Phases.{CanAll, GrowsBy, Shows, ShowsItem, end_of, passe
 use Rattle.sf_run.specs.Pieces.{Answers, AnswersBy, EndsAt, EndsAtOnce, EndsIn, IsEnd, IsEndIn, IsEndOf, IsTextShape, IsWhole, StaysAt, Suits, item_of, run_of}
 use Rattle.sf_run.specs.Quick.{IsSure}
 use Rattle.sf_report.specs.Residual.{Part, one_from, stepped_all}
-use Rattle.sf_run.specs.Texts.{IsInText, StoresByte, counts_bytes, is_count, text_slot, slot_of_text}
+use Rattle.sf_run.specs.Texts.{IsInText, StoresByte, counts_bytes, is_count, text_slot}
 use Rattle.sf_report.proofs.Joined.{all-append, one_from-all}
 use Rattle.sf_run.proofs.FloatTexts.{float_ink}
 use Rattle.sf_run.proofs.Brought.{item_skips, can_all, first_all, item_all, skips_all, take-take}

@@ -101,28 +101,31 @@ fn pass_so<S: Store>(
     Some(ended.before + ended.item)
 }
 
-/// As `pass`, of the directive at this place, whichever it is. None only where it may go on after the piece, where it
-/// fails, or where the storing is refused. It looks the directive up itself, so that a run by rows alone doesn't.
+/// As `pass`, of the first of so many directives that are left, whichever it is. None only where it may go on after the
+/// piece, where it fails, or where the storing is refused. It looks the directive up itself, so that a run by rows
+/// alone doesn't.
 #[cold]
 #[inline(never)]
 fn pass_later<S: Store>(
     store: &mut S,
     directives: &[Directive],
-    at: usize,
+    left: usize,
     piece: &[u8],
     used: u32,
 ) -> Option<usize>
     requires opened { (S.kept store.old).opened ≡ None }
-    requires within { at < length directives.now }
-    requires free { (d : Directive) → slice_get directives.now at ≡ Some d
+    requires some { 0 < left }
+    requires within { left ≤ length directives.now }
+    requires free { (d : Directive) → slice_get directives.now (length directives.now - left) ≡ Some d
         → MayBeGiven S.slots (slot_of d) (S.kept store.old).values }
-    ensures passes { (d : Directive) → slice_get directives.now at ≡ Some d → IsProper d → IfSome result
-        (λ taken. Passes d used piece.now taken (S.kept store.old) (S.kept store.new)) }
+    ensures passes { (d : Directive) → slice_get directives.now (length directives.now - left) ≡ Some d → IsProper d
+        → IfSome result (λ taken. Passes d used piece.now taken (S.kept store.old) (S.kept store.new)) }
     ensures within { IfSome result (λ taken. taken ≤ length piece.now) }
-    ensures sure { (d : Directive) → slice_get directives.now at ≡ Some d → IsProper d
+    ensures sure { (d : Directive) → slice_get directives.now (length directives.now - left) ≡ Some d → IsProper d
         → IsSure d used piece.now (S.kept store.old).room → IsSome result }
     ensures room { capacity_of (S.kept store.old) ≤ capacity_of (S.kept store.new) }
 {
+    let at = directives.len() - left;
     let directive = &directives[at];
     let ended = ended_within(directive, piece, used);
     pass_so(store, directive, ended, piece, used)
@@ -199,15 +202,18 @@ fn pass_all<S: Store>(store: &mut S, format: &ScanFormat, limit: u32, piece: &[u
     let directives = format.directives();
     let rows = format.rows();
     let mut rest = front;
-    for (at, row) in rows.iter().enumerate() {
+    let mut left = rows;
+    while let Some((row, others)) = left.split_first() {
+        let at = rows.len() - left.len();
         let directive = &directives[at];
         let used = (front.len() - rest.len()) as u32;
         let taken = match pass(store, directive, row, rest, used) {
             Some(taken) => taken,
-            None => pass_later(store, directives, at, rest, used)?,
+            None => pass_later(store, directives, left.len(), rest, used)?,
         };
-        let (_, left) = rest.split_at(taken);
-        rest = left;
+        let (_, after) = rest.split_at(taken);
+        rest = after;
+        left = others;
     }
     Some(front.len() - rest.len())
 }

@@ -1,5 +1,5 @@
-use Rattle.std.proofs.Common.{◌≡◌, true, ◌<◌, ◌≤◌, ◌-◌, ◌++◌, ◌∙◌, ℕ, List, length, map, refl, sym, ap, Some, arith, subst}
-use Rattle.std.proofs.lemmas.List.{length-map}
+use Rattle.std.proofs.Common.{◌≡◌, true, ◌<◌, ◌≤◌, ◌+◌, ◌-◌, ◌∷◌, ◌++◌, ◌∙◌, ℕ, List, length, map, drop, refl, sym, ap, Some, arith, subst}
+use Rattle.std.proofs.lemmas.List.{drop-drop, drop-map, length-map}
 use Rattle.std.proofs.lemmas.Option.{slice_get_read}
 use Rattle.std.specs.Prelude.{slice_get}
 use Rattle.sf_base.specs.Kept.{Kept}
@@ -13,16 +13,42 @@ use Rattle.sf_report.specs.Memory.{capacity_of}
 use Rattle.sf_run.specs.Holding.{are_placed}
 use Rattle.sf_run.specs.Quick.{IsDoneWithin, IsSure, MayBeGiven, Passes, done_by}
 use Rattle.sf_run.specs.Texts.{slot_of}
-use Rattle.sf_run.proofs.AtOnce.{counted_run, counting_on, free_at, nothing_counted, passes_as}
-use Rattle.sf_run.proofs.Moves.{proper_at}
+use Rattle.sf_run.proofs.AtOnce.{Counted, counted_run, counting_on, free_at, nothing_counted, passes_as}
+use Rattle.sf_run.proofs.Moves.{drop_at, proper_at}
 use Rattle.sf_run.proofs.Slots.{apart_from, placed_from}
 use Rattle.sf_run.proofs.Surely.{sure_next}
 use Rattle.sf_run.proofs.quick.pass_all.Goals as goal
-use Rattle.sf_run.proofs.quick.pass_all.Goals.{in-Some, in-None+in_ok-taken-in-None}
+use Rattle.sf_run.proofs.quick.pass_all.Goals.{in-Some-pass, in-None+in_ok-taken-in-None}
 
 -- a format has as many rows as directives
 as_many : (rows : List Row) (ds all : List Directive) → rows ≡ map row_of all → ds ≡ all → length rows ≡ length ds
 as_many rows ds all is same = ap length is ∙ length-map all row_of ∙ ap length (sym same)
+
+-- as long as a row is left, so is its directive
+still_left : (rows : List Row) (ds all : List Directive) (left others : List Row) (row : Row) → rows ≡ map row_of all → ds ≡ all
+    → length left ≤ length rows → left ≡ row ∷ others → length rows - length left < length ds
+still_left rows ds all left others row is same short first =
+    let many = as_many rows ds all is same in
+    let one : length left ≡ length others + 1 = ap length first ∙ omega arith in
+    omega (arith, many, short, one)
+
+-- the first row that is left is that of its directive
+first_left : (rows : List Row) (ds all : List Directive) (left others : List Row) (row : Row) (i : ℕ) (d : Directive)
+    → rows ≡ map row_of all → ds ≡ all → left ≡ drop i rows → left ≡ row ∷ others → slice_get ds i ≡ Some d → row ≡ row_of d
+first_left rows ds all left others row i d is same ahead first at =
+    let from : drop i ds ≡ d ∷ drop (i + 1) ds = drop_at ds i d at in
+    let rest : row ∷ others ≡ row_of d ∷ map row_of (drop (i + 1) ds) =
+    sym first ∙ ahead ∙ ap (drop i) is ∙ ap (λ l. drop i (map row_of l)) (sym same) ∙ drop-map row_of i ds ∙ ap (map row_of) from in
+    cc
+
+-- the rows after it are left then
+left_next : (rows left others : List Row) (row : Row) → length left ≤ length rows → left ≡ drop (length rows - length left) rows
+    → left ≡ row ∷ others → others ≡ drop (length rows - length others) rows
+left_next rows left others row short ahead first =
+    let one : length left ≡ length others + 1 = ap length first ∙ omega arith in
+    let next : length rows - length left + 1 ≡ length rows - length others = omega (arith, one, short) in
+    let rest : others ≡ drop 1 left = ap (drop 1) (sym first) in
+    rest ∙ ap (drop 1) ahead ∙ drop-drop 1 (length rows - length left) rows ∙ ap (λ n. drop n rows) next
 
 -- the slots of a format are those of a store with as many
 placed : (slots : ℕ) (ds all : List Directive) → ds ≡ all → length (destinations_of all) ≤ slots → AreSlots (destinations_of ds)
@@ -34,62 +60,100 @@ placed slots ds all is many known =
 pub pass-requires-clause-free : goal.pass-requires-clause-free
 pass-requires-clause-free g c =
     let ds = c.directives-directives in
-    let i : ℕ = c.loop-at.at in
-    let within : i < length ds.result.now = subst (λ n. i < n)
-    (as_many c.rows-rows.result.now ds.result.now _ c.rows-rows.ensures ds.ensures.value) c.loop-at-test.true in
+    let rows : List Row = c.rows-rows.result.now in
+    let left : List Row = c.loop-row.left.now in
+    let i : ℕ = length rows - length left in
+    let within : i < length ds.result.now = still_left rows ds.result.now _ left c.in-Some.others.now c.in-Some.row.now c.rows-rows.ensures
+    ds.ensures.value c.loop-row.invariant.short c.in-Some.ensures.cases.0 in
     let at : slice_get ds.result.now i ≡ Some c.index-directives-at.result =
     slice_get_read ds.result.now (length ds.result.now) i c.index-directives-at.result refl within c.index-directives-at.is in
-    free_at g.S.Store.slots ds.result.now i c.index-directives-at.result (g.S.Store.kept c.loop-at.store).values at
+    free_at g.S.Store.slots ds.result.now i c.index-directives-at.result (g.S.Store.kept c.loop-row.store).values at
     (placed g.S.Store.slots ds.result.now _ ds.ensures.value c.requires.slots ds.ensures.slots) (apart_from _ ds.ensures.slots.distinct)
-    c.loop-at.invariant.counted.going.given
+    c.loop-row.invariant.counted.going.given
+
+pub pass-requires-clause-row : goal.pass-requires-clause-row
+pass-requires-clause-row g c =
+    let ds = c.directives-directives in
+    let rows : List Row = c.rows-rows.result.now in
+    let left : List Row = c.loop-row.left.now in
+    let i : ℕ = length rows - length left in
+    let within : i < length ds.result.now = still_left rows ds.result.now _ left c.in-Some.others.now c.in-Some.row.now c.rows-rows.ensures
+    ds.ensures.value c.loop-row.invariant.short c.in-Some.ensures.cases.0 in
+    let at : slice_get ds.result.now i ≡ Some c.index-directives-at.result =
+    slice_get_read ds.result.now (length ds.result.now) i c.index-directives-at.result refl within c.index-directives-at.is in
+    first_left rows ds.result.now _ left c.in-Some.others.now c.in-Some.row.now i c.index-directives-at.result c.rows-rows.ensures
+    ds.ensures.value c.loop-row.invariant.ahead c.in-Some.ensures.cases.0 at
 
 pub pass_later-requires-clause-within : goal.pass_later-requires-clause-within
 pass_later-requires-clause-within g c =
     let ds = c.directives-directives in
-    subst (λ n. c.loop-at.at < n) (as_many c.rows-rows.result.now ds.result.now _ c.rows-rows.ensures ds.ensures.value)
-    c.loop-at-test.true
+    let many = as_many c.rows-rows.result.now ds.result.now _ c.rows-rows.ensures ds.ensures.value in
+    let short = c.loop-row.invariant.short in
+    omega (arith, many, short)
 
 pub pass_later-requires-clause-free : goal.pass_later-requires-clause-free
 pass_later-requires-clause-free g c d at =
     let ds = c.directives-directives in
+    let rows : List Row = c.rows-rows.result.now in
+    let left : List Row = c.loop-row.left.now in
+    let many = as_many rows ds.result.now _ c.rows-rows.ensures ds.ensures.value in
+    let here : slice_get ds.result.now (length rows - length left) ≡ Some d =
+    subst (λ n. slice_get ds.result.now (n - length left) ≡ Some d) (sym many) at in
     subst (λ (k : Kept). MayBeGiven g.S.Store.slots (slot_of d) k.values) (sym (c.in-None.ensures.same refl))
-    (free_at g.S.Store.slots ds.result.now c.loop-at.at d (g.S.Store.kept c.loop-at.store).values at
+    (free_at g.S.Store.slots ds.result.now (length rows - length left) d (g.S.Store.kept c.loop-row.store).values here
     (placed g.S.Store.slots ds.result.now _ ds.ensures.value c.requires.slots ds.ensures.slots) (apart_from _ ds.ensures.slots.distinct)
-    c.loop-at.invariant.counted.going.given)
+    c.loop-row.invariant.counted.going.given)
 
-pub loop-at-init : goal.loop-at-init
-loop-at-init g c =
+pub loop-row-init : goal.loop-row-init
+loop-row-init g c =
+    let rows : List Row = c.rows-rows.result.now in
+    let ds = c.directives-directives.result.now in
+    let front : List ℕ = c.split_at.result.0.now in
+    let kept : Kept = g.S.Store.kept c.args.store.now in
+    let none : length rows - length rows ≡ 0 = omega arith in
     record {
-      counted = nothing_counted c.directives-directives.result.now c.split_at.result.0.now (g.S.Store.kept c.args.store.now) _
-          c.requires.empty c.directives-directives.ensures.few;
+      short = omega arith;
+      ahead = ap (λ n. drop n rows) (sym none);
+      counted = subst (λ n. Counted ds front front n kept) (sym none)
+          (nothing_counted ds front kept _ c.requires.empty c.directives-directives.ensures.few);
       room = omega arith;
     }
 
-pub loop-at-preserved : goal.loop-at-preserved
-loop-at-preserved g c =
+pub loop-row-preserved : goal.loop-row-preserved
+loop-row-preserved g c =
     let ds = c.directives-directives in
-    let i : ℕ = c.loop-at.at in
-    let within : i < length ds.result.now = subst (λ n. i < n)
-    (as_many c.rows-rows.result.now ds.result.now _ c.rows-rows.ensures ds.ensures.value) c.loop-at-test.true in
+    let rows : List Row = c.rows-rows.result.now in
+    let left : List Row = c.loop-row.left.now in
+    let i : ℕ = length rows - length left in
+    let within : i < length ds.result.now = still_left rows ds.result.now _ left c.in-Some.others.now c.in-Some.row.now c.rows-rows.ensures
+    ds.ensures.value c.loop-row.invariant.short c.in-Some.ensures.cases.0 in
     let d : Directive = c.index-directives-at.result in
     let at : slice_get ds.result.now i ≡ Some d = slice_get_read ds.result.now
     (length ds.result.now) i d refl within c.index-directives-at.is in
     let proper = proper_at ds.result.now i d ds.ensures.proper at in
     let front : List ℕ = c.split_at.result.0.now in
-    let rest : List ℕ = c.loop-at.rest.now in
-    let old : Kept = g.S.Store.kept c.loop-at.store in
+    let rest : List ℕ = c.loop-row.rest.now in
+    let old : Kept = g.S.Store.kept c.loop-row.store in
     let new : Kept = g.S.Store.kept c.match-pass.store in
     let n : ℕ = length front - length rest in
+    let others : List Row = c.in-Some.others.now in
+    let many = as_many rows ds.result.now _ c.rows-rows.ensures ds.ensures.value in
+    let later : slice_get ds.result.now (length ds.result.now - length left) ≡ Some d =
+    subst (λ k. slice_get ds.result.now (k - length left) ≡ Some d) many at in
+    let short = c.loop-row.invariant.short in
+    let one : length left ≡ length others + 1 = ap length c.in-Some.ensures.cases.0 ∙ omega arith in
+    let next : i + 1 ≡ length rows - length others = omega (arith, short, one) in
     let passes : Passes d (length front - length rest) rest c.match-pass.taken old new =
     elim c.match-pass.branch [
-      | in-Some w ↦ passes_as d n rest _ _ _ _ _ _ w.taken-is refl (ap g.S.Store.kept w.store-is) (w.in-Some.ensures.passes proper)
+      | in-Some-pass w ↦
+          passes_as d n rest _ _ _ _ _ _ w.taken-is refl (ap g.S.Store.kept w.store-is) (w.in-Some-pass.ensures.passes proper)
       | in-None+in_ok-taken-in-None w ↦
           passes_as d n rest _ _ _ _ _ _ w.taken-is (sym (w.in-None.ensures.same refl)) (ap g.S.Store.kept w.store-is)
-          (w.in_ok-taken-in-None.ensures.passes d at proper)
+          (w.in_ok-taken-in-None.ensures.passes d later proper)
     ] in
     let roomy : capacity_of old ≤ capacity_of new =
     elim c.match-pass.branch [
-      | in-Some w ↦ subst (λ k. capacity_of old ≤ capacity_of k) (sym (ap g.S.Store.kept w.store-is)) c.pass.ensures.room
+      | in-Some-pass w ↦ subst (λ k. capacity_of old ≤ capacity_of k) (sym (ap g.S.Store.kept w.store-is)) c.pass.ensures.room
       | in-None+in_ok-taken-in-None w ↦
           (let e = ap (λ k. capacity_of (g.S.Store.kept k)) w.store-is in
           let first = c.pass.ensures.room in
@@ -97,45 +161,57 @@ loop-at-preserved g c =
           omega (arith, e, first, then))
     ] in
     record {
-      counted = counting_on ds.result.now front rest c.split_at-in-loop-at.result.1.now i d (length front - length rest) old new
-          c.match-pass.taken at c.loop-at.invariant.counted refl passes c.split_at-in-loop-at.ensures.back;
-      room = (let before = c.loop-at.invariant.room in omega (arith, before, roomy));
+      short = omega (arith, short, one);
+      ahead = left_next rows left others c.in-Some.row.now short c.loop-row.invariant.ahead c.in-Some.ensures.cases.0;
+      counted = subst (λ k. Counted ds.result.now front c.split_at-in-Some.result.1.now k new) next
+          (counting_on ds.result.now front rest c.split_at-in-Some.result.1.now i d (length front - length rest) old new
+          c.match-pass.taken at c.loop-row.invariant.counted refl passes c.split_at-in-Some.ensures.back);
+      room = (let before = c.loop-row.invariant.room in omega (arith, before, roomy));
     }
 
 pub returns-in_err-taken-in-None-clause-answers : goal.returns-in_err-taken-in-None-clause-answers
 returns-in_err-taken-in-None-clause-answers g c = λ done.
     let ds = c.directives-directives in
-    let i : ℕ = c.loop-at.at in
-    let within : i < length ds.result.now = subst (λ n. i < n)
-    (as_many c.rows-rows.result.now ds.result.now _ c.rows-rows.ensures ds.ensures.value) c.loop-at-test.true in
+    let rows : List Row = c.rows-rows.result.now in
+    let left : List Row = c.loop-row.left.now in
+    let i : ℕ = length rows - length left in
+    let within : i < length ds.result.now = still_left rows ds.result.now _ left c.in-Some.others.now c.in-Some.row.now c.rows-rows.ensures
+    ds.ensures.value c.loop-row.invariant.short c.in-Some.ensures.cases.0 in
     let d : Directive = c.index-directives-at.result in
     let at : slice_get ds.result.now i ≡ Some d = slice_get_read ds.result.now
     (length ds.result.now) i d refl within c.index-directives-at.is in
     let proper = proper_at ds.result.now i d ds.ensures.proper at in
     let front : List ℕ = c.split_at.result.0.now in
-    let rest : List ℕ = c.loop-at.rest.now in
+    let rest : List ℕ = c.loop-row.rest.now in
     let capacity : ℕ = capacity_of (g.S.Store.kept c.args.store.now) in
     let own : IsDoneWithin ds.result.now c.args.limit c.args.piece.now capacity =
     subst (λ (l : List Directive). IsDoneWithin l c.args.limit c.args.piece.now capacity) (sym ds.ensures.value) done in
-    let sure : IsSure d (length front - length rest) rest (g.S.Store.kept c.loop-at.store).room =
+    let sure : IsSure d (length front - length rest) rest (g.S.Store.kept c.loop-row.store).room =
     sure_next ds.result.now ds.ensures.proper c.args.limit c.min-most.result
-    (length front - length rest) c.args.piece.now front rest i d (g.S.Store.kept c.loop-at.store) capacity at
-    c.split_at.ensures.front c.split_at.ensures.front_len c.min-most.ensures c.loop-at.invariant.counted refl
-    c.loop-at.invariant.room own in
+    (length front - length rest) c.args.piece.now front rest i d (g.S.Store.kept c.loop-row.store) capacity at
+    c.split_at.ensures.front c.split_at.ensures.front_len c.min-most.ensures c.loop-row.invariant.counted refl
+    c.loop-row.invariant.room own in
     let here : IsSure d (length front - length rest) rest (g.S.Store.kept c.pass.new.store).room =
     subst (λ (k : Kept). IsSure d (length front - length rest) rest k.room) (sym (c.in-None.ensures.same refl)) sure in
-    absurd (let h = c.in_err-taken-in-None.ensures.sure d at proper here in cc)
+    let many = as_many rows ds.result.now _ c.rows-rows.ensures ds.ensures.value in
+    let later : slice_get ds.result.now (length ds.result.now - length left) ≡ Some d =
+    subst (λ k. slice_get ds.result.now (k - length left) ≡ Some d) many at in
+    absurd (let h = c.in_err-taken-in-None.ensures.sure d later proper here in cc)
 
 pub returns-clause-run : goal.returns-clause-run
 returns-clause-run g c = λ z ending.
     let ds = c.directives-directives in
+    let rows : List Row = c.rows-rows.result.now in
+    let left : List Row = c.loop-row.left.now in
     let front : List ℕ = c.split_at.result.0.now in
-    let rest : List ℕ = c.loop-at.rest.now in
-    let kept : Kept = g.S.Store.kept c.loop-at.store in
+    let rest : List ℕ = c.loop-row.rest.now in
+    let kept : Kept = g.S.Store.kept c.loop-row.store in
+    let many = as_many rows ds.result.now _ c.rows-rows.ensures ds.ensures.value in
+    let none : length left ≡ 0 = c.in_default.ensures.cases in
     subst (λ (l : List Directive). RunWithin l c.args.limit (c.args.piece.now ++ z) ending
     (done_by l (length front - length rest) kept.values))
     ds.ensures.value
-    (counted_run ds.result.now ds.ensures.proper c.args.limit c.min-most.result c.args.piece.now front rest kept c.loop-at.at
-    (subst (λ n. n ≤ c.loop-at.at) (as_many c.rows-rows.result.now ds.result.now _ c.rows-rows.ensures ds.ensures.value)
-    c.loop-at-test.false) c.split_at.ensures.front (let long = c.split_at.ensures.front_len in let least = c.min-most.ensures in
-    omega (arith, long, least)) c.loop-at.invariant.counted z ending)
+    (counted_run ds.result.now ds.ensures.proper c.args.limit c.min-most.result c.args.piece.now front rest kept
+    (length rows - length left) (omega (arith, many, none)) c.split_at.ensures.front
+    (let long = c.split_at.ensures.front_len in let least = c.min-most.ensures in
+    omega (arith, long, least)) c.loop-row.invariant.counted z ending)

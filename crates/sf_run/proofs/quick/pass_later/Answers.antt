@@ -1,4 +1,4 @@
-use Rattle.std.proofs.Common.{◌≡◌, ◌∙◌, length, refl, sym, subst, Option, Some, None}
+use Rattle.std.proofs.Common.{◌≡◌, ◌-◌, ◌<◌, ◌∙◌, ℕ, length, refl, sym, subst, Option, Some, None, arith}
 use Rattle.std.proofs.lemmas.Option.{get_or_from_slice_get, slice_get_read}
 use Rattle.std.specs.Prelude.{IfSome, IsNone, IsSome, slice_get}
 use Rattle.sf_format.specs.declared.directive.Directive.{Directive}
@@ -15,11 +15,15 @@ pub pass_so-requires-clause-free : goal.pass_so-requires-clause-free
 pass_so-requires-clause-free g c =
     let ds = c.args.directives.now in
     let d : Directive = c.index-directives-at.result in
-    c.requires.free d (slice_get_read ds (length ds) c.args.at d refl c.requires.within c.index-directives-at.is)
+    let at : ℕ = length ds - c.args.left in
+    let within : at < length ds = omega (arith, c.requires.some, c.requires.within) in
+    c.requires.free d (slice_get_read ds (length ds) at d refl within c.index-directives-at.is)
 
-module _ (g : _) (c : goal.After-pass_so g) (d : Directive) (at : slice_get c.args.directives.now c.args.at ≡ Some d) where
+module _ (g : _) (c : goal.After-pass_so g) (d : Directive)
+    (at : slice_get c.args.directives.now (length c.args.directives.now - c.args.left) ≡ Some d) where
   same : c.index-directives-at.result ≡ d
-  same = c.index-directives-at.is ∙ get_or_from_slice_get c.args.directives.now c.args.at d c.index-directives-at.result at
+  same = c.index-directives-at.is
+      ∙ get_or_from_slice_get c.args.directives.now (length c.args.directives.now - c.args.left) d c.index-directives-at.result at
 
 pub returns-clause-passes : goal.returns-clause-passes
 returns-clause-passes g c d at proper =

@@ -1,4 +1,4 @@
-use Rattle.std.proofs.Common.{length, arith, true, refl, ◌∙◌, ◌≤◌, ◌+◌}
+use Rattle.std.proofs.Common.{arith, true, refl}
 use Rattle.sf_base.specs.Data.{Real}
 use Rattle.sf_base.specs.Kept.{text_of}
 use Rattle.sf_report.specs.Steps.{Stores}
