@@ -10,14 +10,14 @@ use Rattle.sf_loops.specs.Lines.{LineLoop}
 use Rattle.sf_loops.specs.Loops.{Loop}
 
 pub answers_by : {S T : Type 0} (to_come : S → Option (List ℕ)) (reads failures : S → ℕ) (N : ℕ)
-    (kinds : List Kind) (listed : T → List Datum)
+    (kinds : List Kind) (listed : T → List (Option Datum))
     (was old new : Loop S) (result : Result (Option T) RecordFault) → was ≡ old
     → AnswersNext to_come reads failures N kinds listed was new result → AnswersNext to_come reads failures N kinds listed old new result
 answers_by {S} to_come reads failures N kinds listed was old new result same h =
     subst (λ (l : Loop S). AnswersNext to_come reads failures N kinds listed l new result) same h
 
 pub line_answers_by : {S T : Type 0} (to_come : S → Option (List ℕ)) (reads failures : S → ℕ) (N : ℕ) (kinds : List Kind)
-    (listed : T → List Datum) (was old new : LineLoop S) (result : Result (Option T) LineFault) → was ≡ old
+    (listed : T → List (Option Datum)) (was old new : LineLoop S) (result : Result (Option T) LineFault) → was ≡ old
     → AnswersNextLine to_come reads failures N kinds listed was new result
     → AnswersNextLine to_come reads failures N kinds listed old new result
 line_answers_by {S} to_come reads failures N kinds listed was old new result same h =
@@ -25,7 +25,7 @@ line_answers_by {S} to_come reads failures N kinds listed was old new result sam
 
 -- the same where there is a row, or the end
 pub row_by : {S T : Type 0} (to_come : S → Option (List ℕ)) (reads failures : S → ℕ) (N : ℕ)
-    (kinds : List Kind) (listed : T → List Datum)
+    (kinds : List Kind) (listed : T → List (Option Datum))
     (was old new : Loop S) (found row : Option T) → was ≡ old → found ≡ row
     → AnswersNext to_come reads failures N kinds listed was new (Ok found)
     → AnswersNext to_come reads failures N kinds listed old new (Ok row)
@@ -34,7 +34,7 @@ row_by to_come reads failures N kinds listed was old new found row same is h =
     (subst (λ o. AnswersNext to_come reads failures N kinds listed was new (Ok o)) is h)
 
 pub line_row_by : {S T : Type 0} (to_come : S → Option (List ℕ)) (reads failures : S → ℕ) (N : ℕ) (kinds : List Kind)
-    (listed : T → List Datum) (was old new : LineLoop S) (found row : Option T) → was ≡ old → found ≡ row
+    (listed : T → List (Option Datum)) (was old new : LineLoop S) (found row : Option T) → was ≡ old → found ≡ row
     → AnswersNextLine to_come reads failures N kinds listed was new (Ok found)
     → AnswersNextLine to_come reads failures N kinds listed old new (Ok row)
 line_row_by to_come reads failures N kinds listed was old new found row same is h =

@@ -7,7 +7,7 @@ use Rattle.sf_format.specs.Proper.{has_optional}
 use Rattle.sf_run.specs.outcome.Ending.{Ending}
 use Rattle.sf_run.specs.outcome.Outcome.{Outcome}
 use Rattle.sf_run.specs.outcome.Status.{Status}
-use Rattle.sf_run.specs.Rows.{AreRowOf}
+use Rattle.sf_read.specs.Rows.{AreSlotsOf}
 use Rattle.sf_read.specs.Ahead.{input_of}
 use Rattle.sf_read.specs.Scan.{is_fault}
 use Rattle.sf_loops.specs.declared.fault.RecordFault.{RecordFault}
@@ -31,15 +31,15 @@ goes_by old new Ends result a e = let never = sym e ∙ a.1.over_is in absurd cc
 goes_by old new (Stops why) result a e = let never = sym e ∙ a.1.over_is in absurd cc
 
 -- a row is that of the last run
-row_of : {S T : Type 0} (kinds : List Kind) (listed : T → List Datum) (advanced new : Loop S) (turn : Result Bool RecordFault) (row : T)
+row_of : {S T : Type 0} (kinds : List Kind) (listed : T → List (Option Datum)) (advanced new : Loop S) (turn : Result Bool RecordFault) (row : T)
     → RowAnswers kinds listed advanced new turn (Ok (Some row)) → (new ≡ advanced)
-    × AreRowOf (length kinds) (listed row) advanced.report.values
+    × AreSlotsOf (length kinds) (listed row) advanced.report.values
 row_of kinds listed advanced new (Ok true) row a = a
 row_of kinds listed advanced new (Ok false) row a = absurd a
 row_of kinds listed advanced new (Err fault) row a = absurd a
 
 pub answers_are_records : {S T : Type 0} (to_come : S → Option (List ℕ)) (reads failures : S → ℕ) (N : ℕ) (kinds : List Kind)
-    (listed : T → List Datum)
+    (listed : T → List (Option Datum))
     → AnswersAreRecords to_come reads failures N kinds listed
 answers_are_records {S} to_come reads failures N kinds listed old new [] is t e =
     (t, refl, ap (λ (l : Loop S). input_of to_come l.ahead) (sym is) ∙ e)

@@ -4,7 +4,7 @@ use Rattle.sf_base.specs.Data.{Datum}
 use Rattle.sf_base.specs.declared.values.Kind.{Kind}
 use Rattle.sf_format.specs.Proper.{IsAccepted}
 use Rattle.sf_run.specs.outcome.Ending.TheVariants.{End}
-use Rattle.sf_run.specs.Rows.{AreGiven}
+use Rattle.sf_read.specs.Rows.{AreGivenAs}
 use Rattle.sf_read.specs.RowScans.{HasShape}
 use Rattle.sf_read.proofs.Shapes.{given}
 use Rattle.sf_loops.specs.declared.line_fault.LineFault.{LineFault}
@@ -35,17 +35,17 @@ reported {to_come = to_come} {reads = reads} {failures = failures} {N = N} old n
     by (Some end) ended = absurd (never_true end result (over end ended).1 e)
 
 -- its report has a value of its kind for each slot of the row
-pub given_line : {S : Type 0} {to_come : S → Option (List ℕ)} {reads failures : S → ℕ} {N : ℕ} (kinds : List Kind) (old new : LineLoop S)
-    (result : Result Bool LineFault) → StaysEnded old new result → (old.over ≡ None → IsNextLine to_come reads failures N old new result)
-    → result ≡ Ok true → IsAccepted new.format → HasShape kinds old.format → AreGiven kinds new.report.values
-given_line {to_come = to_come} {reads = reads} {failures = failures} {N = N} kinds old new result over next e is_accepted shape =
+pub given_line : {S : Type 0} {to_come : S → Option (List ℕ)} {reads failures : S → ℕ} {N : ℕ} (kinds : List Kind) (optional : ℕ → Bool)
+    (old new : LineLoop S) (result : Result Bool LineFault) → StaysEnded old new result → (old.over ≡ None → IsNextLine to_come reads failures N old new result)
+    → result ≡ Ok true → IsAccepted new.format → HasShape kinds optional old.format → AreGivenAs kinds optional new.report.values
+given_line {to_come = to_come} {reads = reads} {failures = failures} {N = N} kinds optional old new result over next e is_accepted shape =
     let r = reported {to_come = to_come} {reads = reads} {failures = failures} {N = N} old new result over next e in
     let accepted = subst IsAccepted r.1.goes.format is_accepted in
-    given kinds old.format old.limit r.0 End new.report accepted.kinded accepted.slots shape r.1.scanned r.1.done
+    given kinds optional old.format old.limit r.0 End new.report accepted.kinded accepted.slots shape r.1.scanned r.1.done
 
 -- the next line as a row, of a loop that is known by another name
 pub as_line_row : {S T : Type 0} (to_come : S → Option (List ℕ)) (reads failures : S → ℕ) (N : ℕ) (kinds : List Kind)
-    (listed : T → List Datum)
+    (listed : T → List (Option Datum))
     (was old advanced new : LineLoop S) (turn : Result Bool LineFault) (result : Result (Option T) LineFault) → was ≡ old
     → (was.over ≡ None → IsNextLine to_come reads failures N was advanced turn) → LineRowAnswers kinds listed advanced new turn result
     → old.over ≡ None → IsNextLineRow to_come reads failures N kinds listed old new result

@@ -112,7 +112,7 @@ comes_err to_come old new reads.NoMemory text fault r h e = absurd (stopped old 
 -- ---- an answer
 
 -- the next line has this answer, and the loop goes on
-record IsAnswered {S T : Type 0} (to_come : S → Option (List ℕ)) (kinds : List Kind) (listed : T → List Datum) (old new : LineLoop S)
+record IsAnswered {S T : Type 0} (to_come : S → Option (List ℕ)) (kinds : List Kind) (listed : T → List (Option Datum)) (old new : LineLoop S)
     (answer : LineAnswer T) : Type 0 where
   line : List ℕ
   taken : Took to_come old.ahead new.ahead line
@@ -122,7 +122,7 @@ record IsAnswered {S T : Type 0} (to_come : S → Option (List ℕ)) (kinds : Li
   read : new.read ≡ counted_on old.read
 
 row_answered : {S T : Type 0} (to_come : S → Option (List ℕ)) (failures : S → ℕ) (count : S → ℕ) (N : ℕ) (kinds : List Kind)
-    (listed : T → List Datum) (old advanced new : LineLoop S) (turn : Result Bool LineFault) (row : T)
+    (listed : T → List (Option Datum)) (old advanced new : LineLoop S) (turn : Result Bool LineFault) (row : T)
     → IsNextLine to_come count failures N old advanced turn
     → LineRowAnswers kinds listed advanced new turn (Ok (Some row)) → IsAnswered to_come kinds listed old new (Ok row)
 row_answered {S} {T} to_come failures count N kinds listed old advanced new (Ok true) row next (same, row_is) =
@@ -138,7 +138,7 @@ row_answered to_come failures count N kinds listed old advanced new (Ok false) r
 row_answered to_come failures count N kinds listed old advanced new (Err fault) row next h = absurd h
 
 fault_answered : {S T : Type 0} (to_come : S → Option (List ℕ)) (failures : S → ℕ) (count : S → ℕ) (N : ℕ) (kinds : List Kind)
-    (listed : T → List Datum) (old advanced new : LineLoop S) (turn : Result Bool LineFault) (fault : LineFault)
+    (listed : T → List (Option Datum)) (old advanced new : LineLoop S) (turn : Result Bool LineFault) (fault : LineFault)
     → IsNextLine to_come count failures N old advanced turn
     → LineRowAnswers kinds listed advanced new turn (Err fault) → new.over ≡ None → IsAnswered to_come kinds listed old new (Err fault)
 fault_answered {S} {T} to_come failures count N kinds listed old advanced new (Ok true) fault next (told, refused) e =
@@ -156,7 +156,7 @@ fault_answered {S} {T} to_come failures count N kinds listed old advanced new (E
       read = ap (λ (l : LineLoop S). l.read) same ∙ all.goes.read_are;
     }
 
-one : {S T : Type 0} (to_come : S → Option (List ℕ)) (count failures : S → ℕ) (N : ℕ) (kinds : List Kind) (listed : T → List Datum)
+one : {S T : Type 0} (to_come : S → Option (List ℕ)) (count failures : S → ℕ) (N : ℕ) (kinds : List Kind) (listed : T → List (Option Datum))
     (old new : LineLoop S) (answer : LineAnswer T) → IsNextLineRow to_come count failures N kinds listed old new (answered answer)
     → new.over ≡ None → IsAnswered to_come kinds listed old new answer
 one to_come count failures N kinds listed old new (Ok row) next e =
@@ -167,13 +167,13 @@ one to_come count failures N kinds listed old new (Err fault) next e =
 -- ---- answers in turn
 
 -- the answers are those of these lines
-record Told {S T : Type 0} (to_come : S → Option (List ℕ)) (kinds : List Kind) (listed : T → List Datum) (t : List ℕ) (old new : LineLoop S)
+record Told {S T : Type 0} (to_come : S → Option (List ℕ)) (kinds : List Kind) (listed : T → List (Option Datum)) (t : List ℕ) (old new : LineLoop S)
     (front : List (List ℕ)) (answers : List (LineAnswer T)) : Type 0 where
   lines : List (List ℕ)
   lined : Lined to_come t new.ahead (front ++ lines)
   are : AreAnswersOf kinds listed old.format old.limit old.read lines answers
 
-in_turn : {S T : Type 0} (to_come : S → Option (List ℕ)) (count failures : S → ℕ) (N : ℕ) (kinds : List Kind) (listed : T → List Datum)
+in_turn : {S T : Type 0} (to_come : S → Option (List ℕ)) (count failures : S → ℕ) (N : ℕ) (kinds : List Kind) (listed : T → List (Option Datum))
     (t : List ℕ) (old new : LineLoop S) (front : List (List ℕ)) (answers : List (LineAnswer T))
     → Lined to_come t old.ahead front → LinesInTurn to_come count failures N kinds listed old answers new
     → Told to_come kinds listed t old new front answers
@@ -199,7 +199,7 @@ in_turn {S} to_come count failures N kinds listed t old new front (answer ∷ an
     }
 
 pub answers_are_lines : {S T : Type 0} (to_come : S → Option (List ℕ)) (count failures : S → ℕ) (N : ℕ) (kinds : List Kind)
-    (listed : T → List Datum)
+    (listed : T → List (Option Datum))
     → AnswersAreLines to_come count failures N kinds listed
 answers_are_lines to_come count failures N kinds listed old new answers turns t e =
     let all = in_turn to_come count failures N kinds listed t old new [] answers (begins to_come t old.ahead e) turns in
@@ -225,7 +225,7 @@ comes_false to_come t old new reads.Fault text lines l r h = absurd h
 comes_false to_come t old new reads.Endless text lines l r h = absurd h
 comes_false to_come t old new reads.NoMemory text lines l r h = absurd h
 
-ended : {S T : Type 0} (to_come : S → Option (List ℕ)) (count failures : S → ℕ) (N : ℕ) (kinds : List Kind) (listed : T → List Datum)
+ended : {S T : Type 0} (to_come : S → Option (List ℕ)) (count failures : S → ℕ) (N : ℕ) (kinds : List Kind) (listed : T → List (Option Datum))
     (t : List ℕ) (old advanced new : LineLoop S) (turn : Result Bool LineFault) (lines : List (List ℕ)) → Lined to_come t old.ahead lines
     → IsNextLine to_come count failures N old advanced turn → LineRowAnswers kinds listed advanced new turn (Ok None) → lines_of t ≡ lines
 ended to_come count failures N kinds listed t old advanced new (Ok true) lines l next h = absurd h
@@ -234,7 +234,7 @@ ended to_come count failures N kinds listed t old advanced new (Ok false) lines 
 ended to_come count failures N kinds listed t old advanced new (Err fault) lines l next h = absurd h
 
 pub none_is_the_end : {S T : Type 0} (to_come : S → Option (List ℕ)) (count failures : S → ℕ) (N : ℕ) (kinds : List Kind)
-    (listed : T → List Datum)
+    (listed : T → List (Option Datum))
     → NoneIsTheEnd to_come count failures N kinds listed
 none_is_the_end to_come count failures N kinds listed old mid new answers turns next t e =
     let all = in_turn to_come count failures N kinds listed t old mid [] answers (begins to_come t old.ahead e) turns in

@@ -7,7 +7,7 @@ use Rattle.sf_run.specs.outcome.Ending.{Ending}
 use Rattle.sf_run.specs.outcome.Outcome.{Outcome}
 use Rattle.sf_run.specs.outcome.Status.{Status}
 use Rattle.sf_run.specs.outcome.Status.TheVariants.{Done}
-use Rattle.sf_run.specs.Rows.{AreGiven}
+use Rattle.sf_read.specs.Rows.{AreGivenAs}
 use Rattle.sf_read.specs.RowScans.{HasShape}
 use Rattle.sf_read.proofs.Shapes.{given}
 use Rattle.sf_loops.specs.declared.fault.RecordFault.{RecordFault}
@@ -66,20 +66,20 @@ pub advances_by : {S : Type 0} (old new : Loop S) (turn other : Turn) (result : 
 advances_by old new turn other result e h = subst (λ t. Advances old new t result) (sym e) h
 
 -- its report has a value of its kind for each slot of the row
-pub given_row : {S : Type 0} {to_come : S → Option (List ℕ)} {reads failures : S → ℕ} {N : ℕ} (kinds : List Kind) (old new : Loop S)
-    (result : Result Bool RecordFault)
+pub given_row : {S : Type 0} {to_come : S → Option (List ℕ)} {reads failures : S → ℕ} {N : ℕ} (kinds : List Kind) (optional : ℕ → Bool)
+    (old new : Loop S) (result : Result Bool RecordFault)
     → ((end : Option RecordFault) → old.over ≡ Some end → (new ≡ old) × (result ≡ ended_with false end))
     → (old.over ≡ None → IsNext to_come reads failures N old new result) → result ≡ Ok true
-    → new.format ≡ old.format → IsAccepted new.format → HasShape kinds old.format → AreGiven kinds new.report.values
-given_row {to_come = to_come} {reads = reads} {failures = failures} {N = N} kinds old new result over next e same is_accepted shape =
+    → new.format ≡ old.format → IsAccepted new.format → HasShape kinds optional old.format → AreGivenAs kinds optional new.report.values
+given_row {to_come = to_come} {reads = reads} {failures = failures} {N = N} kinds optional old new result over next e same is_accepted shape =
     let d = done_of {to_come = to_come} {reads = reads} {failures = failures} {N = N} old new result over next e in
     let told = d.0.run.told in
     let accepted = subst IsAccepted same is_accepted in
-    given kinds old.format old.limit told.0 told.1 new.report accepted.kinded accepted.slots shape told.2 d.1
+    given kinds optional old.format old.limit told.0 told.1 new.report accepted.kinded accepted.slots shape told.2 d.1
 
 -- ---- the next record as a row, of a loop that is known by another name
 
-pub as_row : {S T : Type 0} (to_come : S → Option (List ℕ)) (reads failures : S → ℕ) (N : ℕ) (kinds : List Kind) (listed : T → List Datum)
+pub as_row : {S T : Type 0} (to_come : S → Option (List ℕ)) (reads failures : S → ℕ) (N : ℕ) (kinds : List Kind) (listed : T → List (Option Datum))
     (was old advanced new : Loop S) (turn : Result Bool RecordFault) (result : Result (Option T) RecordFault) → was ≡ old
     → (was.over ≡ None → IsNext to_come reads failures N was advanced turn) → RowAnswers kinds listed advanced new turn result
     → old.over ≡ None

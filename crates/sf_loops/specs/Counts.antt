@@ -22,36 +22,36 @@ pub record EndsAt (ds : List Directive) (m : ℕ) (t : List ℕ) : Type 0 where
   pub met : report.met ≡ Some End
 
 -- the input t has so many records, and then ends
-pub record IsCount {T : Type 0} (kinds : List Kind) (listed : T → List Datum) (ds : List Directive) (m : ℕ) (t : List ℕ) (n : ℕ) : Type 0
+pub record IsCount {T : Type 0} (kinds : List Kind) (given : T → List (Option Datum)) (ds : List Directive) (m : ℕ) (t : List ℕ) (n : ℕ) : Type 0
   where
     pub rows : List T
     pub left : List ℕ
-    pub records : AreRecords kinds listed ds m t rows left
+    pub records : AreRecords kinds given ds m t rows left
     pub count : n ≡ length rows
     pub ends : EndsAt ds m left
 
 -- so many rows were answered, and the loop has not come to the end
 pub record Counting {S T : Type 0} (to_come : S → Option (List ℕ)) (reads failures : S → ℕ) (N : ℕ) (kinds : List Kind)
-    (listed : T → List Datum) (old now : Loop S) (n : ℕ) : Type 0 where
+    (given : T → List (Option Datum)) (old now : Loop S) (n : ℕ) : Type 0 where
   pub rows : List T
   pub count : length rows ≡ n
-  pub going : now.over ≡ None → AnswersInTurn to_come reads failures N kinds listed old rows now × (now.format ≡ old.format)
+  pub going : now.over ≡ None → AnswersInTurn to_come reads failures N kinds given old rows now × (now.format ≡ old.format)
       × (now.limit ≡ old.limit)
   pub unended : now.over ≡ Some None → ⊥
 
 -- `next` has answered so, in a loop that goes on or has ended
 pub record AnswersNext {S T : Type 0} (to_come : S → Option (List ℕ)) (reads failures : S → ℕ) (N : ℕ) (kinds : List Kind)
-    (listed : T → List Datum) (now new : Loop S) (result : Result (Option T) RecordFault) : Type 0 where
+    (given : T → List (Option Datum)) (now new : Loop S) (result : Result (Option T) RecordFault) : Type 0 where
   pub over : (end : Option RecordFault) → now.over ≡ Some end → (new ≡ now) × (result ≡ ended_with None end)
-  pub next : now.over ≡ None → IsNextRow to_come reads failures N kinds listed now new result
+  pub next : now.over ≡ None → IsNextRow to_come reads failures N kinds given now new result
 
 -- a caller may count: none at first, one more with each row, and at None that is the count of the records of the input t
 pub record RecordsAreCounted {S T : Type 0} (to_come : S → Option (List ℕ)) (reads failures : S → ℕ) (N : ℕ) (kinds : List Kind)
-    (listed : T → List Datum) : Type 0 where
-  pub begins : (old : Loop S) → old.over ≡ None → Counting to_come reads failures N kinds listed old old 0
-  pub more : (old now new : Loop S) (n : ℕ) (row : T) → Counting to_come reads failures N kinds listed old now n
-      → AnswersNext to_come reads failures N kinds listed now new (Ok (Some row))
-      → Counting to_come reads failures N kinds listed old new (n + 1)
-  pub ends : (old now new : Loop S) (n : ℕ) → Counting to_come reads failures N kinds listed old now n
-      → AnswersNext to_come reads failures N kinds listed now new (Ok None)
-      → (t : List ℕ) → input_of to_come old.ahead ≡ Some t → IsCount kinds listed old.format old.limit t n
+    (given : T → List (Option Datum)) : Type 0 where
+  pub begins : (old : Loop S) → old.over ≡ None → Counting to_come reads failures N kinds given old old 0
+  pub more : (old now new : Loop S) (n : ℕ) (row : T) → Counting to_come reads failures N kinds given old now n
+      → AnswersNext to_come reads failures N kinds given now new (Ok (Some row))
+      → Counting to_come reads failures N kinds given old new (n + 1)
+  pub ends : (old now new : Loop S) (n : ℕ) → Counting to_come reads failures N kinds given old now n
+      → AnswersNext to_come reads failures N kinds given now new (Ok None)
+      → (t : List ℕ) → input_of to_come old.ahead ≡ Some t → IsCount kinds given old.format old.limit t n

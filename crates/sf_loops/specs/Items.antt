@@ -25,28 +25,28 @@ pub record LinesLeft (S : Type 0) : Type 0 where
 
 -- An item is what `next` answers: a row, after which the items go on; or a fault, which is the last one. None is the end, or the most
 -- items were given.
-abbrev pub GivesRecord : {S T : Type 0} → (S → Option (List ℕ)) → (S → ℕ) → (S → ℕ) → ℕ → List Kind → (T → List Datum) → RecordsLeft S
+abbrev pub GivesRecord : {S T : Type 0} → (S → Option (List ℕ)) → (S → ℕ) → (S → ℕ) → ℕ → List Kind → (T → List (Option Datum)) → RecordsLeft S
     → Option (Result T RecordFault) → RecordsLeft S → Type 0
-GivesRecord to_come reads failures N kinds listed old (Some (Ok row)) new =
-    AnswersNext to_come reads failures N kinds listed old.now new.now (Ok (Some row)) × (new.left + 1 ≡ old.left)
-GivesRecord to_come reads failures N kinds listed old (Some (Err fault)) new =
-    AnswersNext to_come reads failures N kinds listed old.now new.now (Err fault) × (new.left ≡ 0)
-GivesRecord to_come reads failures N kinds listed old None new =
-    ((old.left ≡ 0) × (new ≡ old)) ⊎ (AnswersNext to_come reads failures N kinds listed old.now new.now (Ok None) × (new.left ≡ 0))
+GivesRecord to_come reads failures N kinds given old (Some (Ok row)) new =
+    AnswersNext to_come reads failures N kinds given old.now new.now (Ok (Some row)) × (new.left + 1 ≡ old.left)
+GivesRecord to_come reads failures N kinds given old (Some (Err fault)) new =
+    AnswersNext to_come reads failures N kinds given old.now new.now (Err fault) × (new.left ≡ 0)
+GivesRecord to_come reads failures N kinds given old None new =
+    ((old.left ≡ 0) × (new ≡ old)) ⊎ (AnswersNext to_come reads failures N kinds given old.now new.now (Ok None) × (new.left ≡ 0))
 
 -- `next` has answered so, in a loop over lines that goes on or has ended
 pub record AnswersNextLine {S T : Type 0} (to_come : S → Option (List ℕ)) (reads failures : S → ℕ) (N : ℕ) (kinds : List Kind)
-    (listed : T → List Datum) (now new : LineLoop S) (result : Result (Option T) LineFault) : Type 0 where
+    (given : T → List (Option Datum)) (now new : LineLoop S) (result : Result (Option T) LineFault) : Type 0 where
   pub over : (end : Option LineStop) → now.over ≡ Some end → (new ≡ now) × LineEndedWith None end result
-  pub next : now.over ≡ None → IsNextLineRow to_come reads failures N kinds listed now new result
+  pub next : now.over ≡ None → IsNextLineRow to_come reads failures N kinds given now new result
 
 -- The same of lines: after the fault of a line that is no match, or is too long, the items go on.
-abbrev pub GivesLine : {S T : Type 0} → (S → Option (List ℕ)) → (S → ℕ) → (S → ℕ) → ℕ → List Kind → (T → List Datum) → LinesLeft S
+abbrev pub GivesLine : {S T : Type 0} → (S → Option (List ℕ)) → (S → ℕ) → (S → ℕ) → ℕ → List Kind → (T → List (Option Datum)) → LinesLeft S
     → Option (Result T LineFault) → LinesLeft S → Type 0
-GivesLine to_come reads failures N kinds listed old (Some (Ok row)) new =
-    AnswersNextLine to_come reads failures N kinds listed old.now new.now (Ok (Some row)) × (new.left + 1 ≡ old.left)
-GivesLine to_come reads failures N kinds listed old (Some (Err fault)) new =
-    AnswersNextLine to_come reads failures N kinds listed old.now new.now (Err fault)
+GivesLine to_come reads failures N kinds given old (Some (Ok row)) new =
+    AnswersNextLine to_come reads failures N kinds given old.now new.now (Ok (Some row)) × (new.left + 1 ≡ old.left)
+GivesLine to_come reads failures N kinds given old (Some (Err fault)) new =
+    AnswersNextLine to_come reads failures N kinds given old.now new.now (Err fault)
     × (new.left ≡ (if goes_on fault.why then old.left - 1 else 0))
-GivesLine to_come reads failures N kinds listed old None new =
-    ((old.left ≡ 0) × (new ≡ old)) ⊎ (AnswersNextLine to_come reads failures N kinds listed old.now new.now (Ok None) × (new.left ≡ 0))
+GivesLine to_come reads failures N kinds given old None new =
+    ((old.left ≡ 0) × (new ≡ old)) ⊎ (AnswersNextLine to_come reads failures N kinds given old.now new.now (Ok None) × (new.left ≡ 0))

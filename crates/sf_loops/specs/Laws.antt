@@ -5,31 +5,31 @@ use Rattle.sf_base.specs.declared.values.Kind.{Kind}
 use Rattle.sf_format.specs.declared.directive.Directive.{Directive}
 use Rattle.sf_run.specs.outcome.Ending.TheVariants.{End}
 use Rattle.sf_run.specs.Limits.{RunTold}
-use Rattle.sf_run.specs.Rows.{AreRowOf}
 use Rattle.sf_run.specs.Runs.{RunReport}
+use Rattle.sf_read.specs.Rows.{AreSlotsOf}
 use Rattle.sf_read.specs.Ahead.{input_of}
 use Rattle.sf_loops.specs.declared.turn.Turn.TheVariants.{Goes}
 use Rattle.sf_loops.specs.Loops.{IsNextRow, Loop}
 use Rattle.sf_loops.specs.Turns.{turn_of}
 
 -- these rows were answered, one after the other, and the loop goes on
-abbrev pub AnswersInTurn : {S T : Type 0} → (S → Option (List ℕ)) → (S → ℕ) → (S → ℕ) → ℕ → List Kind → (T → List Datum) → Loop S → List T
+abbrev pub AnswersInTurn : {S T : Type 0} → (S → Option (List ℕ)) → (S → ℕ) → (S → ℕ) → ℕ → List Kind → (T → List (Option Datum)) → Loop S → List T
     → Loop S → Type 0
-AnswersInTurn to_come reads failures N kinds listed old [] new = old ≡ new
-AnswersInTurn {S} to_come reads failures N kinds listed old (row ∷ rows) new =
-    (mid : Loop S) × IsNextRow to_come reads failures N kinds listed old mid (Ok (Some row)) × (mid.over ≡ None)
-    × AnswersInTurn to_come reads failures N kinds listed mid rows new
+AnswersInTurn to_come reads failures N kinds given old [] new = old ≡ new
+AnswersInTurn {S} to_come reads failures N kinds given old (row ∷ rows) new =
+    (mid : Loop S) × IsNextRow to_come reads failures N kinds given old mid (Ok (Some row)) × (mid.over ≡ None)
+    × AnswersInTurn to_come reads failures N kinds given mid rows new
 
 -- these rows are the records of the input t, by runs of at most m bytes, each of what the one before it left; `left` is left
-abbrev pub AreRecords : {T : Type 0} → List Kind → (T → List Datum) → List Directive → ℕ → List ℕ → List T → List ℕ → Type 0
-AreRecords kinds listed ds m t [] left = t ≡ left
-AreRecords kinds listed ds m t (row ∷ rows) left =
-    (r : RunReport) × RunTold ds m t End r × (turn_of ds r ≡ Goes) × AreRowOf (length kinds) (listed row) r.values
-    × AreRecords kinds listed ds m (drop r.used t) rows left
+abbrev pub AreRecords : {T : Type 0} → List Kind → (T → List (Option Datum)) → List Directive → ℕ → List ℕ → List T → List ℕ → Type 0
+AreRecords kinds given ds m t [] left = t ≡ left
+AreRecords kinds given ds m t (row ∷ rows) left =
+    (r : RunReport) × RunTold ds m t End r × (turn_of ds r ≡ Goes) × AreSlotsOf (length kinds) (given row) r.values
+    × AreRecords kinds given ds m (drop r.used t) rows left
 
 -- whatever the blocks in which the input came
-abbrev pub AnswersAreRecords : {S T : Type 0} → (S → Option (List ℕ)) → (S → ℕ) → (S → ℕ) → ℕ → List Kind → (T → List Datum) → Type 0
-AnswersAreRecords {S} {T} to_come reads failures N kinds listed =
-    (old new : Loop S) (rows : List T) → AnswersInTurn to_come reads failures N kinds listed old rows new
+abbrev pub AnswersAreRecords : {S T : Type 0} → (S → Option (List ℕ)) → (S → ℕ) → (S → ℕ) → ℕ → List Kind → (T → List (Option Datum)) → Type 0
+AnswersAreRecords {S} {T} to_come reads failures N kinds given =
+    (old new : Loop S) (rows : List T) → AnswersInTurn to_come reads failures N kinds given old rows new
     → (t : List ℕ) → input_of to_come old.ahead ≡ Some t
-    → (left : List ℕ) × AreRecords kinds listed old.format old.limit t rows left × (input_of to_come new.ahead ≡ Some left)
+    → (left : List ℕ) × AreRecords kinds given old.format old.limit t rows left × (input_of to_come new.ahead ≡ Some left)

@@ -7,8 +7,8 @@ use Rattle.sf_run.specs.outcome.Ending.TheVariants.{End}
 use Rattle.sf_run.specs.outcome.Status.{Status}
 use Rattle.sf_run.specs.outcome.Status.TheVariants.{Done, NoMemory}
 use Rattle.sf_run.specs.Limits.{RunTold}
-use Rattle.sf_run.specs.Rows.{AreRowOf}
 use Rattle.sf_run.specs.Runs.{RunReport}
+use Rattle.sf_read.specs.Rows.{AreSlotsOf}
 use Rattle.sf_read.specs.Ahead.{input_of}
 use Rattle.sf_read.specs.Counts.{counted_on}
 use Rattle.sf_line.specs.Cut.{lines_of}
@@ -28,12 +28,12 @@ answered (Ok row) = Ok (Some row)
 answered (Err fault) = Err fault
 
 -- these were answered, one after the other, and the loop goes on
-abbrev pub LinesInTurn : {S T : Type 0} → (S → Option (List ℕ)) → (S → ℕ) → (S → ℕ) → ℕ → List Kind → (T → List Datum) → LineLoop S
+abbrev pub LinesInTurn : {S T : Type 0} → (S → Option (List ℕ)) → (S → ℕ) → (S → ℕ) → ℕ → List Kind → (T → List (Option Datum)) → LineLoop S
     → List (LineAnswer T) → LineLoop S → Type 0
-LinesInTurn to_come reads failures N kinds listed old [] new = old ≡ new
-LinesInTurn {S} to_come reads failures N kinds listed old (answer ∷ answers) new =
-    (mid : LineLoop S) × IsNextLineRow to_come reads failures N kinds listed old mid (answered answer) × (mid.over ≡ None)
-    × LinesInTurn to_come reads failures N kinds listed mid answers new
+LinesInTurn to_come reads failures N kinds given old [] new = old ≡ new
+LinesInTurn {S} to_come reads failures N kinds given old (answer ∷ answers) new =
+    (mid : LineLoop S) × IsNextLineRow to_come reads failures N kinds given old mid (answered answer) × (mid.over ≡ None)
+    × LinesInTurn to_come reads failures N kinds given mid answers new
 
 -- a run that is no match
 abbrev pub is_miss : Status → Bool
@@ -50,32 +50,32 @@ IsMissBy ds m line text (why.Failed outcome) =
 IsMissBy ds m line text _ = ⊥
 
 -- the answer for the line with this number
-abbrev pub IsAnswerOf : {T : Type 0} → List Kind → (T → List Datum) → List Directive → ℕ → ℕ → List ℕ → LineAnswer T → Type 0
-IsAnswerOf kinds listed ds m number line (Ok row) =
+abbrev pub IsAnswerOf : {T : Type 0} → List Kind → (T → List (Option Datum)) → List Directive → ℕ → ℕ → List ℕ → LineAnswer T → Type 0
+IsAnswerOf kinds given ds m number line (Ok row) =
     (length line ≤ m)
-    × ((r : RunReport) × RunTold ds m line End r × (r.status ≡ Done) × AreRowOf (length kinds) (listed row) r.values)
-IsAnswerOf kinds listed ds m number line (Err fault) = (fault.number ≡ number) × IsMissBy ds m line fault.text.items fault.why
+    × ((r : RunReport) × RunTold ds m line End r × (r.status ≡ Done) × AreSlotsOf (length kinds) (given row) r.values)
+IsAnswerOf kinds given ds m number line (Err fault) = (fault.number ≡ number) × IsMissBy ds m line fault.text.items fault.why
 
 -- an answer for each of these lines, which come after so many others
-abbrev pub AreAnswersOf : {T : Type 0} → List Kind → (T → List Datum) → List Directive → ℕ → ℕ → List (List ℕ) → List (LineAnswer T)
+abbrev pub AreAnswersOf : {T : Type 0} → List Kind → (T → List (Option Datum)) → List Directive → ℕ → ℕ → List (List ℕ) → List (LineAnswer T)
     → Type 0
-AreAnswersOf kinds listed ds m before [] [] = Unit {0}
-AreAnswersOf kinds listed ds m before (line ∷ lines) (answer ∷ answers) =
-    IsAnswerOf kinds listed ds m (counted_on before) line answer × AreAnswersOf kinds listed ds m (counted_on before) lines answers
-AreAnswersOf kinds listed ds m before _ _ = ⊥
+AreAnswersOf kinds given ds m before [] [] = Unit {0}
+AreAnswersOf kinds given ds m before (line ∷ lines) (answer ∷ answers) =
+    IsAnswerOf kinds given ds m (counted_on before) line answer × AreAnswersOf kinds given ds m (counted_on before) lines answers
+AreAnswersOf kinds given ds m before _ _ = ⊥
 
 -- the answers are those of the first lines of the input t, whatever the blocks in which it came; the other lines are left
-abbrev pub AnswersAreLines : {S T : Type 0} → (S → Option (List ℕ)) → (S → ℕ) → (S → ℕ) → ℕ → List Kind → (T → List Datum) → Type 0
-AnswersAreLines {S} {T} to_come reads failures N kinds listed =
-    (old new : LineLoop S) (answers : List (LineAnswer T)) → LinesInTurn to_come reads failures N kinds listed old answers new
+abbrev pub AnswersAreLines : {S T : Type 0} → (S → Option (List ℕ)) → (S → ℕ) → (S → ℕ) → ℕ → List Kind → (T → List (Option Datum)) → Type 0
+AnswersAreLines {S} {T} to_come reads failures N kinds given =
+    (old new : LineLoop S) (answers : List (LineAnswer T)) → LinesInTurn to_come reads failures N kinds given old answers new
     → (t : List ℕ) → input_of to_come old.ahead ≡ Some t
     → (lines : List (List ℕ)) × (left : List ℕ) × (lines_of t ≡ lines ++ lines_of left) × (input_of to_come new.ahead ≡ Some left)
-    × AreAnswersOf kinds listed old.format old.limit old.read lines answers
+    × AreAnswersOf kinds given old.format old.limit old.read lines answers
 
 -- where None comes after these answers, they are those of all lines of the input t
-abbrev pub NoneIsTheEnd : {S T : Type 0} → (S → Option (List ℕ)) → (S → ℕ) → (S → ℕ) → ℕ → List Kind → (T → List Datum) → Type 0
-NoneIsTheEnd {S} {T} to_come reads failures N kinds listed =
-    (old mid new : LineLoop S) (answers : List (LineAnswer T)) → LinesInTurn to_come reads failures N kinds listed old answers mid
-    → IsNextLineRow to_come reads failures N kinds listed mid new (Ok None)
+abbrev pub NoneIsTheEnd : {S T : Type 0} → (S → Option (List ℕ)) → (S → ℕ) → (S → ℕ) → ℕ → List Kind → (T → List (Option Datum)) → Type 0
+NoneIsTheEnd {S} {T} to_come reads failures N kinds given =
+    (old mid new : LineLoop S) (answers : List (LineAnswer T)) → LinesInTurn to_come reads failures N kinds given old answers mid
+    → IsNextLineRow to_come reads failures N kinds given mid new (Ok None)
     → (t : List ℕ) → input_of to_come old.ahead ≡ Some t
-    → AreAnswersOf kinds listed old.format old.limit old.read (lines_of t) answers
+    → AreAnswersOf kinds given old.format old.limit old.read (lines_of t) answers

@@ -9,8 +9,8 @@ use Rattle.sf_run.specs.outcome.Ending.TheVariants.{End}
 use Rattle.sf_run.specs.outcome.Status.{Status}
 use Rattle.sf_run.specs.outcome.Status.TheVariants as status
 use Rattle.sf_run.specs.Limits.{RunTold, RunWithin}
-use Rattle.sf_run.specs.Rows.{AreRowOf}
 use Rattle.sf_run.specs.Runs.{RunReport}
+use Rattle.sf_read.specs.Rows.{AreSlotsOf}
 use Rattle.sf_read.specs.Ahead.{Ahead}
 use Rattle.sf_read.specs.Counts.{counted_on}
 use Rattle.sf_line.specs.declared.line.LineRead.{LineRead}
@@ -103,19 +103,19 @@ IsLineRefused advanced new fault = IsLineFault fault advanced.read [] why.NoMemo
     × (new ≡ record advanced { over = Some (Some (record { number = advanced.read; why = why.NoMemory })) })
 
 -- by whether there is a report: its row, or memory for that was refused; or the same fault, or the end
-abbrev pub LineRowAnswers : {S T : Type 0} → List Kind → (T → List Datum) → LineLoop S → LineLoop S → Result Bool LineFault
+abbrev pub LineRowAnswers : {S T : Type 0} → List Kind → (T → List (Option Datum)) → LineLoop S → LineLoop S → Result Bool LineFault
     → Result (Option T) LineFault → Type 0
-LineRowAnswers kinds listed advanced new (Ok true) (Ok (Some row)) =
-    (new ≡ advanced) × AreRowOf (length kinds) (listed row) advanced.report.values
-LineRowAnswers kinds listed advanced new (Ok true) (Err fault) = IsLineRefused advanced new fault
-LineRowAnswers kinds listed advanced new (Ok false) (Ok None) = new ≡ advanced
-LineRowAnswers kinds listed advanced new (Err fault) (Err told) = (told ≡ fault) × (new ≡ advanced)
-LineRowAnswers kinds listed advanced new _ _ = ⊥
+LineRowAnswers kinds given advanced new (Ok true) (Ok (Some row)) =
+    (new ≡ advanced) × AreSlotsOf (length kinds) (given row) advanced.report.values
+LineRowAnswers kinds given advanced new (Ok true) (Err fault) = IsLineRefused advanced new fault
+LineRowAnswers kinds given advanced new (Ok false) (Ok None) = new ≡ advanced
+LineRowAnswers kinds given advanced new (Err fault) (Err told) = (told ≡ fault) × (new ≡ advanced)
+LineRowAnswers kinds given advanced new _ _ = ⊥
 
 -- the next line as a row
 pub record IsNextLineRow {S T : Type 0} (to_come : S → Option (List ℕ)) (reads failures : S → ℕ) (N : ℕ) (kinds : List Kind)
-    (listed : T → List Datum) (old new : LineLoop S) (result : Result (Option T) LineFault) : Type 0 where
+    (given : T → List (Option Datum)) (old new : LineLoop S) (result : Result (Option T) LineFault) : Type 0 where
   pub advanced : LineLoop S
   pub turn : Result Bool LineFault
   pub is : IsNextLine to_come reads failures N old advanced turn
-  pub answers : LineRowAnswers kinds listed advanced new turn result
+  pub answers : LineRowAnswers kinds given advanced new turn result

@@ -4,8 +4,8 @@ use Rattle.sf_base.specs.Data.{Assigned, Datum}
 use Rattle.sf_base.specs.Kept.{Kept}
 use Rattle.sf_base.specs.declared.values.Kind.{Kind}
 use Rattle.sf_format.specs.declared.directive.Directive.{Directive}
-use Rattle.sf_run.specs.Rows.{AreRowOf}
 use Rattle.sf_run.specs.Runs.{RunReport}
+use Rattle.sf_read.specs.Rows.{AreSlotsOf}
 use Rattle.sf_read.specs.Ahead.{Ahead}
 use Rattle.sf_read.specs.Counts.{counted_on}
 use Rattle.sf_loops.specs.declared.fault.RecordFault.{RecordFault}
@@ -72,20 +72,20 @@ IsRowRefused advanced new fault =
     × (new ≡ record advanced { over = Some (Some fault) })
 
 -- by whether there is a record: its row, or memory for that was refused; or what the loop has ended with
-abbrev pub RowAnswers : {S T : Type 0} → List Kind → (T → List Datum) → Loop S → Loop S → Result Bool RecordFault
+abbrev pub RowAnswers : {S T : Type 0} → List Kind → (T → List (Option Datum)) → Loop S → Loop S → Result Bool RecordFault
     → Result (Option T) RecordFault → Type 0
-RowAnswers kinds listed advanced new (Ok true) (Ok (Some row)) =
-    (new ≡ advanced) × AreRowOf (length kinds) (listed row) advanced.report.values
-RowAnswers kinds listed advanced new (Ok true) (Err fault) = IsRowRefused advanced new fault
-RowAnswers kinds listed advanced new (Ok false) (Ok None) = new ≡ advanced
-RowAnswers kinds listed advanced new (Err fault) (Err told) = (told ≡ fault) × (new ≡ advanced)
-RowAnswers kinds listed advanced new _ _ = ⊥
+RowAnswers kinds given advanced new (Ok true) (Ok (Some row)) =
+    (new ≡ advanced) × AreSlotsOf (length kinds) (given row) advanced.report.values
+RowAnswers kinds given advanced new (Ok true) (Err fault) = IsRowRefused advanced new fault
+RowAnswers kinds given advanced new (Ok false) (Ok None) = new ≡ advanced
+RowAnswers kinds given advanced new (Err fault) (Err told) = (told ≡ fault) × (new ≡ advanced)
+RowAnswers kinds given advanced new _ _ = ⊥
 
 -- the next record as a row
 pub record IsNextRow {S T : Type 0} (to_come : S → Option (List ℕ)) (reads failures : S → ℕ) (N : ℕ) (kinds : List Kind)
-    (listed : T → List Datum)
+    (given : T → List (Option Datum))
     (old new : Loop S) (result : Result (Option T) RecordFault) : Type 0 where
   pub advanced : Loop S
   pub turn : Result Bool RecordFault
   pub is : IsNext to_come reads failures N old advanced turn
-  pub answers : RowAnswers kinds listed advanced new turn result
+  pub answers : RowAnswers kinds given advanced new turn result

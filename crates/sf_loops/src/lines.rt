@@ -1,7 +1,8 @@
 //! The lines of an input, one after the other, as rows.
-ghost use Rattle.std.specs.Prelude.{◌≡◌, ◌≤◌, ◌<◌, ◌⊎◌, ◌↔◌, [], false, Option, None, Some, IfErr, IfOk, IsErrOf};
+ghost use Rattle.std.specs.Prelude.{◌≡◌, ◌≤◌, ◌<◌, ◌⊎◌, ◌↔◌, [], false, Option, None, Some, IfErr, IfOk, IfSome, IsErrOf};
 ghost use Rattle.sf_run.specs.declared.feeding.StartFault.TheVariants as start;
 ghost use Rattle.sf_read.specs.RowScans.{HasShape};
+ghost use Rattle.sf_read.specs.Rows.{present, slots_by};
 ghost use Rattle.sf_loops.specs.declared.line_fault.LineStop.{LineStop};
 ghost use Rattle.sf_loops.specs.Lines.{IsNextLineRow, LineEndedWith};
 
@@ -31,7 +32,7 @@ impl<'f, T: Row, S: Source, const N: usize> Model for Lines<'f, T, S, N> {
 
     ghost view = { λ r. r.reports };
 
-    ghost invariant = { λ r. HasShape T.kinds r.reports.format };
+    ghost invariant = { λ r. HasShape T.kinds T.optional r.reports.format };
 }
 
 impl<'f, T: Row, S: Source, const N: usize> Lines<'f, T, S, N> {
@@ -51,8 +52,8 @@ impl<'f, T: Row, S: Source, const N: usize> Lines<'f, T, S, N> {
         ensures fresh { IfOk result (λ r. r.ahead.at_end ≡ false) }
         ensures format { IfOk result (λ r. (r.format ≡ format.entry.now) × (r.limit ≡ limit)) }
         ensures none_yet { IfOk result (λ r. (r.read ≡ 0) × (r.line ≡ []) × (r.over ≡ None)) }
-        ensures shape { IsErrOf result ScanRowFault.ShapeDiffers ↔ (HasShape T.kinds format.entry.now → ⊥) }
-        ensures limit { HasShape T.kinds format.entry.now
+        ensures shape { IsErrOf result ScanRowFault.ShapeDiffers ↔ (HasShape T.kinds T.optional format.entry.now → ⊥) }
+        ensures limit { HasShape T.kinds T.optional format.entry.now
             → (IsErrOf result (ScanRowFault.Start start.BadLimit) ↔ (2147483647 < limit)) }
         ensures memory { IfErr result (λ fault. (fault ≡ ScanRowFault.ShapeDiffers)
             ⊎ (fault ≡ ScanRowFault.Start start.BadLimit) ⊎ (fault ≡ ScanRowFault.Start start.NoMemory)) }
@@ -76,8 +77,9 @@ impl<'f, T: Row, S: Source, const N: usize> Lines<'f, T, S, N> {
     pub fn next(&mut self) -> Result<Option<T>, LineFault>
         ensures over { (end : Option LineStop) → self.old.over ≡ Some end
             → (self.new ≡ self.old) × LineEndedWith None end result }
-        ensures next { self.old.over ≡ None → IsNextLineRow S.to_come S.reads S.failures N T.kinds T.listed self.old
+        ensures next { self.old.over ≡ None → IsNextLineRow S.to_come S.reads S.failures N T.kinds (slots_by T.given T.listed) self.old
             self.new result }
+        ensures listed { IfOk result (λ found. IfSome found (λ row. T.listed row ≡ present (slots_by T.given T.listed row))) }
     {
         match self.reports.advance() {
             Ok(true) => {}

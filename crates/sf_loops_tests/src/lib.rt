@@ -7,6 +7,8 @@ mod answers;
 #[cfg(test)]
 mod lines;
 #[cfg(test)]
+mod missing;
+#[cfg(test)]
 mod pairs;
 #[cfg(test)]
 mod records;

@@ -2,7 +2,7 @@
 use Rattle.std.proofs.Common.{◌≡◌, ℕ, ◌+◌, ◌≤◌, ◌<◌, ◌⊎◌, inl, inr, Bool, true, false, cond, List, [], ◌∷◌, ◌++◌, length, map, drop}
 use Rattle.std.proofs.Common.{Option, Some, Result, Ok, Err, refl, sym, ap, subst, ◌∙◌, arith, append-nil, append_assoc, length-append, true≢false}
 use Rattle.std.specs.List.{AllByRecursion}
-use Rattle.sf_base.specs.Data.{Assigned, Datum}
+use Rattle.sf_base.specs.Data.{Datum}
 use Rattle.sf_base.specs.declared.values.Kind.{Kind}
 use Rattle.sf_format.specs.declared.directive.Directive.{Directive}
 use Rattle.sf_format.specs.declared.unit.Unit.{Unit as PrintUnit}
@@ -22,6 +22,7 @@ use Rattle.sf_read.specs.declared.row.ScanRowFault.{ScanRowFault}
 use Rattle.sf_read.specs.declared.row.ScanRowFault.TheVariants.{ShapeDiffers, Start, Failed, NoMemory}
 use Rattle.sf_read.specs.Ahead.{Ahead, input_of}
 use Rattle.sf_read.specs.Counts.{counted_on}
+use Rattle.sf_read.specs.Rows.{present}
 use Rattle.sf_read.specs.RowScans.{Answers, HasShape, RowScan, is_run}
 use Rattle.sf_read.specs.Scan.{is_fault}
 use Rattle.sf_pair.specs.Fits.{Fit}
@@ -33,7 +34,7 @@ use Rattle.sf_pair_read.specs.Below.{PairLaws}
 use Rattle.sf_pair_read.proofs.Scans.{bounded_by, reads_whole}
 use Rattle.sf_run.specs.declared.feeding.StartFault.{StartFault}
 use Rattle.sf_run.specs.declared.feeding.StartFault.TheVariants as start
-use Rattle.std.specs.Prelude.{IsErrOf}
+use Rattle.std.specs.Prelude.{IfOk, IsErrOf}
 use Rattle.sf_pair_rows.specs.Reading.{AreReadable, IsMemory, ends_at, is_end}
 
 -- no read has failed
@@ -48,19 +49,14 @@ not_before : (b : Bool) (n : ℕ) → cond b (counted_on n) n ≡ 0 → n ≡ 0
 not_before true n e = absurd (true≢false (none_failed true n e))
 not_before false n e = e
 
-map_some : (xs ys : List Datum) → map Some xs ≡ map Some ys → xs ≡ ys
-map_some [] [] e = refl
-map_some [] (y ∷ ys) e = cc
-map_some (x ∷ xs) [] e = cc
-map_some (x ∷ xs) (y ∷ ys) e =
-    let first : x ≡ y = cc in
-    let rest : map Some xs ≡ map Some ys = cc in
-    let tail : xs ≡ ys = map_some xs ys rest in
-    cc
+-- the values of a row that has one in each slot
+all_present : (values : List Datum) → present (map Some values) ≡ values
+all_present [] = refl
+all_present (v ∷ values) = ap (λ (vs : List Datum). v ∷ vs) (all_present values)
 
--- two rows of the same values
-same_row : (n m : ℕ) (xs ys : List Datum) (values : List Assigned) → n ≡ m → AreRowOf n xs values → AreRowOf m ys values → xs ≡ ys
-same_row n m xs ys values e p q = map_some xs ys (p ∙ ap (λ k. given_to k values) e ∙ sym q)
+-- the row lists the values that it has
+abbrev Lists : {T : Type 0} → (T → List (Option Datum)) → (T → List Datum) → Result T ScanRowFault → Type 0
+Lists given_by listed result = IfOk result (λ row. listed row ≡ present (given_by row))
 
 -- what the scan of a row answers that was written
 abbrev pub GivesRow : {S T : Type 0} → (S → Option (List ℕ)) → (T → List Datum) → Ahead S → List Datum → List ℕ → Result T ScanRowFault
@@ -80,28 +76,31 @@ EndsRows to_come new (Err (Start fault)) = ⊥
 EndsRows to_come new (Err (Failed outcome)) = (outcome.status ≡ InputFailure) × (outcome.converted ≡ 0) × (outcome.met ≡ Some End)
     × (input_of to_come new ≡ Some [])
 
-gives_by : {S T : Type 0} (to_come : S → Option (List ℕ)) (kinds : List Kind) (listed : T → List Datum) (new : Ahead S)
+gives_by : {S T : Type 0} (to_come : S → Option (List ℕ)) (kinds : List Kind) (given_by : T → List (Option Datum))
+    (listed : T → List Datum) (new : Ahead S)
     (us : List PrintUnit) (ds : List Directive) (result : Result T ScanRowFault) (values : List Datum) (z : List ℕ) (report : RunReport)
-    → Answers kinds listed report result → report ≡ read_back us ds values → AreRowOf (length values) values report.values
+    → Answers kinds given_by report result → Lists given_by listed result → report ≡ read_back us ds values
+    → AreRowOf (length values) values report.values
     → input_of to_come new ≡ Some z → length kinds ≡ length values → GivesRow to_come listed new values z result
-gives_by to_come kinds listed new us ds (Ok row) values z report answers is row_is left same =
-    (same_row (length kinds) (length values) (listed row) values report.values same answers.1 row_is, left)
-gives_by to_come kinds listed new us ds (Err NoMemory) values z report answers is row_is left same = tt
-gives_by to_come kinds listed new us ds (Err ShapeDiffers) values z report answers is row_is left same = answers
-gives_by to_come kinds listed new us ds (Err (Start fault)) values z report answers is row_is left same = answers
-gives_by to_come kinds listed new us ds (Err (Failed outcome)) values z report answers is row_is left same =
+gives_by to_come kinds given_by listed new us ds (Ok row) values z report answers lists is row_is left same =
+    let own : given_by row ≡ map Some values = answers.1 ∙ ap (λ k. given_to k report.values) same ∙ sym row_is in
+    (lists ∙ ap present own ∙ all_present values, left)
+gives_by to_come kinds given_by listed new us ds (Err NoMemory) values z report answers lists is row_is left same = tt
+gives_by to_come kinds given_by listed new us ds (Err ShapeDiffers) values z report answers lists is row_is left same = answers
+gives_by to_come kinds given_by listed new us ds (Err (Start fault)) values z report answers lists is row_is left same = answers
+gives_by to_come kinds given_by listed new us ds (Err (Failed outcome)) values z report answers lists is row_is left same =
     answers.0 (ap (λ (r : RunReport). r.status) is)
 
-ends_by : {S T : Type 0} (to_come : S → Option (List ℕ)) (kinds : List Kind) (listed : T → List Datum) (new : Ahead S)
-    (result : Result T ScanRowFault) (report : RunReport) → Answers kinds listed report result → report.status ≡ InputFailure
+ends_by : {S T : Type 0} (to_come : S → Option (List ℕ)) (kinds : List Kind) (given_by : T → List (Option Datum)) (new : Ahead S)
+    (result : Result T ScanRowFault) (report : RunReport) → Answers kinds given_by report result → report.status ≡ InputFailure
     → report.converted ≡ 0 → report.met ≡ Some End → input_of to_come new ≡ Some [] → EndsRows to_come new result
-ends_by to_come kinds listed new (Ok row) report answers status converted met left =
+ends_by to_come kinds given_by new (Ok row) report answers status converted met left =
     let never : Done ≡ InputFailure = sym answers.0 ∙ status in absurd cc
-ends_by to_come kinds listed new (Err NoMemory) report answers status converted met left =
+ends_by to_come kinds given_by new (Err NoMemory) report answers status converted met left =
     let never : Done ≡ InputFailure = sym answers ∙ status in absurd cc
-ends_by to_come kinds listed new (Err ShapeDiffers) report answers status converted met left = answers
-ends_by to_come kinds listed new (Err (Start fault)) report answers status converted met left = answers
-ends_by to_come kinds listed new (Err (Failed outcome)) report answers status converted met left = (
+ends_by to_come kinds given_by new (Err ShapeDiffers) report answers status converted met left = answers
+ends_by to_come kinds given_by new (Err (Start fault)) report answers status converted met left = answers
+ends_by to_come kinds given_by new (Err (Failed outcome)) report answers status converted met left = (
   ap (λ (r : RunReport). r.status) answers.1 ∙ status,
   ap (λ (r : RunReport). r.converted) answers.1 ∙ converted,
   ap (λ (r : RunReport). r.met) answers.1 ∙ met,
@@ -111,10 +110,10 @@ ends_by to_come kinds listed new (Err (Failed outcome)) report answers status co
 -- ---- rows in turn
 
 -- the rows of an input that were read so far, and those that are left
-abbrev pub Going : {S T : Type 0} → (S → Option (List ℕ)) → (S → ℕ) → List Kind → (T → List Datum) → List PrintUnit → List Directive → ℕ → ℕ
+abbrev pub Going : {S T : Type 0} → (S → Option (List ℕ)) → (S → ℕ) → List Kind → (ℕ → Bool) → (T → List Datum) → List PrintUnit → List Directive → ℕ → ℕ
     → Ahead S → Ahead S → List T → Type 0
-Going to_come failures kinds listed us ds m most old now done =
-    (rows : List (List Datum)) (z : List ℕ) → AreReadable us ds m most rows z → HasShape kinds ds
+Going to_come failures kinds optional listed us ds m most old now done =
+    (rows : List (List Datum)) (z : List ℕ) → AreReadable us ds m most rows z → HasShape kinds optional ds
     → input_of to_come old ≡ Some (joined us rows ++ z) → failures now.source ≡ 0
     → (left : List (List Datum)) × (rows ≡ map listed done ++ left) × (input_of to_come now ≡ Some (joined us left ++ z))
 
@@ -151,16 +150,18 @@ nothing_follows listed us ds m most rows z done readable is few =
 
 module _ (laws : PairLaws) (nothing : AlignedEndsOnNothing) (one : EachHasOneReport) {S T : Type 0} (to_come : S → Option (List ℕ))
     (reads failures : S → ℕ) (N : ℕ) (us : List PrintUnit)
-    (ds : List Directive) (checked : IsChecked us ds) (kinds : List Kind) (listed : T → List Datum) (m most : ℕ) (old now new : Ahead S)
-    (done : List T) (going : Going to_come failures kinds listed us ds m most old now done) (few : length done < most)
-    (result : Result T ScanRowFault) (run : RowScan to_come reads failures N kinds listed ds m now new result) where
+    (ds : List Directive) (checked : IsChecked us ds) (kinds : List Kind) (optional : ℕ → Bool)
+    (given_by : T → List (Option Datum)) (listed : T → List Datum) (m most : ℕ) (old now new : Ahead S)
+    (done : List T) (going : Going to_come failures kinds optional listed us ds m most old now done) (few : length done < most)
+    (result : Result T ScanRowFault) (run : RowScan to_come reads failures N kinds given_by ds m now new result)
+    (lists : Lists given_by listed result) where
   aligned : IsAligned us ds
   aligned = (laws.accepted us ds).0 checked.found
 
   fine : failures new.source ≡ 0 → is_fault run.report.met ≡ false
   fine sound = none_failed (is_fault run.report.met) (failures now.source) (sym run.failed ∙ sound)
 
-  gives_row : HasShape kinds ds → failures new.source ≡ 0 → (values : List Datum) → Fit us ds values → length (printed us values) ≤ m
+  gives_row : HasShape kinds optional ds → failures new.source ≡ 0 → (values : List Datum) → Fit us ds values → length (printed us values) ≤ m
       → (z : List ℕ) → input_of to_come now ≡ Some (printed us values ++ z) → GivesRow to_come listed new values z result
   gives_row shape sound values fit short z input =
       let back = reads_whole laws to_come reads N us ds checked values fit m short z now new run.report
@@ -168,7 +169,7 @@ module _ (laws : PairLaws) (nothing : AlignedEndsOnNothing) (one : EachHasOneRep
       let count : length values ≡ length (destinations_of ds) =
       (laws.slots us ds checked.printed checked.scanned aligned values fit).count in
       let same : length kinds ≡ length values = shape.count ∙ sym count in
-      gives_by to_come kinds listed new us ds result values z run.report run.answers back.report_is back.row back.left same
+      gives_by to_come kinds given_by listed new us ds result values z run.report run.answers lists back.report_is back.row back.left same
 
   ends_rows : failures new.source ≡ 0 → input_of to_come now ≡ Some [] → EndsRows to_come new result
   ends_rows sound input =
@@ -182,7 +183,7 @@ module _ (laws : PairLaws) (nothing : AlignedEndsOnNothing) (one : EachHasOneRep
       ] in
       let all = one ds checked.scanned.proper m [] End in
       let is : run.report ≡ end.report = all.only run.report own ∙ sym (all.only end.report (inl (low, end.run))) in
-      ends_by to_come kinds listed new result run.report run.answers (ap (λ (r : RunReport). r.status) is ∙ end.status)
+      ends_by to_come kinds given_by new result run.report run.answers (ap (λ (r : RunReport). r.status) is ∙ end.status)
       (ap (λ (r : RunReport). r.converted) is ∙ end.converted) (ap (λ (r : RunReport). r.met) is ∙ end.met)
       (scan.rest ∙ ap (λ (k : ℕ). Some (drop k [])) (ap (λ (r : RunReport). r.used) is ∙ end.used))
 
@@ -191,7 +192,7 @@ module _ (laws : PairLaws) (nothing : AlignedEndsOnNothing) (one : EachHasOneRep
   NextGives [] z = (z ≡ []) × EndsRows to_come new result
   NextGives (values ∷ more) z = GivesRow to_come listed new values (joined us more ++ z) result
 
-  next_gives : (rows : List (List Datum)) (z : List ℕ) → AreReadable us ds m most rows z → HasShape kinds ds → failures new.source ≡ 0
+  next_gives : (rows : List (List Datum)) (z : List ℕ) → AreReadable us ds m most rows z → HasShape kinds optional ds → failures new.source ≡ 0
       → (left : List (List Datum)) → rows ≡ map listed done ++ left → input_of to_come now ≡ Some (joined us left ++ z) → NextGives left z
   next_gives rows z readable shape sound [] is input =
       let none : z ≡ [] = nothing_follows listed us ds m most rows z done readable is few in
@@ -209,7 +210,7 @@ module _ (laws : PairLaws) (nothing : AlignedEndsOnNothing) (one : EachHasOneRep
     rows_are : rows ≡ map listed done ++ left
     gives : NextGives left z
 
-  here : (rows : List (List Datum)) (z : List ℕ) → AreReadable us ds m most rows z → HasShape kinds ds
+  here : (rows : List (List Datum)) (z : List ℕ) → AreReadable us ds m most rows z → HasShape kinds optional ds
       → input_of to_come old ≡ Some (joined us rows ++ z) → failures new.source ≡ 0 → Here rows z
   here rows z readable shape input sound =
       let (left, is, rest) = going rows z readable shape input
@@ -217,7 +218,7 @@ module _ (laws : PairLaws) (nothing : AlignedEndsOnNothing) (one : EachHasOneRep
       in record { left = left; rows_are = is; gives = next_gives rows z readable shape sound left is rest }
 
   -- a row was read
-  pub went_on : (row : T) → result ≡ Ok row → Going to_come failures kinds listed us ds m most old new (done ++ row ∷ [])
+  pub went_on : (row : T) → result ≡ Ok row → Going to_come failures kinds optional listed us ds m most old new (done ++ row ∷ [])
   went_on row e rows z readable shape input sound =
       let h = here rows z readable shape input sound in by h.left h.rows_are h.gives
     where
@@ -231,7 +232,7 @@ module _ (laws : PairLaws) (nothing : AlignedEndsOnNothing) (one : EachHasOneRep
 
   -- the run of the next one failed: there is none
   pub finished : (outcome : Outcome) → result ≡ Err (Failed outcome) → (rows : List (List Datum)) (z : List ℕ)
-      → AreReadable us ds m most rows z → HasShape kinds ds → input_of to_come old ≡ Some (joined us rows ++ z) → failures new.source ≡ 0
+      → AreReadable us ds m most rows z → HasShape kinds optional ds → input_of to_come old ≡ Some (joined us rows ++ z) → failures new.source ≡ 0
       → (map listed done ≡ rows) × (input_of to_come new ≡ Some z) × (outcome.status ≡ InputFailure) × (outcome.converted ≡ 0)
       × (outcome.met ≡ Some End)
   finished outcome e rows z readable shape input sound =
@@ -252,42 +253,45 @@ end_is o status converted met = rw (status, converted, met) refl
 
 module _ (laws : PairLaws) (nothing : AlignedEndsOnNothing) (one : EachHasOneReport) {S T : Type 0} (to_come : S → Option (List ℕ))
     (reads failures : S → ℕ) (N : ℕ) (us : List PrintUnit)
-    (ds : List Directive) (checked : IsChecked us ds) (kinds : List Kind) (listed : T → List Datum) (m most : ℕ) (old now new : Ahead S)
-    (done : List T) (going : Going to_come failures kinds listed us ds m most old now done) (few : length done < most)
+    (ds : List Directive) (checked : IsChecked us ds) (kinds : List Kind) (optional : ℕ → Bool)
+    (given_by : T → List (Option Datum)) (listed : T → List Datum) (m most : ℕ) (old now new : Ahead S)
+    (done : List T) (going : Going to_come failures kinds optional listed us ds m most old now done) (few : length done < most)
     (result : Result T ScanRowFault)
-    (run : is_run result ≡ true → RowScan to_come reads failures N kinds listed ds m now new result) where
+    (run : is_run result ≡ true → RowScan to_come reads failures N kinds given_by ds m now new result)
+    (lists : Lists given_by listed result) where
   -- no row is left
   pub all_back : (why : ScanRowFault) → result ≡ Err why → is_end why ≡ true → (rows : List (List Datum)) (z : List ℕ)
-      → AreReadable us ds m most rows z → HasShape kinds ds → input_of to_come old ≡ Some (joined us rows ++ z) → failures new.source ≡ 0
+      → AreReadable us ds m most rows z → HasShape kinds optional ds → input_of to_come old ≡ Some (joined us rows ++ z) → failures new.source ≡ 0
       → (map listed done ≡ rows) × (input_of to_come new ≡ Some z)
   all_back (Failed outcome) e is rows z readable shape input sound =
-      let all = finished laws nothing one to_come reads failures N us ds checked kinds listed m most old now new done going few result
-      (run (ap is_run e)) outcome e rows z readable shape input sound in (all.0, all.1)
+      let all = finished laws nothing one to_come reads failures N us ds checked kinds optional given_by listed m most old now new done going few result
+      (run (ap is_run e)) lists outcome e rows z readable shape input sound in (all.0, all.1)
   all_back NoMemory e is rows z readable shape input sound = absurd (true≢false (sym is))
   all_back ShapeDiffers e is rows z readable shape input sound = absurd (true≢false (sym is))
   all_back (Start fault) e is rows z readable shape input sound = absurd (true≢false (sym is))
 
   -- memory was refused
-  pub refused : (why : ScanRowFault) → result ≡ Err why → is_end why ≡ false → (why ≡ ShapeDiffers → HasShape kinds ds → ⊥)
+  pub refused : (why : ScanRowFault) → result ≡ Err why → is_end why ≡ false → (why ≡ ShapeDiffers → HasShape kinds optional ds → ⊥)
       → ((fault : StartFault) → why ≡ Start fault → m ≤ 2147483647 → fault ≡ start.NoMemory)
       → (rows : List (List Datum)) (z : List ℕ)
-      → AreReadable us ds m most rows z → HasShape kinds ds → input_of to_come old ≡ Some (joined us rows ++ z) → failures new.source ≡ 0
+      → AreReadable us ds m most rows z → HasShape kinds optional ds → input_of to_come old ≡ Some (joined us rows ++ z) → failures new.source ≡ 0
       → IsMemory why
   refused (Failed outcome) e is unshaped started rows z readable shape input sound =
-      let all = finished laws nothing one to_come reads failures N us ds checked kinds listed m most old now new done going few result
-      (run (ap is_run e)) outcome e rows z readable shape input sound in
+      let all = finished laws nothing one to_come reads failures N us ds checked kinds optional given_by listed m most old now new done going few result
+      (run (ap is_run e)) lists outcome e rows z readable shape input sound in
       absurd (true≢false (sym (end_is outcome all.2 all.3 all.4) ∙ is))
   refused NoMemory e is unshaped started rows z readable shape input sound = tt
   refused ShapeDiffers e is unshaped started rows z readable shape input sound = unshaped refl shape
   refused (Start fault) e is unshaped started rows z readable shape input sound = started fault refl readable.low
 
 -- a scan that wasn't started, by what `scan_row_over` says
-pub start_is : {T : Type 0} (result : Result T ScanRowFault) (why : ScanRowFault) (kinds : List Kind) (ds : List Directive) (m : ℕ)
+pub start_is : {T : Type 0} (result : Result T ScanRowFault) (why : ScanRowFault) (kinds : List Kind) (optional : ℕ → Bool)
+    (ds : List Directive) (m : ℕ)
     → result ≡ Err why
-    → (IsErrOf result (Start start.BadLimit) → HasShape kinds ds × (2147483647 < m))
+    → (IsErrOf result (Start start.BadLimit) → HasShape kinds optional ds × (2147483647 < m))
     → ((fault : StartFault) → IsErrOf result (Start fault) → (fault ≡ start.BadLimit) ⊎ (fault ≡ start.NoMemory))
     → (fault : StartFault) → why ≡ Start fault → m ≤ 2147483647 → fault ≡ start.NoMemory
-start_is {T} result why kinds ds m e limit begun fault is low =
+start_is {T} result why kinds optional ds m e limit begun fault is low =
     let same : result ≡ Err (Start fault) = e ∙ ap Err is in
     let own : (r : Result T ScanRowFault) → r ≡ Err (Start fault) → IsErrOf r (Start fault) =
     (λ r h. subst (λ x. IsErrOf x (Start fault)) (sym h) refl) in
@@ -296,10 +300,11 @@ start_is {T} result why kinds ds m e limit begun fault is low =
       | inr memory ↦ memory
     ]
 
-pub shape_is : {T : Type 0} (result : Result T ScanRowFault) (why : ScanRowFault) (kinds : List Kind) (ds : List Directive)
+pub shape_is : {T : Type 0} (result : Result T ScanRowFault) (why : ScanRowFault) (kinds : List Kind) (optional : ℕ → Bool)
+    (ds : List Directive)
     → result ≡ Err why
-    → (IsErrOf result ShapeDiffers → HasShape kinds ds → ⊥) → why ≡ ShapeDiffers → HasShape kinds ds → ⊥
-shape_is result why kinds ds e unshaped is = unshaped (subst (λ x. IsErrOf x ShapeDiffers) (sym (e ∙ ap Err is)) refl)
+    → (IsErrOf result ShapeDiffers → HasShape kinds optional ds → ⊥) → why ≡ ShapeDiffers → HasShape kinds optional ds → ⊥
+shape_is result why kinds optional ds e unshaped is = unshaped (subst (λ x. IsErrOf x ShapeDiffers) (sym (e ∙ ap Err is)) refl)
 
 -- ---- the end of the input
 
@@ -307,13 +312,13 @@ ends_met : (converted : ℕ) (status : Status) (met : Option Ending) → ends_at
 ends_met converted status met e = grind arith
 
 -- where there was no row since the input ended, the source has reported its end
-pub end_seen : {S T : Type 0} (to_come : S → Option (List ℕ)) (reads failures : S → ℕ) (N : ℕ) (kinds : List Kind) (listed : T → List Datum)
+pub end_seen : {S T : Type 0} (to_come : S → Option (List ℕ)) (reads failures : S → ℕ) (N : ℕ) (kinds : List Kind) (given_by : T → List (Option Datum))
     (ds : List Directive) (m : ℕ) (now new : Ahead S) (result : Result T ScanRowFault) (why : ScanRowFault) → result ≡ Err why
-    → is_end why ≡ true → (is_run result ≡ true → RowScan to_come reads failures N kinds listed ds m now new result) → new.at_end ≡ true
-end_seen to_come reads failures N kinds listed ds m now new result (Failed outcome) e is run =
+    → is_end why ≡ true → (is_run result ≡ true → RowScan to_come reads failures N kinds given_by ds m now new result) → new.at_end ≡ true
+end_seen to_come reads failures N kinds given_by ds m now new result (Failed outcome) e is run =
     let r = run (ap is_run e) in
-    let own = subst (Answers kinds listed r.report) e r.answers in
+    let own = subst (Answers kinds given_by r.report) e r.answers in
     r.end (sym (ap (λ (x : RunReport). x.met) own.1) ∙ ends_met outcome.converted outcome.status outcome.met is)
-end_seen to_come reads failures N kinds listed ds m now new result NoMemory e is run = absurd (true≢false (sym is))
-end_seen to_come reads failures N kinds listed ds m now new result ShapeDiffers e is run = absurd (true≢false (sym is))
-end_seen to_come reads failures N kinds listed ds m now new result (Start fault) e is run = absurd (true≢false (sym is))
+end_seen to_come reads failures N kinds given_by ds m now new result NoMemory e is run = absurd (true≢false (sym is))
+end_seen to_come reads failures N kinds given_by ds m now new result ShapeDiffers e is run = absurd (true≢false (sym is))
+end_seen to_come reads failures N kinds given_by ds m now new result (Start fault) e is run = absurd (true≢false (sym is))

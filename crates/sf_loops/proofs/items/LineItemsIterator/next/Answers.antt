@@ -1,5 +1,6 @@
 use Rattle.std.proofs.Common.{refl, arith, ap, inr, ◌≡◌, ◌∙◌, ◌-◌, Ok, Err, Some, None}
 use Rattle.std.specs.Prelude.{if◌then◌else◌}
+use Rattle.sf_read.specs.Rows.{slots_by}
 use Rattle.sf_loops.specs.Items.{LinesLeft}
 use Rattle.sf_loops.specs.LineTexts.{goes_on}
 use Rattle.sf_loops.proofs.Given.{line_answers_by, line_row_by}
@@ -8,7 +9,7 @@ use Rattle.sf_loops.proofs.items.LineItemsIterator.next.Goals as goal
 pub returns-in-Ok-Some-clause-steps : goal.returns-in-Ok-Some-clause-steps
 returns-in-Ok-Some-clause-steps g c =
     let left : c.self.inside.left ≡ c.args.self.now.left = ap (λ (r : LinesLeft g.row.S.Denot). r.left) c.self.view_is in (
-      line_row_by g.S.Source.to_come g.S.Source.reads g.S.Source.failures g.row.N g.T.Row.kinds g.T.Row.listed _ _ _ _ _
+      line_row_by g.S.Source.to_come g.S.Source.reads g.S.Source.failures g.row.N g.T.Row.kinds (slots_by g.T.Row.given g.T.Row.listed) _ _ _ _ _
           (ap (λ (r : LinesLeft g.row.S.Denot). r.now) c.self.view_is) c.in-Ok-Some.field-0-is
           (record { over = c.in-Ok-Some.ensures.over; next = c.in-Ok-Some.ensures.next }),
       omega (arith, left, c.if-self-eq0.false),
@@ -16,7 +17,7 @@ returns-in-Ok-Some-clause-steps g c =
 
 pub returns-in-Ok-None-clause-steps : goal.returns-in-Ok-None-clause-steps
 returns-in-Ok-None-clause-steps g c = inr (
-  line_row_by g.S.Source.to_come g.S.Source.reads g.S.Source.failures g.row.N g.T.Row.kinds g.T.Row.listed _ _ _ _ _
+  line_row_by g.S.Source.to_come g.S.Source.reads g.S.Source.failures g.row.N g.T.Row.kinds (slots_by g.T.Row.given g.T.Row.listed) _ _ _ _ _
       (ap (λ (r : LinesLeft g.row.S.Denot). r.now) c.self.view_is) c.in-Ok-None.field-0-is
       (record { over = c.in-Ok-None.ensures.over; next = c.in-Ok-None.ensures.next }),
   refl,
@@ -24,7 +25,7 @@ returns-in-Ok-None-clause-steps g c = inr (
 
 pub returns-in-Err-clause-steps : goal.returns-in-Err-clause-steps
 returns-in-Err-clause-steps g c = (
-  line_answers_by g.S.Source.to_come g.S.Source.reads g.S.Source.failures g.row.N g.T.Row.kinds g.T.Row.listed _ _ _ _
+  line_answers_by g.S.Source.to_come g.S.Source.reads g.S.Source.failures g.row.N g.T.Row.kinds (slots_by g.T.Row.given g.T.Row.listed) _ _ _ _
       (ap (λ (r : LinesLeft g.row.S.Denot). r.now) c.self.view_is)
       (record { over = c.in-Err.ensures.over; next = c.in-Err.ensures.next }),
   c.left_after-left.ensures.left

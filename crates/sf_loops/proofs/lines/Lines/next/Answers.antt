@@ -1,23 +1,23 @@
 use Rattle.std.proofs.Common.{◌≡◌, ◌∙◌, true, length, Some, None, Ok, Err, refl, sym, ap, subst}
-use Rattle.sf_run.specs.Rows.{AreGiven, AreRowOf}
 use Rattle.sf_run.specs.Runs.{RunReport}
+use Rattle.sf_read.specs.Rows.{AreGivenAs, AreSlotsOf, slots_by}
 use Rattle.sf_read.specs.RowScans.{HasShape}
 use Rattle.sf_loops.specs.Lines.{LineLoop, LineRowAnswers}
 use Rattle.sf_loops.proofs.LineRows.{as_line_row, given_line, over_line_false, over_line_fault, over_line_never, reported}
 use Rattle.sf_loops.proofs.lines.Lines.next.Goals as goal
 
 pub invariant_of-self : goal.invariant_of-self
-invariant_of-self g c = subst (HasShape g.T.Row.kinds) (sym c.advance.ensures.format) c.self.invariant
+invariant_of-self g c = subst (HasShape g.T.Row.kinds g.T.Row.optional) (sym c.advance.ensures.format) c.self.invariant
 
 pub invariant_of-self-in-Err : goal.invariant_of-self-in-Err
-invariant_of-self-in-Err g c = subst (HasShape g.T.Row.kinds) (sym c.advance.ensures.format) c.self.invariant
+invariant_of-self-in-Err g c = subst (HasShape g.T.Row.kinds g.T.Row.optional) (sym c.advance.ensures.format) c.self.invariant
 
 pub invariant_of-self-in-Ok : goal.invariant_of-self-in-Ok
-invariant_of-self-in-Ok g c = subst (HasShape g.T.Row.kinds) (sym c.advance.ensures.format) c.self.invariant
+invariant_of-self-in-Ok g c = subst (HasShape g.T.Row.kinds g.T.Row.optional) (sym c.advance.ensures.format) c.self.invariant
 
 pub invariant_of-self-in-Err-NoMemory : goal.invariant_of-self-in-Err-NoMemory
 invariant_of-self-in-Err-NoMemory g c =
-    subst (HasShape g.T.Row.kinds) (sym (ap (λ (l : LineLoop g.row.S.Denot). l.format) c.refuse_row.ensures.over
+    subst (HasShape g.T.Row.kinds g.T.Row.optional) (sym (ap (λ (l : LineLoop g.row.S.Denot). l.format) c.refuse_row.ensures.over
     ∙ c.advance.ensures.format))
     c.self.invariant
 
@@ -30,44 +30,44 @@ from_report-requires-clause-done g c =
 pub from_report-requires-clause-given : goal.from_report-requires-clause-given
 from_report-requires-clause-given g c =
     let there : c.advance.result ≡ Ok true = c.in-Ok-true.is ∙ ap Ok c.in-Ok-true.field-0-test in
-    subst (λ (r : RunReport). AreGiven g.T.Row.kinds r.values) (sym c.report.ensures.value)
-    (given_line g.T.Row.kinds c.self.inside.reports c.advance.new.self c.advance.result c.advance.ensures.over c.advance.ensures.next there
+    subst (λ (r : RunReport). AreGivenAs g.T.Row.kinds g.T.Row.optional r.values) (sym c.report.ensures.value)
+    (given_line g.T.Row.kinds g.T.Row.optional c.self.inside.reports c.advance.new.self c.advance.result c.advance.ensures.over c.advance.ensures.next there
     c.report.ensures.accepted c.self.invariant)
 
 pub returns-in-Ok-false-clause-next : goal.returns-in-Ok-false-clause-next
 returns-in-Ok-false-clause-next g c =
-    as_line_row g.S.Source.to_come g.S.Source.reads g.S.Source.failures g.row.N g.T.Row.kinds g.T.Row.listed c.self.inside.reports
+    as_line_row g.S.Source.to_come g.S.Source.reads g.S.Source.failures g.row.N g.T.Row.kinds (slots_by g.T.Row.given g.T.Row.listed) c.self.inside.reports
     c.args.self.now
     c.advance.new.self c.advance.new.self c.advance.result (Ok None) c.self.view_is c.advance.ensures.next
-    (subst (λ r. LineRowAnswers g.T.Row.kinds g.T.Row.listed c.advance.new.self c.advance.new.self r (Ok None))
+    (subst (λ r. LineRowAnswers g.T.Row.kinds (slots_by g.T.Row.given g.T.Row.listed) c.advance.new.self c.advance.new.self r (Ok None))
     (sym (c.in-Ok-false.is ∙ ap Ok c.in-Ok-false.field-0-test)) refl)
 
 pub returns-in-Err-clause-next : goal.returns-in-Err-clause-next
 returns-in-Err-clause-next g c =
-    as_line_row g.S.Source.to_come g.S.Source.reads g.S.Source.failures g.row.N g.T.Row.kinds g.T.Row.listed c.self.inside.reports
+    as_line_row g.S.Source.to_come g.S.Source.reads g.S.Source.failures g.row.N g.T.Row.kinds (slots_by g.T.Row.given g.T.Row.listed) c.self.inside.reports
     c.args.self.now
     c.advance.new.self c.advance.new.self c.advance.result (Err c.in-Err.fault) c.self.view_is c.advance.ensures.next
-    (subst (λ r. LineRowAnswers g.T.Row.kinds g.T.Row.listed c.advance.new.self c.advance.new.self r (Err c.in-Err.fault)) (sym c.in-Err.is)
+    (subst (λ r. LineRowAnswers g.T.Row.kinds (slots_by g.T.Row.given g.T.Row.listed) c.advance.new.self c.advance.new.self r (Err c.in-Err.fault)) (sym c.in-Err.is)
     (refl, refl))
 
 pub returns-in-Ok-clause-next : goal.returns-in-Ok-clause-next
 returns-in-Ok-clause-next g c =
-    as_line_row g.S.Source.to_come g.S.Source.reads g.S.Source.failures g.row.N g.T.Row.kinds g.T.Row.listed c.self.inside.reports
+    as_line_row g.S.Source.to_come g.S.Source.reads g.S.Source.failures g.row.N g.T.Row.kinds (slots_by g.T.Row.given g.T.Row.listed) c.self.inside.reports
     c.args.self.now
     c.advance.new.self c.advance.new.self c.advance.result (Ok (Some c.in-Ok.row)) c.self.view_is c.advance.ensures.next
-    (subst (λ r. LineRowAnswers g.T.Row.kinds g.T.Row.listed c.advance.new.self c.advance.new.self r (Ok (Some c.in-Ok.row)))
+    (subst (λ r. LineRowAnswers g.T.Row.kinds (slots_by g.T.Row.given g.T.Row.listed) c.advance.new.self c.advance.new.self r (Ok (Some c.in-Ok.row)))
     (sym (c.in-Ok-true.is ∙ ap Ok c.in-Ok-true.field-0-test)) (
       refl,
-      subst (λ (r : RunReport). AreRowOf (length g.T.Row.kinds) (g.T.Row.listed c.in-Ok.row) r.values) c.report.ensures.value
-          c.in-Ok.ensures,
+      subst (λ (r : RunReport). AreSlotsOf (length g.T.Row.kinds) (slots_by g.T.Row.given g.T.Row.listed c.in-Ok.row) r.values) c.report.ensures.value
+          c.in-Ok.ensures.row,
     ))
 
 pub returns-in-Err-NoMemory-clause-next : goal.returns-in-Err-NoMemory-clause-next
 returns-in-Err-NoMemory-clause-next g c =
-    as_line_row g.S.Source.to_come g.S.Source.reads g.S.Source.failures g.row.N g.T.Row.kinds g.T.Row.listed c.self.inside.reports
+    as_line_row g.S.Source.to_come g.S.Source.reads g.S.Source.failures g.row.N g.T.Row.kinds (slots_by g.T.Row.given g.T.Row.listed) c.self.inside.reports
     c.args.self.now
     c.advance.new.self c.refuse_row.new.self c.advance.result (Err c.refuse_row.result) c.self.view_is c.advance.ensures.next
-    (subst (λ r. LineRowAnswers g.T.Row.kinds g.T.Row.listed c.advance.new.self c.refuse_row.new.self r (Err c.refuse_row.result))
+    (subst (λ r. LineRowAnswers g.T.Row.kinds (slots_by g.T.Row.given g.T.Row.listed) c.advance.new.self c.refuse_row.new.self r (Err c.refuse_row.result))
     (sym (c.in-Ok-true.is ∙ ap Ok c.in-Ok-true.field-0-test)) (c.refuse_row.ensures.fault, c.refuse_row.ensures.over))
 
 pub returns-in-Ok-false-clause-over : goal.returns-in-Ok-false-clause-over
