@@ -28,7 +28,7 @@ fn is_read_back(alloc: Global, pair: &Pair<'_>, value: Value<'_>, after: u8) -> 
 }
 
 /// The byte after which one of the values isn't read back.
-fn first_fault(
+pub(crate) fn first_fault(
     alloc: Global,
     pair: &Pair<'_>,
     least: Value<'_>,

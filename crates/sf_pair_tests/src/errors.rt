@@ -8,7 +8,7 @@ use std::alloc::Global;
 use std::test::Fail;
 
 /// What a pair check finds, and its code and name.
-static WHYS: [(PairWhy, &str); 11] = [
+static WHYS: [(PairWhy, &str); 12] = [
     (PairWhy::NotAligned, "Q1 NotAligned"),
     (PairWhy::KindDiffers, "Q2 KindDiffers"),
     (PairWhy::NumberDiffers, "Q3 NumberDiffers"),
@@ -20,6 +20,7 @@ static WHYS: [(PairWhy, &str); 11] = [
     (PairWhy::NotWritten, "Q9 NotWritten"),
     (PairWhy::BadFlagHere, "Q10 BadFlagHere"),
     (PairWhy::NoValues, "Q11 NoValues"),
+    (PairWhy::MayBeMissing, "Q13 MayBeMissing"),
 ];
 
 #[test]

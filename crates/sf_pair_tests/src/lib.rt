@@ -4,6 +4,8 @@
 #[cfg(test)]
 mod bounds;
 #[cfg(test)]
+mod doubles;
+#[cfg(test)]
 mod errors;
 #[cfg(test)]
 mod lengths;
