@@ -129,6 +129,187 @@ static ROWS: [Row; 49] = [
     (b"+", 0, None, b'a', 0x7ff0_0000_0000_0000, b"+inf"),
 ];
 
+/// Floats that 128 bits hold times their power of ten, or just not; results of 19 digits and of 20.
+static AT_LIMITS: [Row; 30] = [
+    (b"", 0, Some(0), b'f', 0x4023_0000_0000_0000, b"10"),
+    (b"", 0, Some(0), b'f', 0x4025_0000_0000_0000, b"10"),
+    (b"", 0, Some(2), b'f', 0x3fd8_0000_0000_0000, b"0.38"),
+    (
+        b"",
+        0,
+        Some(6),
+        b'f',
+        0x412e_847f_ffff_ef39,
+        b"999999.999999",
+    ),
+    (b"", 0, Some(6), b'f', 0x409d_db33_ad5b_ee3d, b"1910.800466"),
+    (b"", 0, Some(1), b'f', 0xc087_4a00_0000_0000, b"-745.2"),
+    (
+        b"",
+        0,
+        Some(7),
+        b'f',
+        0x423c_be99_1a14_587e,
+        b"123456789012.3456726",
+    ),
+    (
+        b"",
+        0,
+        Some(8),
+        b'f',
+        0x423c_be99_1a14_587e,
+        b"123456789012.34567261",
+    ),
+    (
+        b"",
+        0,
+        Some(18),
+        b'f',
+        0x3fb9_9999_9999_999a,
+        b"0.100000000000000006",
+    ),
+    (
+        b"",
+        0,
+        Some(19),
+        b'f',
+        0x3fb9_9999_9999_999a,
+        b"0.1000000000000000056",
+    ),
+    (
+        b"",
+        0,
+        Some(20),
+        b'f',
+        0x3fb9_9999_9999_999a,
+        b"0.10000000000000000555",
+    ),
+    (
+        b"",
+        0,
+        Some(22),
+        b'f',
+        0x3fb9_9999_9999_999a,
+        b"0.1000000000000000055511",
+    ),
+    (
+        b"",
+        0,
+        Some(23),
+        b'f',
+        0x3fb9_9999_9999_999a,
+        b"0.10000000000000000555112",
+    ),
+    (
+        b"",
+        0,
+        Some(3),
+        b'f',
+        0x433f_ffff_ffff_ffff,
+        b"9007199254740991.000",
+    ),
+    (
+        b"",
+        0,
+        Some(3),
+        b'f',
+        0x4340_0000_0000_0000,
+        b"9007199254740992.000",
+    ),
+    (
+        b"",
+        0,
+        Some(3),
+        b'f',
+        0x4340_0000_0000_0001,
+        b"9007199254740994.000",
+    ),
+    (
+        b"",
+        0,
+        Some(0),
+        b'f',
+        0x43ab_c16d_674e_c800,
+        b"1000000000000000000",
+    ),
+    (
+        b"",
+        0,
+        Some(0),
+        b'f',
+        0x43e1_58e4_6091_3d00,
+        b"10000000000000000000",
+    ),
+    (
+        b"",
+        0,
+        Some(2),
+        b'f',
+        0x4330_0000_0000_0002,
+        b"4503599627370498.00",
+    ),
+    (
+        b"",
+        0,
+        Some(25),
+        b'f',
+        0x3bc7_9ca1_0c92_4223,
+        b"0.0000000000000000000100000",
+    ),
+    (
+        b"",
+        0,
+        Some(19),
+        b'f',
+        0x3e40_0000_0000_0000,
+        b"0.0000000074505805969",
+    ),
+    (b"", 0, Some(6), b'f', 0x37f0_0000_0000_0000, b"0.000000"),
+    (
+        b"",
+        0,
+        Some(18),
+        b'e',
+        0x40fe_240c_9fbe_76c9,
+        b"1.234567890000000043e+05",
+    ),
+    (
+        b"",
+        0,
+        Some(19),
+        b'e',
+        0x40fe_240c_9fbe_76c9,
+        b"1.2345678900000000431e+05",
+    ),
+    (b"", 0, Some(3), b'f', 0x0000_0000_0000_0001, b"0.000"),
+    (
+        b"",
+        0,
+        Some(17),
+        b'g',
+        0x3fd3_3333_3333_3333,
+        b"0.29999999999999999",
+    ),
+    (
+        b"",
+        0,
+        Some(17),
+        b'g',
+        0x419d_6f34_5480_0000,
+        b"123456789.125",
+    ),
+    (
+        b"",
+        0,
+        Some(17),
+        b'g',
+        0x430c_6bf5_2634_0000,
+        b"1000000000000000",
+    ),
+    (b"", 0, Some(0), b'e', 0x4004_0000_0000_0000, b"2e+00"),
+    (b"", 0, Some(0), b'e', 0x400c_0000_0000_0000, b"4e+00"),
+];
+
 fn conv_of(row: &Row) -> FloatConv {
     let (flags, width, precision, letter, _, _) = *row;
     FloatConv {
@@ -171,15 +352,32 @@ fn after_field<'a>(text: &'a [u8], field: &FloatField, digits: &[u8]) -> Option<
     after_run(text, field.right, b' ')
 }
 
+/// Whether the text of the row is what is written.
+fn is_written(row: &Row) -> bool {
+    let mut out = [0u8; ROOM];
+    let (field, len) = write_float(&conv_of(row), f64_from_bits_with_nan(row.4), &mut out);
+    let digits = out.get(..len).unwrap_or(&out);
+    match after_field(row.5, &field, digits) {
+        Some(rest) => rest.is_empty(),
+        None => false,
+    }
+}
+
 #[test]
 fn texts_are_those_of_printf() -> Result<(), Fail> {
     for row in &ROWS {
-        let mut out = [0u8; ROOM];
-        let (field, len) = write_float(&conv_of(row), f64_from_bits_with_nan(row.4), &mut out);
-        let digits = out.get(..len).unwrap_or(&out);
-        match after_field(row.5, &field, digits) {
-            Some(rest) if rest.is_empty() => (),
-            _ => return Err(Fail::new(format_args!("{:?}", row.5))),
+        if !is_written(row) {
+            return Err(Fail::new(format_args!("{:?}", row.5)));
+        }
+    }
+    Ok(())
+}
+
+#[test]
+fn texts_at_limits_are_those_of_printf() -> Result<(), Fail> {
+    for row in &AT_LIMITS {
+        if !is_written(row) {
+            return Err(Fail::new(format_args!("{:?}", row.5)));
         }
     }
     Ok(())
