@@ -12,8 +12,9 @@
 //!
 //! - **records of an input**: `Records::<(i32, i32), _, 4096>::new(alloc, source, &format, LIMIT)?`, and then
 //! `for row in records`, where `row?` is the row; or `next()?` until it is None. A row is a tuple of one to six of
-//! `i8` to `i64`, `u8` to `u64` and `Vec<u8>`, or a type of your own (`Row`). `4096` is how many bytes are read at
-//! once. A `RecordFault` says the record, the line and what failed. `Reports` lends each report instead.
+//! `i8` to `i64`, `u8` to `u64`, `f32`, `f64` and `Vec<u8>`, or a type of your own (`Row`). A conversion that may be
+//! missing (`%?d`) wants an `Option` in its slot. `4096` is how many bytes are read at once. A `RecordFault` says the
+//! record, the line and what failed. `Reports` lends each report instead.
 //! - **lines of an input**, each an input of its own: `Lines`, made as `Records` is. A line that is no match is a
 //! `LineFault` with its number and text, and the next call goes on with the line after it. `LineReports` lends each
 //! report instead.
@@ -25,7 +26,8 @@
 //! `fscan`, `sscan` and `Scanner` answer a report: its `outcome` is how the run ended (`is_done(outcome)`,
 //! `is_end(outcome)`), `value(1)` or `get::<i32>(1)` what slot 1 was given, and `c_return` what fscanf returns.
 //!
-//! To print: `fprint(&mut sink, &format, &values)?`. Once a `Pair` of a print format and a scan format is
+//! To print: `fprint(&mut sink, &format, &values)?`, or `fprint_given` where values may be missing, as in a row with an
+//! `Option` (`GivenRow::with_given`). Once a `Pair` of a print format and a scan format is
 //! checked, `read_back` gives back whatever it has written, and `read_rows` a list of rows that `write_rows` has
 //! written.
 //!
@@ -49,9 +51,12 @@ pub use sf_loops::{
 pub use sf_pair::{Pair, PairFault, PairWhy, WriteFault};
 pub use sf_pair_read::{read_back, read_back_fixed, read_back_over};
 pub use sf_pair_rows::{ReadRowsFault, WriteRowsFault, read_rows, write_rows};
-pub use sf_print::{ListSink, PrintFault, Sink, SinkFault, StdSink, fprint, printed_len};
+pub use sf_print::{
+    ListSink, PrintFault, Sink, SinkFault, StdSink, fprint, fprint_given, printed_len,
+};
 pub use sf_read::{
-    Field, Lookahead, Row, RowFault, ScanRowFault, SliceSource, Source, SourceFault, StdSource,
-    fscan, fscan_fixed, fscan_over, scan_row, scan_row_over, sscan, sscan_over, sscan_row,
+    Field, GivenRow, Lookahead, Row, RowFault, ScanRowFault, SliceSource, Source, SourceFault,
+    StdSource, fscan, fscan_fixed, fscan_over, scan_row, scan_row_over, sscan, sscan_over,
+    sscan_row,
 };
 pub use sf_run::{Ending, Fed, FeedState, Outcome, Report, Scanned, Scanner, StartFault, Status};
