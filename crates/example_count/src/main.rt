@@ -3,6 +3,7 @@
 
 ghost use Rattle.std.specs.Prelude.{IfOk};
 ghost use Rattle.sf_loops.specs.Counts.{IsCount};
+ghost use Rattle.sf_read.specs.Rows.{slots_by};
 
 use anyhow::bail;
 use sf_format::{Profile, ScanFormat};
@@ -16,7 +17,7 @@ const LIMIT: u32 = 1000;
 
 /// How many records the text has, each read as a row of this type.
 fn count<T: Row + Drop>(alloc: Global, text: &[u8], format: &ScanFormat) -> anyhow::Result<u64>
-    ensures { IfOk result (λ number. IsCount T.kinds T.listed format.now 1000 text.now number) }
+    ensures { IfOk result (λ number. IsCount T.kinds (slots_by T.given T.listed) format.now 1000 text.now number) }
 {
     records_are_counted::<T, SliceSource<'_>, 64>();
     let mut records = Records::<T, _, 64>::new(alloc, SliceSource::new(text), format, LIMIT)?;

@@ -41,6 +41,10 @@ impl Row for Stock {
         }
     }
 
+    fn may_miss(_slot: u8) -> bool {
+        false
+    }
+
     fn from_report<S: Store>(alloc: Global, report: &Report<'_, S>) -> Result<Self, RowFault> {
         let (Some(Value::Text(text)), Some(Value::U32(count))) = (report.value(1), report.value(2))
         else {

@@ -36,6 +36,10 @@ impl Row for Refused {
         }
     }
 
+    fn may_miss(_slot: u8) -> bool {
+        false
+    }
+
     fn from_report<S: Store>(_alloc: Global, _report: &Report<'_, S>) -> Result<Self, RowFault> {
         Err(RowFault::NoMemory)
     }

@@ -1,7 +1,7 @@
 //! Rows that are tuples, of one to six fields.
 use sf_base::Value;
 use sf_format::{Profile, ScanFormat};
-use sf_read::{Lookahead, Row, ScanRowFault, SliceSource, scan_row};
+use sf_read::{GivenRow, Lookahead, Row, ScanRowFault, SliceSource, scan_row, sscan_row};
 use sf_rows::{LIMIT, is};
 use std::alloc::Global;
 use std::test::Fail;
@@ -95,4 +95,122 @@ fn other_shapes(rt: HostRuntime) -> Result<(), Fail> {
         is(&found.err(), &Some(ScanRowFault::ShapeDiffers), format)?;
     }
     Ok(())
+}
+
+/// A format whose conversions may be missing, a text, and what each slot is given.
+type Gaps = (
+    &'static [u8],
+    &'static [u8],
+    &'static [Option<Value<'static>>],
+);
+
+/// Tuples of one field to six in turn, of which fields are missing. The last has an Option in each slot, though only
+/// the second may be missing.
+static GAPS: [Gaps; 6] = [
+    (b"%?ld", b"", &[None]),
+    (b"%?d %s", b" up 7", &[None, Some(Value::Text(b"up"))]),
+    (
+        b"%?d,%?d,%?d",
+        b"1,,3",
+        &[Some(Value::I32(1)), None, Some(Value::I32(3))],
+    ),
+    (
+        b"%2$?d;%1$?[a-z];%4$?hhu;%3$?s",
+        b"-5;;;",
+        &[None, Some(Value::I32(-5)), None, None],
+    ),
+    (
+        b"%?x%u%?x%u%?1c",
+        b"ff 16 -1 7",
+        &[
+            Some(Value::U32(255)),
+            Some(Value::U32(16)),
+            Some(Value::U32(4294967295)),
+            Some(Value::U32(7)),
+            None,
+        ],
+    ),
+    (
+        b"%d%?[,]%d%hd%hu%lu",
+        b"1 2 3 4 5",
+        &[
+            Some(Value::I32(1)),
+            None,
+            Some(Value::I32(2)),
+            Some(Value::I16(3)),
+            Some(Value::U16(4)),
+            Some(Value::U64(5)),
+        ],
+    ),
+];
+
+/// The row of a text by a format of profile 3, from a source and of the text.
+fn gap_row<T: Row>(
+    alloc: Global,
+    format: &[u8],
+    text: &[u8],
+) -> Result<[Result<T, ScanRowFault>; 2], Fail> {
+    let format = ScanFormat::parse(alloc, Profile::Three, format)?;
+    let mut from = Lookahead::<SliceSource<'_>, 3>::new(SliceSource::new(text));
+    let read = scan_row::<T, _, 3>(alloc, &mut from, &format, LIMIT);
+    Ok([read, sscan_row(alloc, text, &format, LIMIT)])
+}
+
+/// The slots of the row are given these in turn.
+fn has_gaps<T: GivenRow + Drop>(alloc: Global, gaps: &Gaps) -> Result<(), Fail> {
+    let (format, text, given) = gaps;
+    let [read, scanned] = gap_row::<T>(alloc, format, text)?;
+    is(&read?.with_given().as_slice(), given, text)?;
+    is(&scanned?.with_given().as_slice(), given, text)
+}
+
+#[test]
+fn missing_fields(rt: HostRuntime) -> Result<(), Fail> {
+    let [one, two, three, four, five, six] = &GAPS;
+    has_gaps::<(Option<i64>,)>(rt.alloc(), one)?;
+    has_gaps::<(Option<i32>, Vec<u8>)>(rt.alloc(), two)?;
+    has_gaps::<(Option<i32>, Option<i32>, Option<i32>)>(rt.alloc(), three)?;
+    has_gaps::<(Option<Vec<u8>>, Option<i32>, Option<Vec<u8>>, Option<u8>)>(rt.alloc(), four)?;
+    has_gaps::<(Option<u32>, u32, Option<u32>, u32, Option<Vec<u8>>)>(rt.alloc(), five)?;
+    has_gaps::<
+        (
+            Option<i32>,
+            Option<Vec<u8>>,
+            Option<i32>,
+            Option<i16>,
+            Option<u16>,
+            Option<u64>,
+        ),
+    >(rt.alloc(), six)
+}
+
+/// The values of a row that are there.
+#[test]
+fn values_that_are_there(rt: HostRuntime) -> Result<(), Fail> {
+    let [read, _scanned] = gap_row::<(Option<i32>, Option<f64>, Option<u8>)>(
+        rt.alloc(),
+        b"%?d;%?lf;%?hhu",
+        b"7;;8",
+    )?;
+    let row = read?;
+    is(&(row.0, row.1, row.2), &(Some(7), None, Some(8)), b"7;;8")?;
+    let values: &[Value<'_>] = &[Value::I32(7), Value::U8(8)];
+    is(&row.with_values().as_slice(), &values, b"7;;8")
+}
+
+/// A type that is no Option doesn't take a slot that may be missing; a conversion that assigns no slot may be.
+#[test]
+fn slots_that_need_a_value(rt: HostRuntime) -> Result<(), Fail> {
+    for format in [b"%?d%u", b"%d%?u", b"%?d%d"] {
+        for found in gap_row::<(Option<i32>, u32)>(rt.alloc(), format, b"1 2")? {
+            let differs = format != b"%?d%u";
+            is(
+                &(found.err() == Some(ScanRowFault::ShapeDiffers)),
+                &differs,
+                format,
+            )?;
+        }
+    }
+    let [read, _scanned] = gap_row::<(u32,)>(rt.alloc(), b"%*?d;%u", b";2")?;
+    is(&read?.0, &2, b";2")
 }
