@@ -34,7 +34,8 @@ impl<'f, T: Row, S: Source, const N: usize> Iterator for RecordItems<'f, T, S, N
     ghost use Rattle.sf_read.specs.Rows.{slots_by};
     ghost use Rattle.sf_loops.specs.Items.{GivesRecord};
 
-    ghost next_gives = { λ old result new. GivesRecord S.to_come S.reads S.failures N T.kinds (slots_by T.given T.listed) old result new };
+    ghost next_gives = { λ old result new. GivesRecord S.to_come S.reads S.failures N T.kinds
+        (slots_by T.given T.listed) old result new };
 
     ghost remaining = { λ r. at_most r.left };
 
@@ -111,7 +112,8 @@ impl<'f, T: Row, S: Source, const N: usize> Iterator for LineItems<'f, T, S, N> 
     ghost use Rattle.sf_read.specs.Rows.{slots_by};
     ghost use Rattle.sf_loops.specs.Items.{GivesLine};
 
-    ghost next_gives = { λ old result new. GivesLine S.to_come S.reads S.failures N T.kinds (slots_by T.given T.listed) old result new };
+    ghost next_gives = { λ old result new. GivesLine S.to_come S.reads S.failures N T.kinds
+        (slots_by T.given T.listed) old result new };
 
     ghost remaining = { λ r. at_most r.left };
 

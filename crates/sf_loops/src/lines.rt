@@ -77,9 +77,10 @@ impl<'f, T: Row, S: Source, const N: usize> Lines<'f, T, S, N> {
     pub fn next(&mut self) -> Result<Option<T>, LineFault>
         ensures over { (end : Option LineStop) → self.old.over ≡ Some end
             → (self.new ≡ self.old) × LineEndedWith None end result }
-        ensures next { self.old.over ≡ None → IsNextLineRow S.to_come S.reads S.failures N T.kinds (slots_by T.given T.listed) self.old
-            self.new result }
-        ensures listed { IfOk result (λ found. IfSome found (λ row. T.listed row ≡ present (slots_by T.given T.listed row))) }
+        ensures next { self.old.over ≡ None → IsNextLineRow S.to_come S.reads S.failures N T.kinds
+            (slots_by T.given T.listed) self.old self.new result }
+        ensures listed { IfOk result (λ found. IfSome found
+            (λ row. T.listed row ≡ present (slots_by T.given T.listed row))) }
     {
         match self.reports.advance() {
             Ok(true) => {}

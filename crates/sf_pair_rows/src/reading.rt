@@ -42,11 +42,13 @@ pub fn read_rows<T: Row + Drop, S: Source, const N: usize>(
     most: usize,
 ) -> Result<Vec<T>, ReadRowsFault>
     ensures back { (rows : List (List Datum)) (z : List ℕ) → AreReadable pair.now.print pair.now.scan limit most rows z
-        → HasShape T.kinds T.optional pair.now.scan → input_of S.to_come from.old ≡ Some (joined pair.now.print rows ++ z)
+        → HasShape T.kinds T.optional pair.now.scan
+        → input_of S.to_come from.old ≡ Some (joined pair.now.print rows ++ z)
         → S.failures from.new.source ≡ 0
         → IfOk result (λ v. (map T.listed v.items ≡ rows) × (input_of S.to_come from.new ≡ Some z)) }
     ensures refused { (rows : List (List Datum)) (z : List ℕ) → AreReadable pair.now.print pair.now.scan limit most rows
-        z → HasShape T.kinds T.optional pair.now.scan → input_of S.to_come from.old ≡ Some (joined pair.now.print rows ++ z)
+        z → HasShape T.kinds T.optional pair.now.scan
+        → input_of S.to_come from.old ≡ Some (joined pair.now.print rows ++ z)
         → S.failures from.new.source ≡ 0 → IfErr result (λ fault. IsMemory fault.why) }
     ensures few { IfOk result (λ v. vec_len v ≤ most) }
     ensures ended { IfOk result (λ v. (vec_len v ≡ most) ⊎ (from.new.at_end ≡ true)) }

@@ -183,10 +183,11 @@ fn row_held_into<T: Row, K: Store, S: Source, const N: usize>(
     requires slots { length (destinations_of format.now) ≤ K.slots }
     requires accepted { IsAccepted format.now }
     requires shape { HasShape T.kinds T.optional format.now }
-    ensures run { IfSome result (λ row. RowScan S.to_come S.reads S.failures N T.kinds (slots_by T.given T.listed) format.now limit
-        from.old from.new row) }
+    ensures run { IfSome result (λ row. RowScan S.to_come S.reads S.failures N T.kinds
+        (slots_by T.given T.listed) format.now limit from.old from.new row) }
     ensures is_run { IfSome result (λ row. is_run row ≡ true) }
-    ensures listed { IfSome result (λ row. IfOk row (λ made. T.listed made ≡ present (slots_by T.given T.listed made))) }
+    ensures listed { IfSome result (λ row. IfOk row (λ made. T.listed made
+        ≡ present (slots_by T.given T.listed made))) }
     ensures answers { IsDoneWithin format.now limit from.old.held (capacity_of (K.kept store.old)) → IsSome result }
     ensures no_read { from.new.source ≡ from.old.source }
     ensures stays { from.new.at_end ≡ from.old.at_end }
@@ -213,10 +214,11 @@ fn row_held<T: Row, S: Source, const N: usize>(
 ) -> Option<Result<T, ScanRowFault>>
     requires accepted { IsAccepted format.now }
     requires shape { HasShape T.kinds T.optional format.now }
-    ensures run { IfSome result (λ row. RowScan S.to_come S.reads S.failures N T.kinds (slots_by T.given T.listed) format.now limit
-        from.old from.new row) }
+    ensures run { IfSome result (λ row. RowScan S.to_come S.reads S.failures N T.kinds
+        (slots_by T.given T.listed) format.now limit from.old from.new row) }
     ensures is_run { IfSome result (λ row. is_run row ≡ true) }
-    ensures listed { IfSome result (λ row. IfOk row (λ made. T.listed made ≡ present (slots_by T.given T.listed made))) }
+    ensures listed { IfSome result (λ row. IfOk row (λ made. T.listed made
+        ≡ present (slots_by T.given T.listed made))) }
     ensures no_read { from.new.source ≡ from.old.source }
     ensures stays { from.new.at_end ≡ from.old.at_end }
     ensures none { IsNone result → from.new ≡ from.old }
@@ -238,10 +240,11 @@ fn row_of_few<T: Row, S: Source, const N: usize>(
 ) -> Option<Result<T, ScanRowFault>>
     requires accepted { IsAccepted format.now }
     requires shape { HasShape T.kinds T.optional format.now }
-    ensures run { IfSome result (λ row. RowScan S.to_come S.reads S.failures N T.kinds (slots_by T.given T.listed) format.now limit
-        from.old from.new row) }
+    ensures run { IfSome result (λ row. RowScan S.to_come S.reads S.failures N T.kinds
+        (slots_by T.given T.listed) format.now limit from.old from.new row) }
     ensures is_run { IfSome result (λ row. is_run row ≡ true) }
-    ensures listed { IfSome result (λ row. IfOk row (λ made. T.listed made ≡ present (slots_by T.given T.listed made))) }
+    ensures listed { IfSome result (λ row. IfOk row (λ made. T.listed made
+        ≡ present (slots_by T.given T.listed made))) }
     ensures limit { IsSome result → limit ≤ 2147483647 }
     ensures answers { limit ≤ 2147483647 → IsOfFew format.now → IsDoneWithin format.now limit from.old.held 0
         → IsSome result }
@@ -275,8 +278,8 @@ fn row_by_scan<T: Row, S: Source, const N: usize>(
     ensures start { (fault : StartFault) → IsErrOf result (ScanRowFault.Start fault)
         → (fault ≡ StartFault.BadLimit) ⊎ (fault ≡ StartFault.NoMemory) }
     ensures unread { is_run result ≡ false → from.new ≡ from.old }
-    ensures run { is_run result ≡ true → RowScan S.to_come S.reads S.failures N T.kinds (slots_by T.given T.listed) format.now limit
-        from.old from.new result }
+    ensures run { is_run result ≡ true → RowScan S.to_come S.reads S.failures N T.kinds
+        (slots_by T.given T.listed) format.now limit from.old from.new result }
     ensures listed { IfOk result (λ row. T.listed row ≡ present (slots_by T.given T.listed row)) }
     ensures no_read { from.old.at_end ≡ true → from.new.source ≡ from.old.source }
     ensures stays { from.old.at_end ≡ true → from.new.at_end ≡ true }
@@ -311,8 +314,8 @@ fn row_over<T: Row, S: Source, const N: usize>(
     ensures start { (fault : StartFault) → IsErrOf result (ScanRowFault.Start fault)
         → (fault ≡ StartFault.BadLimit) ⊎ (fault ≡ StartFault.NoMemory) }
     ensures unread { is_run result ≡ false → from.new ≡ from.old }
-    ensures run { is_run result ≡ true → RowScan S.to_come S.reads S.failures N T.kinds (slots_by T.given T.listed) format.now limit
-        from.old from.new result }
+    ensures run { is_run result ≡ true → RowScan S.to_come S.reads S.failures N T.kinds
+        (slots_by T.given T.listed) format.now limit from.old from.new result }
     ensures listed { IfOk result (λ row. T.listed row ≡ present (slots_by T.given T.listed row)) }
     ensures no_read { from.old.at_end ≡ true → from.new.source ≡ from.old.source }
     ensures stays { from.old.at_end ≡ true → from.new.at_end ≡ true }
@@ -355,8 +358,8 @@ pub fn scan_row<T: Row, S: Source, const N: usize>(
     ensures start { (fault : StartFault) → IsErrOf result (ScanRowFault.Start fault)
         → (fault ≡ StartFault.BadLimit) ⊎ (fault ≡ StartFault.NoMemory) }
     ensures unread { is_run result ≡ false → from.new ≡ from.old }
-    ensures run { is_run result ≡ true → RowScan S.to_come S.reads S.failures N T.kinds (slots_by T.given T.listed) format.now limit
-        from.old from.new result }
+    ensures run { is_run result ≡ true → RowScan S.to_come S.reads S.failures N T.kinds
+        (slots_by T.given T.listed) format.now limit from.old from.new result }
     ensures listed { IfOk result (λ row. T.listed row ≡ present (slots_by T.given T.listed row)) }
     ensures no_read { from.old.at_end ≡ true → from.new.source ≡ from.old.source }
     ensures stays { from.old.at_end ≡ true → from.new.at_end ≡ true }
@@ -388,8 +391,8 @@ pub fn scan_row_over<T: Row, S: Source, const N: usize>(
     ensures start { (fault : StartFault) → IsErrOf result (ScanRowFault.Start fault)
         → (fault ≡ StartFault.BadLimit) ⊎ (fault ≡ StartFault.NoMemory) }
     ensures unread { is_run result ≡ false → from.new ≡ from.old }
-    ensures run { is_run result ≡ true → RowScan S.to_come S.reads S.failures N T.kinds (slots_by T.given T.listed) format.now limit
-        from.old from.new result }
+    ensures run { is_run result ≡ true → RowScan S.to_come S.reads S.failures N T.kinds
+        (slots_by T.given T.listed) format.now limit from.old from.new result }
     ensures listed { IfOk result (λ row. T.listed row ≡ present (slots_by T.given T.listed row)) }
     ensures no_read { from.old.at_end ≡ true → from.new.source ≡ from.old.source }
     ensures stays { from.old.at_end ≡ true → from.new.at_end ≡ true }

@@ -25,7 +25,8 @@ fn row_of_short<T: Row>(
     requires shape { HasShape T.kinds T.optional format.now }
     ensures run { IfSome result (λ row. TextRow T.kinds (slots_by T.given T.listed) format.now limit text.now row) }
     ensures is_run { IfSome result (λ row. is_run row ≡ true) }
-    ensures listed { IfSome result (λ row. IfOk row (λ made. T.listed made ≡ present (slots_by T.given T.listed made))) }
+    ensures listed { IfSome result (λ row. IfOk row (λ made. T.listed made
+        ≡ present (slots_by T.given T.listed made))) }
     ensures limit { IsSome result → limit ≤ 2147483647 }
 {
     if limit > MOST_BYTES
