@@ -30,7 +30,8 @@ waits_behind block bytes start end s e =
 -- What waits in a block, by the front of the block.
 waits_in_front : (block : List ℕ) (start end : ℕ) → start ≤ end → slice_range block start end ≡ drop start (take end block)
 waits_in_front block start end s =
-    sym (ap (λ (n : ℕ). drop start (take n block)) {x = end} {y = start + (end - start)} (omega arith) ∙ drop-take start (end - start) block)
+    sym (ap (λ (n : ℕ). drop start (take n block)) {x = end} {y = start + (end - start)} (omega arith) ∙ drop-take start (end - start)
+    block)
 
 -- Bytes that were written after the waiting ones wait after them.
 pub waits_after : (block new bytes : List ℕ) (start end len : ℕ) → start ≤ end → end ≤ length block

@@ -31,7 +31,8 @@ no_row : {T : Type 0} (row : T) (end : Option RecordFault) →
 no_row row None e = cc
 no_row row (Some fault) e = cc
 
-module _ {S T : Type 0} (to_come : S → Option (List ℕ)) (reads failures : S → ℕ) (N : ℕ) (kinds : List Kind) (listed : T → List (Option Datum))
+module _ {S T : Type 0} (to_come : S → Option (List ℕ)) (reads failures : S → ℕ) (N : ℕ) (kinds : List Kind)
+    (listed : T → List (Option Datum))
     (old : Loop S) where
   pub begins : old.over ≡ None → Counting to_come reads failures N kinds listed old old 0
   begins none = record { rows = []; count = refl; going = λ _. (refl, refl, refl); unended = λ e. (let never = sym none ∙ e in cc) }

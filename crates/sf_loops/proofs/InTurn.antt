@@ -31,7 +31,8 @@ goes_by old new Ends result a e = let never = sym e ∙ a.1.over_is in absurd cc
 goes_by old new (Stops why) result a e = let never = sym e ∙ a.1.over_is in absurd cc
 
 -- a row is that of the last run
-row_of : {S T : Type 0} (kinds : List Kind) (listed : T → List (Option Datum)) (advanced new : Loop S) (turn : Result Bool RecordFault) (row : T)
+row_of : {S T : Type 0} (kinds : List Kind) (listed : T → List (Option Datum)) (advanced new : Loop S) (turn : Result Bool RecordFault)
+    (row : T)
     → RowAnswers kinds listed advanced new turn (Ok (Some row)) → (new ≡ advanced)
     × AreSlotsOf (length kinds) (listed row) advanced.report.values
 row_of kinds listed advanced new (Ok true) row a = a

@@ -36,7 +36,8 @@ reported {to_come = to_come} {reads = reads} {failures = failures} {N = N} old n
 
 -- its report has a value of its kind for each slot of the row
 pub given_line : {S : Type 0} {to_come : S → Option (List ℕ)} {reads failures : S → ℕ} {N : ℕ} (kinds : List Kind) (optional : ℕ → Bool)
-    (old new : LineLoop S) (result : Result Bool LineFault) → StaysEnded old new result → (old.over ≡ None → IsNextLine to_come reads failures N old new result)
+    (old new : LineLoop S) (result : Result Bool LineFault) → StaysEnded old new result →
+    (old.over ≡ None → IsNextLine to_come reads failures N old new result)
     → result ≡ Ok true → IsAccepted new.format → HasShape kinds optional old.format → AreGivenAs kinds optional new.report.values
 given_line {to_come = to_come} {reads = reads} {failures = failures} {N = N} kinds optional old new result over next e is_accepted shape =
     let r = reported {to_come = to_come} {reads = reads} {failures = failures} {N = N} old new result over next e in

@@ -112,7 +112,8 @@ comes_err to_come old new reads.NoMemory text fault r h e = absurd (stopped old 
 -- ---- an answer
 
 -- the next line has this answer, and the loop goes on
-record IsAnswered {S T : Type 0} (to_come : S → Option (List ℕ)) (kinds : List Kind) (listed : T → List (Option Datum)) (old new : LineLoop S)
+record IsAnswered {S T : Type 0} (to_come : S → Option (List ℕ)) (kinds : List Kind) (listed : T → List (Option Datum))
+    (old new : LineLoop S)
     (answer : LineAnswer T) : Type 0 where
   line : List ℕ
   taken : Took to_come old.ahead new.ahead line
@@ -167,13 +168,15 @@ one to_come count failures N kinds listed old new (Err fault) next e =
 -- ---- answers in turn
 
 -- the answers are those of these lines
-record Told {S T : Type 0} (to_come : S → Option (List ℕ)) (kinds : List Kind) (listed : T → List (Option Datum)) (t : List ℕ) (old new : LineLoop S)
+record Told {S T : Type 0} (to_come : S → Option (List ℕ)) (kinds : List Kind) (listed : T → List (Option Datum)) (t : List ℕ)
+    (old new : LineLoop S)
     (front : List (List ℕ)) (answers : List (LineAnswer T)) : Type 0 where
   lines : List (List ℕ)
   lined : Lined to_come t new.ahead (front ++ lines)
   are : AreAnswersOf kinds listed old.format old.limit old.read lines answers
 
-in_turn : {S T : Type 0} (to_come : S → Option (List ℕ)) (count failures : S → ℕ) (N : ℕ) (kinds : List Kind) (listed : T → List (Option Datum))
+in_turn : {S T : Type 0} (to_come : S → Option (List ℕ)) (count failures : S → ℕ) (N : ℕ) (kinds : List Kind)
+    (listed : T → List (Option Datum))
     (t : List ℕ) (old new : LineLoop S) (front : List (List ℕ)) (answers : List (LineAnswer T))
     → Lined to_come t old.ahead front → LinesInTurn to_come count failures N kinds listed old answers new
     → Told to_come kinds listed t old new front answers
@@ -225,7 +228,8 @@ comes_false to_come t old new reads.Fault text lines l r h = absurd h
 comes_false to_come t old new reads.Endless text lines l r h = absurd h
 comes_false to_come t old new reads.NoMemory text lines l r h = absurd h
 
-ended : {S T : Type 0} (to_come : S → Option (List ℕ)) (count failures : S → ℕ) (N : ℕ) (kinds : List Kind) (listed : T → List (Option Datum))
+ended : {S T : Type 0} (to_come : S → Option (List ℕ)) (count failures : S → ℕ) (N : ℕ) (kinds : List Kind)
+    (listed : T → List (Option Datum))
     (t : List ℕ) (old advanced new : LineLoop S) (turn : Result Bool LineFault) (lines : List (List ℕ)) → Lined to_come t old.ahead lines
     → IsNextLine to_come count failures N old advanced turn → LineRowAnswers kinds listed advanced new turn (Ok None) → lines_of t ≡ lines
 ended to_come count failures N kinds listed t old advanced new (Ok true) lines l next h = absurd h

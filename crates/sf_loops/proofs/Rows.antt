@@ -71,7 +71,8 @@ pub given_row : {S : Type 0} {to_come : S → Option (List ℕ)} {reads failures
     → ((end : Option RecordFault) → old.over ≡ Some end → (new ≡ old) × (result ≡ ended_with false end))
     → (old.over ≡ None → IsNext to_come reads failures N old new result) → result ≡ Ok true
     → new.format ≡ old.format → IsAccepted new.format → HasShape kinds optional old.format → AreGivenAs kinds optional new.report.values
-given_row {to_come = to_come} {reads = reads} {failures = failures} {N = N} kinds optional old new result over next e same is_accepted shape =
+given_row {to_come = to_come} {reads = reads} {failures = failures} {N = N} kinds optional old new result over next e same
+    is_accepted shape =
     let d = done_of {to_come = to_come} {reads = reads} {failures = failures} {N = N} old new result over next e in
     let told = d.0.run.told in
     let accepted = subst IsAccepted same is_accepted in
@@ -79,7 +80,8 @@ given_row {to_come = to_come} {reads = reads} {failures = failures} {N = N} kind
 
 -- ---- the next record as a row, of a loop that is known by another name
 
-pub as_row : {S T : Type 0} (to_come : S → Option (List ℕ)) (reads failures : S → ℕ) (N : ℕ) (kinds : List Kind) (listed : T → List (Option Datum))
+pub as_row : {S T : Type 0} (to_come : S → Option (List ℕ)) (reads failures : S → ℕ) (N : ℕ) (kinds : List Kind)
+    (listed : T → List (Option Datum))
     (was old advanced new : Loop S) (turn : Result Bool RecordFault) (result : Result (Option T) RecordFault) → was ≡ old
     → (was.over ≡ None → IsNext to_come reads failures N was advanced turn) → RowAnswers kinds listed advanced new turn result
     → old.over ≡ None

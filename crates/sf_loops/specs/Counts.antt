@@ -22,7 +22,8 @@ pub record EndsAt (ds : List Directive) (m : ℕ) (t : List ℕ) : Type 0 where
   pub met : report.met ≡ Some End
 
 -- the input t has so many records, and then ends
-pub record IsCount {T : Type 0} (kinds : List Kind) (given : T → List (Option Datum)) (ds : List Directive) (m : ℕ) (t : List ℕ) (n : ℕ) : Type 0
+pub record IsCount {T : Type 0} (kinds : List Kind) (given : T → List (Option Datum)) (ds : List Directive) (m : ℕ) (t : List ℕ) (n : ℕ) :
+    Type 0
   where
     pub rows : List T
     pub left : List ℕ

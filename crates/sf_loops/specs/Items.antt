@@ -25,7 +25,8 @@ pub record LinesLeft (S : Type 0) : Type 0 where
 
 -- An item is what `next` answers: a row, after which the items go on; or a fault, which is the last one. None is the end, or the most
 -- items were given.
-abbrev pub GivesRecord : {S T : Type 0} → (S → Option (List ℕ)) → (S → ℕ) → (S → ℕ) → ℕ → List Kind → (T → List (Option Datum)) → RecordsLeft S
+abbrev pub GivesRecord : {S T : Type 0} → (S → Option (List ℕ)) → (S → ℕ) → (S → ℕ) → ℕ → List Kind → (T → List (Option Datum)) →
+    RecordsLeft S
     → Option (Result T RecordFault) → RecordsLeft S → Type 0
 GivesRecord to_come reads failures N kinds given old (Some (Ok row)) new =
     AnswersNext to_come reads failures N kinds given old.now new.now (Ok (Some row)) × (new.left + 1 ≡ old.left)

@@ -13,7 +13,8 @@ use Rattle.sf_loops.specs.Loops.{IsNextRow, Loop}
 use Rattle.sf_loops.specs.Turns.{turn_of}
 
 -- these rows were answered, one after the other, and the loop goes on
-abbrev pub AnswersInTurn : {S T : Type 0} → (S → Option (List ℕ)) → (S → ℕ) → (S → ℕ) → ℕ → List Kind → (T → List (Option Datum)) → Loop S → List T
+abbrev pub AnswersInTurn : {S T : Type 0} → (S → Option (List ℕ)) → (S → ℕ) → (S → ℕ) → ℕ → List Kind → (T → List (Option Datum)) → Loop S →
+    List T
     → Loop S → Type 0
 AnswersInTurn to_come reads failures N kinds given old [] new = old ≡ new
 AnswersInTurn {S} to_come reads failures N kinds given old (row ∷ rows) new =
@@ -28,7 +29,8 @@ AreRecords kinds given ds m t (row ∷ rows) left =
     × AreRecords kinds given ds m (drop r.used t) rows left
 
 -- whatever the blocks in which the input came
-abbrev pub AnswersAreRecords : {S T : Type 0} → (S → Option (List ℕ)) → (S → ℕ) → (S → ℕ) → ℕ → List Kind → (T → List (Option Datum)) → Type 0
+abbrev pub AnswersAreRecords : {S T : Type 0} → (S → Option (List ℕ)) → (S → ℕ) → (S → ℕ) → ℕ → List Kind → (T → List (Option Datum)) → Type
+    0
 AnswersAreRecords {S} {T} to_come reads failures N kinds given =
     (old new : Loop S) (rows : List T) → AnswersInTurn to_come reads failures N kinds given old rows new
     → (t : List ℕ) → input_of to_come old.ahead ≡ Some t

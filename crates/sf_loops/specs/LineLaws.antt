@@ -57,7 +57,8 @@ IsAnswerOf kinds given ds m number line (Ok row) =
 IsAnswerOf kinds given ds m number line (Err fault) = (fault.number ≡ number) × IsMissBy ds m line fault.text.items fault.why
 
 -- an answer for each of these lines, which come after so many others
-abbrev pub AreAnswersOf : {T : Type 0} → List Kind → (T → List (Option Datum)) → List Directive → ℕ → ℕ → List (List ℕ) → List (LineAnswer T)
+abbrev pub AreAnswersOf : {T : Type 0} → List Kind → (T → List (Option Datum)) → List Directive → ℕ → ℕ → List (List ℕ) → List
+    (LineAnswer T)
     → Type 0
 AreAnswersOf kinds given ds m before [] [] = Unit {0}
 AreAnswersOf kinds given ds m before (line ∷ lines) (answer ∷ answers) =

@@ -110,7 +110,8 @@ ends_by to_come kinds given_by new (Err (Failed outcome)) report answers status 
 -- ---- rows in turn
 
 -- the rows of an input that were read so far, and those that are left
-abbrev pub Going : {S T : Type 0} → (S → Option (List ℕ)) → (S → ℕ) → List Kind → (ℕ → Bool) → (T → List Datum) → List PrintUnit → List Directive → ℕ → ℕ
+abbrev pub Going : {S T : Type 0} → (S → Option (List ℕ)) → (S → ℕ) → List Kind → (ℕ → Bool) → (T → List Datum) → List PrintUnit → List
+    Directive → ℕ → ℕ
     → Ahead S → Ahead S → List T → Type 0
 Going to_come failures kinds optional listed us ds m most old now done =
     (rows : List (List Datum)) (z : List ℕ) → AreReadable us ds m most rows z → HasShape kinds optional ds
@@ -161,7 +162,8 @@ module _ (laws : PairLaws) (nothing : AlignedEndsOnNothing) (one : EachHasOneRep
   fine : failures new.source ≡ 0 → is_fault run.report.met ≡ false
   fine sound = none_failed (is_fault run.report.met) (failures now.source) (sym run.failed ∙ sound)
 
-  gives_row : HasShape kinds optional ds → failures new.source ≡ 0 → (values : List Datum) → Fit us ds values → length (printed us values) ≤ m
+  gives_row : HasShape kinds optional ds → failures new.source ≡ 0 → (values : List Datum) → Fit us ds values → length (printed us values) ≤
+      m
       → (z : List ℕ) → input_of to_come now ≡ Some (printed us values ++ z) → GivesRow to_come listed new values z result
   gives_row shape sound values fit short z input =
       let back = reads_whole laws to_come reads N us ds checked values fit m short z now new run.report
@@ -192,7 +194,8 @@ module _ (laws : PairLaws) (nothing : AlignedEndsOnNothing) (one : EachHasOneRep
   NextGives [] z = (z ≡ []) × EndsRows to_come new result
   NextGives (values ∷ more) z = GivesRow to_come listed new values (joined us more ++ z) result
 
-  next_gives : (rows : List (List Datum)) (z : List ℕ) → AreReadable us ds m most rows z → HasShape kinds optional ds → failures new.source ≡ 0
+  next_gives : (rows : List (List Datum)) (z : List ℕ) → AreReadable us ds m most rows z → HasShape kinds optional ds → failures new.source
+      ≡ 0
       → (left : List (List Datum)) → rows ≡ map listed done ++ left → input_of to_come now ≡ Some (joined us left ++ z) → NextGives left z
   next_gives rows z readable shape sound [] is input =
       let none : z ≡ [] = nothing_follows listed us ds m most rows z done readable is few in
@@ -232,7 +235,8 @@ module _ (laws : PairLaws) (nothing : AlignedEndsOnNothing) (one : EachHasOneRep
 
   -- the run of the next one failed: there is none
   pub finished : (outcome : Outcome) → result ≡ Err (Failed outcome) → (rows : List (List Datum)) (z : List ℕ)
-      → AreReadable us ds m most rows z → HasShape kinds optional ds → input_of to_come old ≡ Some (joined us rows ++ z) → failures new.source ≡ 0
+      → AreReadable us ds m most rows z → HasShape kinds optional ds → input_of to_come old ≡ Some (joined us rows ++ z) → failures
+      new.source ≡ 0
       → (map listed done ≡ rows) × (input_of to_come new ≡ Some z) × (outcome.status ≡ InputFailure) × (outcome.converted ≡ 0)
       × (outcome.met ≡ Some End)
   finished outcome e rows z readable shape input sound =
@@ -261,10 +265,12 @@ module _ (laws : PairLaws) (nothing : AlignedEndsOnNothing) (one : EachHasOneRep
     (lists : Lists given_by listed result) where
   -- no row is left
   pub all_back : (why : ScanRowFault) → result ≡ Err why → is_end why ≡ true → (rows : List (List Datum)) (z : List ℕ)
-      → AreReadable us ds m most rows z → HasShape kinds optional ds → input_of to_come old ≡ Some (joined us rows ++ z) → failures new.source ≡ 0
+      → AreReadable us ds m most rows z → HasShape kinds optional ds → input_of to_come old ≡ Some (joined us rows ++ z) → failures
+      new.source ≡ 0
       → (map listed done ≡ rows) × (input_of to_come new ≡ Some z)
   all_back (Failed outcome) e is rows z readable shape input sound =
-      let all = finished laws nothing one to_come reads failures N us ds checked kinds optional given_by listed m most old now new done going few result
+      let all = finished laws nothing one to_come reads failures N us ds checked kinds optional given_by listed m most old now new done
+      going few result
       (run (ap is_run e)) lists outcome e rows z readable shape input sound in (all.0, all.1)
   all_back NoMemory e is rows z readable shape input sound = absurd (true≢false (sym is))
   all_back ShapeDiffers e is rows z readable shape input sound = absurd (true≢false (sym is))
@@ -274,10 +280,12 @@ module _ (laws : PairLaws) (nothing : AlignedEndsOnNothing) (one : EachHasOneRep
   pub refused : (why : ScanRowFault) → result ≡ Err why → is_end why ≡ false → (why ≡ ShapeDiffers → HasShape kinds optional ds → ⊥)
       → ((fault : StartFault) → why ≡ Start fault → m ≤ 2147483647 → fault ≡ start.NoMemory)
       → (rows : List (List Datum)) (z : List ℕ)
-      → AreReadable us ds m most rows z → HasShape kinds optional ds → input_of to_come old ≡ Some (joined us rows ++ z) → failures new.source ≡ 0
+      → AreReadable us ds m most rows z → HasShape kinds optional ds → input_of to_come old ≡ Some (joined us rows ++ z) → failures
+      new.source ≡ 0
       → IsMemory why
   refused (Failed outcome) e is unshaped started rows z readable shape input sound =
-      let all = finished laws nothing one to_come reads failures N us ds checked kinds optional given_by listed m most old now new done going few result
+      let all = finished laws nothing one to_come reads failures N us ds checked kinds optional given_by listed m most old now new done
+      going few result
       (run (ap is_run e)) lists outcome e rows z readable shape input sound in
       absurd (true≢false (sym (end_is outcome all.2 all.3 all.4) ∙ is))
   refused NoMemory e is unshaped started rows z readable shape input sound = tt
@@ -312,7 +320,8 @@ ends_met : (converted : ℕ) (status : Status) (met : Option Ending) → ends_at
 ends_met converted status met e = grind arith
 
 -- where there was no row since the input ended, the source has reported its end
-pub end_seen : {S T : Type 0} (to_come : S → Option (List ℕ)) (reads failures : S → ℕ) (N : ℕ) (kinds : List Kind) (given_by : T → List (Option Datum))
+pub end_seen : {S T : Type 0} (to_come : S → Option (List ℕ)) (reads failures : S → ℕ) (N : ℕ) (kinds : List Kind)
+    (given_by : T → List (Option Datum))
     (ds : List Directive) (m : ℕ) (now new : Ahead S) (result : Result T ScanRowFault) (why : ScanRowFault) → result ≡ Err why
     → is_end why ≡ true → (is_run result ≡ true → RowScan to_come reads failures N kinds given_by ds m now new result) → new.at_end ≡ true
 end_seen to_come reads failures N kinds given_by ds m now new result (Failed outcome) e is run =

@@ -169,7 +169,8 @@ run_no_start r is fault e = let h = subst (λ s. is_run s ≡ true) e is in absu
 
 -- a record that was held whole, consumed without a read
 pub row_scanned : {S T : Type 0} (to_come : S → Option (List ℕ)) (reads failures : S → ℕ) (N : ℕ) (kinds : List Kind)
-    (given_by : T → List (Option Datum)) (ds : List Directive) (m : ℕ) (old new : Ahead S) (report : RunReport) (result : Result T ScanRowFault)
+    (given_by : T → List (Option Datum)) (ds : List Directive) (m : ℕ) (old new : Ahead S) (report : RunReport)
+    (result : Result T ScanRowFault)
     → report.status ≡ Done → report.met ≡ None → new.source ≡ old.source → report.used ≤ length old.held
     → new.held ≡ drop report.used old.held → Answers kinds given_by report result
     → ((t : List ℕ) → input_of to_come old ≡ Some t → Scan to_come ds m t old new report)

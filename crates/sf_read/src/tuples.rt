@@ -262,7 +262,8 @@ impl<A: Field, B: Field, C: Field, D: Field, E: Field> Row for (A, B, C, D, E) {
 
     ghost optional = { is_at (A.optional ∷ B.optional ∷ C.optional ∷ D.optional ∷ E.optional ∷ []) };
 
-    ghost listed = { λ row. present (A.given row.0 ∷ B.given row.1 ∷ C.given row.2 ∷ D.given row.3 ∷ E.given row.4 ∷ []) };
+    ghost listed = { λ row. present (A.given row.0 ∷ B.given row.1 ∷ C.given row.2 ∷ D.given row.3
+        ∷ E.given row.4 ∷ []) };
 
     ghost given = { λ row values. A.given row.0 ∷ B.given row.1 ∷ C.given row.2 ∷ D.given row.3 ∷ E.given row.4 ∷ [] };
 
@@ -332,9 +333,11 @@ impl<A: Field, B: Field, C: Field, D: Field, E: Field, F: Field> Row for (A, B, 
 
     ghost optional = { is_at (A.optional ∷ B.optional ∷ C.optional ∷ D.optional ∷ E.optional ∷ F.optional ∷ []) };
 
-    ghost listed = { λ row. present (A.given row.0 ∷ B.given row.1 ∷ C.given row.2 ∷ D.given row.3 ∷ E.given row.4 ∷ F.given row.5 ∷ []) };
+    ghost listed = { λ row. present (A.given row.0 ∷ B.given row.1 ∷ C.given row.2 ∷ D.given row.3 ∷ E.given row.4 ∷
+        F.given row.5 ∷ []) };
 
-    ghost given = { λ row values. A.given row.0 ∷ B.given row.1 ∷ C.given row.2 ∷ D.given row.3 ∷ E.given row.4 ∷ F.given row.5 ∷ [] };
+    ghost given = { λ row values. A.given row.0 ∷ B.given row.1 ∷ C.given row.2 ∷ D.given row.3 ∷ E.given row.4 ∷
+        F.given row.5 ∷ [] };
 
     fn slots() -> u8 {
         6

@@ -41,7 +41,8 @@ tested r n last f h = same_bits (format_of r) _ _ (round-fits (format_of r) _ _ 
 
 -- ---- the trial
 
-pub tried_back : (r : real.Real) (last n : ℕ) → T (fits (format_of r) (number_of r)) → tried r last ≡ Some n → read_as r n last ≡ number_of r
+pub tried_back : (r : real.Real) (last n : ℕ) → T (fits (format_of r) (number_of r)) → tried r last ≡ Some n → read_as r n last ≡ number_of
+    r
 tried_back r last n f e = by (digits.reads_back r a last) refl (digits.reads_back r b last) refl e
   where
     a : ℕ

@@ -150,8 +150,8 @@ fn searched_from(real: Real, cut: Cut, from: u32) -> (u64, u32)
     (sides(cut, most).0, cut.first - most)
 }
 
-/// The fewest digits of which one reads back, and where the last stands. Where none of so many does, none of fewer does,
-/// so the search begins at a guess.
+/// The fewest digits of which one reads back, and where the last stands. Where none of so many does, none of fewer
+/// does, so the search begins at a guess.
 fn searched(real: Real, cut: Cut) -> (u64, u32)
     requires finite { IsTrue (float_is_finite (number_of real)) }
     requires few { (16 ≤ cut.first) × (cut.first ≤ 900) }

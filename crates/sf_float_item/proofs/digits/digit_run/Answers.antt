@@ -11,7 +11,8 @@ returns-then-run-lt-LANES c =
     let l = c.loop-at in
     let d = drop l.at c.args.piece.now in
     let room : 8 ≤ length d = rw (length-drop l.at c.args.piece.now) c.loop-at-test.true in
-    let is : c.first_run-run.result ≡ prefix_len is_ascii_digit (take 8 d) = rw (take_rest c.args.piece.now l.at) at c.first_run-run.ensures in
+    let is : c.first_run-run.result ≡ prefix_len is_ascii_digit (take 8 d) =
+    rw (take_rest c.args.piece.now l.at) at c.first_run-run.ensures in
     omega (arith, l.invariant.front, run_stops is_ascii_digit d room c.first_run-run.result is c.if-run-lt-LANES.true)
 
 pub loop-at-preserved : goal.loop-at-preserved

@@ -3,4 +3,5 @@ use Rattle.sf_loops.proofs.InTurn.{answers_are_records}
 use Rattle.sf_loops.proofs.laws.answers_are_records.Goals as goal
 
 pub returns : goal.returns
-returns g c = answers_are_records g.S.Source.to_come g.S.Source.reads g.S.Source.failures g.row.N g.T.Row.kinds (slots_by g.T.Row.given g.T.Row.listed)
+returns g c = answers_are_records g.S.Source.to_come g.S.Source.reads g.S.Source.failures g.row.N g.T.Row.kinds
+    (slots_by g.T.Row.given g.T.Row.listed)

@@ -26,13 +26,15 @@ loop-preserved g c = record {
       c.args.pair.now.scan
       c.args.limit c.args.most c.args.from.now c.scan_row_over.new.from done) (sym c.in-Ok-push.ensures.items)
       (went_on c.pair_laws.ensures.laws c.pair_laws.ensures.nothing c.pair_laws.ensures.one g.S.Source.to_come g.S.Source.reads
-      g.S.Source.failures g.row.N c.args.pair.now.print c.args.pair.now.scan c.scan.ensures.checked g.T.Row.kinds g.T.Row.optional (slots_by g.T.Row.given g.T.Row.listed) g.T.Row.listed
+      g.S.Source.failures g.row.N c.args.pair.now.print c.args.pair.now.scan c.scan.ensures.checked g.T.Row.kinds g.T.Row.optional
+      (slots_by g.T.Row.given g.T.Row.listed) g.T.Row.listed
       c.args.limit
       c.args.most c.args.from.now c.loop.from c.scan_row_over.new.from c.loop.rows.items c.loop.invariant.going
       (omega (arith, c.loop.invariant.kept, c.loop-test.true)) c.scan_row_over.result
       ((subst (λ (ds : List Directive). is_run c.scan_row_over.result ≡ true
       → RowScan g.S.Source.to_come g.S.Source.reads g.S.Source.failures
-      g.row.N g.T.Row.kinds (slots_by g.T.Row.given g.T.Row.listed) ds c.args.limit c.loop.from c.scan_row_over.new.from c.scan_row_over.result)
+      g.row.N g.T.Row.kinds (slots_by g.T.Row.given g.T.Row.listed) ds c.args.limit c.loop.from c.scan_row_over.new.from
+      c.scan_row_over.result)
       c.scan-in-loop.ensures.value c.scan_row_over.ensures.run) (ap is_run c.in-Ok.is))
       c.scan_row_over.ensures.listed c.in-Ok.row c.in-Ok.is);
 }
@@ -40,11 +42,13 @@ loop-preserved g c = record {
 pub returns-then-is_end-clause-back : goal.returns-then-is_end-clause-back
 returns-then-is_end-clause-back g c =
     all_back c.pair_laws.ensures.laws c.pair_laws.ensures.nothing c.pair_laws.ensures.one g.S.Source.to_come g.S.Source.reads
-    g.S.Source.failures g.row.N c.args.pair.now.print c.args.pair.now.scan c.scan.ensures.checked g.T.Row.kinds g.T.Row.optional (slots_by g.T.Row.given g.T.Row.listed) g.T.Row.listed c.args.limit
+    g.S.Source.failures g.row.N c.args.pair.now.print c.args.pair.now.scan c.scan.ensures.checked g.T.Row.kinds g.T.Row.optional
+    (slots_by g.T.Row.given g.T.Row.listed) g.T.Row.listed c.args.limit
     c.args.most c.args.from.now c.loop.from c.scan_row_over.new.from c.loop.rows.items c.loop.invariant.going
     (omega (arith, c.loop.invariant.kept, c.loop-test.true)) c.scan_row_over.result
     (subst (λ (ds : List Directive). is_run c.scan_row_over.result ≡ true → RowScan g.S.Source.to_come g.S.Source.reads g.S.Source.failures
-    g.row.N g.T.Row.kinds (slots_by g.T.Row.given g.T.Row.listed) ds c.args.limit c.loop.from c.scan_row_over.new.from c.scan_row_over.result)
+    g.row.N g.T.Row.kinds (slots_by g.T.Row.given g.T.Row.listed) ds c.args.limit c.loop.from c.scan_row_over.new.from
+    c.scan_row_over.result)
     c.scan-in-loop.ensures.value c.scan_row_over.ensures.run)
     c.scan_row_over.ensures.listed c.in-Err.why c.in-Err.is (sym c.is_end.ensures ∙ c.if-is_end.true)
 
@@ -52,17 +56,23 @@ pub returns-in-Err-clause-refused : goal.returns-in-Err-clause-refused
 returns-in-Err-clause-refused g c = λ rows z readable shape input sound.
     subst IsMemory (sym (ap (λ (f : ReadRowsFault). f.why) c.fault_after-in-Err.ensures))
     (refused c.pair_laws.ensures.laws c.pair_laws.ensures.nothing c.pair_laws.ensures.one g.S.Source.to_come g.S.Source.reads
-    g.S.Source.failures g.row.N c.args.pair.now.print c.args.pair.now.scan c.scan.ensures.checked g.T.Row.kinds g.T.Row.optional (slots_by g.T.Row.given g.T.Row.listed) g.T.Row.listed c.args.limit
+    g.S.Source.failures g.row.N c.args.pair.now.print c.args.pair.now.scan c.scan.ensures.checked g.T.Row.kinds g.T.Row.optional
+    (slots_by g.T.Row.given g.T.Row.listed) g.T.Row.listed c.args.limit
     c.args.most c.args.from.now c.loop.from c.scan_row_over.new.from c.loop.rows.items c.loop.invariant.going
     (omega (arith, c.loop.invariant.kept, c.loop-test.true)) c.scan_row_over.result
     (subst (λ (ds : List Directive). is_run c.scan_row_over.result ≡ true → RowScan g.S.Source.to_come g.S.Source.reads g.S.Source.failures
-    g.row.N g.T.Row.kinds (slots_by g.T.Row.given g.T.Row.listed) ds c.args.limit c.loop.from c.scan_row_over.new.from c.scan_row_over.result)
+    g.row.N g.T.Row.kinds (slots_by g.T.Row.given g.T.Row.listed) ds c.args.limit c.loop.from c.scan_row_over.new.from
+    c.scan_row_over.result)
     c.scan-in-loop.ensures.value c.scan_row_over.ensures.run)
     c.scan_row_over.ensures.listed c.in-Err.why c.in-Err.is (sym c.is_end.ensures ∙ c.if-is_end.false)
     (shape_is c.scan_row_over.result c.in-Err.why g.T.Row.kinds g.T.Row.optional c.args.pair.now.scan c.in-Err.is
     (λ h own. c.scan_row_over.ensures.shape.0 h (subst (HasShape g.T.Row.kinds g.T.Row.optional) (sym c.scan-in-loop.ensures.value) own)))
     (start_is c.scan_row_over.result c.in-Err.why g.T.Row.kinds g.T.Row.optional c.args.pair.now.scan c.args.limit c.in-Err.is
-    (λ h. let both = c.scan_row_over.ensures.limit.0 h in (subst (HasShape g.T.Row.kinds g.T.Row.optional) c.scan-in-loop.ensures.value both.0, both.1))
+    (λ h. let both = c.scan_row_over.ensures.limit.0 h in (
+      subst (HasShape g.T.Row.kinds g.T.Row.optional) c.scan-in-loop.ensures.value
+          both.0,
+      both.1,
+    ))
     c.scan_row_over.ensures.start) rows z readable shape input sound)
 
 pub returns-clause-back : goal.returns-clause-back
@@ -78,7 +88,8 @@ returns-clause-back g c = λ rows z readable shape input sound.
 
 pub returns-then-is_end-clause-ended : goal.returns-then-is_end-clause-ended
 returns-then-is_end-clause-ended g c =
-    inr (end_seen g.S.Source.to_come g.S.Source.reads g.S.Source.failures g.row.N g.T.Row.kinds (slots_by g.T.Row.given g.T.Row.listed) c.scan-in-loop.result.now
+    inr (end_seen g.S.Source.to_come g.S.Source.reads g.S.Source.failures g.row.N g.T.Row.kinds (slots_by g.T.Row.given g.T.Row.listed)
+    c.scan-in-loop.result.now
     c.args.limit c.loop.from c.scan_row_over.new.from c.scan_row_over.result c.in-Err.why c.in-Err.is
     (sym c.is_end.ensures ∙ c.if-is_end.true) c.scan_row_over.ensures.run)
 

@@ -26,5 +26,6 @@ returns-in-Ok-clause-enough g c = by c.args.store.now
     by : (o : Option Kept)
         → IfSome o (λ s. unwrap_or (width_sum c.args.format.now) 0 ≤ capacity_of s → IsErrOf c.row_of-row.result (Start NoMemory) → ⊥)
     by None = tt
-    by (Some s) = λ room e. no_start g.T.Row.kinds (slots_by g.T.Row.given g.T.Row.listed) c.in-Ok.scanned.report c.row_of-row.result c.row_of-row.ensures.report NoMemory
+    by (Some s) = λ room e. no_start g.T.Row.kinds (slots_by g.T.Row.given g.T.Row.listed) c.in-Ok.scanned.report c.row_of-row.result
+        c.row_of-row.ensures.report NoMemory
         e

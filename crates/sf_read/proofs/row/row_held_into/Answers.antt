@@ -10,7 +10,8 @@ from_report-requires-clause-given g c =
     let told = c.in_ok-outcome.ensures.told in
     let report : RunReport = report_by c.in_ok-outcome.outcome (g.K.Store.kept c.held_into.new.store).values in
     rw (c.new-report.ensures)
-    (given g.T.Row.kinds g.T.Row.optional c.args.format.now c.args.limit told.0 told.1 report c.requires.accepted.kinded c.requires.accepted.slots
+    (given g.T.Row.kinds g.T.Row.optional c.args.format.now c.args.limit told.0 told.1 report c.requires.accepted.kinded
+    c.requires.accepted.slots
     c.requires.shape told.2
     c.in_ok-outcome.ensures.done)
 
@@ -18,10 +19,12 @@ pub returns-in-Ok-clause-run : goal.returns-in-Ok-clause-run
 returns-in-Ok-clause-run g c =
     let e = c.in_ok-outcome.ensures in
     let report : RunReport = report_by c.in_ok-outcome.outcome (g.K.Store.kept c.held_into.new.store).values in
-    row_scanned g.S.Source.to_come g.S.Source.reads g.S.Source.failures g.row.N g.T.Row.kinds (slots_by g.T.Row.given g.T.Row.listed) c.args.format.now
+    row_scanned g.S.Source.to_come g.S.Source.reads g.S.Source.failures g.row.N g.T.Row.kinds (slots_by g.T.Row.given g.T.Row.listed)
+    c.args.format.now
     c.args.limit c.args.from.now c.held_into.new.from report _ e.done e.met c.held_into.ensures.no_read e.within e.held (
       e.done,
-      subst (λ (r : RunReport). AreSlotsOf (length g.T.Row.kinds) (slots_by g.T.Row.given g.T.Row.listed c.in-Ok.row) r.values) c.new-report.ensures
+      subst (λ (r : RunReport). AreSlotsOf (length g.T.Row.kinds) (slots_by g.T.Row.given g.T.Row.listed c.in-Ok.row) r.values)
+          c.new-report.ensures
           c.in-Ok.ensures.row,
     )
     e.scan e.told
@@ -30,6 +33,7 @@ pub returns-in-Err-NoMemory-clause-run : goal.returns-in-Err-NoMemory-clause-run
 returns-in-Err-NoMemory-clause-run g c =
     let e = c.in_ok-outcome.ensures in
     let report : RunReport = report_by c.in_ok-outcome.outcome (g.K.Store.kept c.held_into.new.store).values in
-    row_scanned g.S.Source.to_come g.S.Source.reads g.S.Source.failures g.row.N g.T.Row.kinds (slots_by g.T.Row.given g.T.Row.listed) c.args.format.now
+    row_scanned g.S.Source.to_come g.S.Source.reads g.S.Source.failures g.row.N g.T.Row.kinds (slots_by g.T.Row.given g.T.Row.listed)
+    c.args.format.now
     c.args.limit c.args.from.now c.held_into.new.from report _ e.done e.met c.held_into.ensures.no_read e.within e.held e.done
     e.scan e.told

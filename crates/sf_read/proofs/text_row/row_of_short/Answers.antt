@@ -11,7 +11,8 @@ from_report-requires-clause-given g c =
     let e = c.in_ok-outcome.ensures in
     let report : RunReport = report_by c.in_ok-outcome.outcome c.scan_short.new.store.values in
     rw (c.new.ensures)
-    (given g.T.Row.kinds g.T.Row.optional c.args.format.now c.args.limit c.args.text.now End report c.requires.accepted.kinded c.requires.accepted.slots
+    (given g.T.Row.kinds g.T.Row.optional c.args.format.now c.args.limit c.args.text.now End report c.requires.accepted.kinded
+    c.requires.accepted.slots
     c.requires.shape (inl e.run) e.done)
 
 pub returns-in-Ok-clause-run : goal.returns-in-Ok-clause-run
@@ -21,7 +22,8 @@ returns-in-Ok-clause-run g c =
       report = report_by c.in_ok-outcome.outcome c.scan_short.new.store.values;
       answers = (
         e.done,
-        subst (λ (r : RunReport). AreSlotsOf (length g.T.Row.kinds) (slots_by g.T.Row.given g.T.Row.listed c.in-Ok.row) r.values) c.new.ensures
+        subst (λ (r : RunReport). AreSlotsOf (length g.T.Row.kinds) (slots_by g.T.Row.given g.T.Row.listed c.in-Ok.row) r.values)
+            c.new.ensures
             c.in-Ok.ensures.row,
       );
       told = inl e.run;

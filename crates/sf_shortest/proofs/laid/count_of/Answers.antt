@@ -29,7 +29,8 @@ returns-else-n-ten_to-clause-count c =
 pub returns-else-n-ten_to-clause-value : goal.returns-else-n-ten_to-clause-value
 returns-else-n-ten_to-clause-value c =
     let l = c.loop-count in
-    count_is 0 c.args.n l.count (counted c.args.n l.count l.invariant.0 (omega (arith, c.ten_to.ensures.value, c.if-n-ten_to.false)) l.invariant.2)
+    count_is 0 c.args.n l.count (counted c.args.n l.count l.invariant.0 (omega (arith, c.ten_to.ensures.value, c.if-n-ten_to.false))
+    l.invariant.2)
 
 pub returns-else-n-ten_to-clause-below : goal.returns-else-n-ten_to-clause-below
 returns-else-n-ten_to-clause-below c k K h =

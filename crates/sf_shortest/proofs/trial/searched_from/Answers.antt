@@ -8,7 +8,8 @@ returns-in-Some-clause-value c =
     let l = c.loop-decimals in
     let f = searched_found c.args.real (c.most_decimals-most.result - l.decimals) (c.args.cut.first - l.decimals) c.in-Some.n
     (omega (arith, c.loop-decimals-test.true)) (sym c.in-Some.is ∙ c.tried.ensures.value) in
-    sym (ap (λ k. searched c.args.real (k - c.args.from) (c.args.cut.first - c.args.from)) (sym c.most_decimals-most.ensures.value) ∙ l.invariant.1 ∙ f)
+    sym (ap (λ k. searched c.args.real (k - c.args.from) (c.args.cut.first - c.args.from)) (sym c.most_decimals-most.ensures.value) ∙
+    l.invariant.1 ∙ f)
 
 pub loop-decimals-preserved : goal.loop-decimals-preserved
 loop-decimals-preserved c =
@@ -28,6 +29,7 @@ returns-clause-value c =
     let z : most - l.decimals ≡ 0 = omega arith in
     let f = searched_last c.args.real (most - l.decimals) (c.args.cut.first - l.decimals) z in
     let n = c.sides.ensures.near (number_of c.args.real) c.requires.cut in
-    let whole = ap (λ k. searched c.args.real (k - c.args.from) (c.args.cut.first - c.args.from)) (sym c.most_decimals-most.ensures.value) ∙ l.invariant.1 ∙ f in
+    let whole = ap (λ k. searched c.args.real (k - c.args.from) (c.args.cut.first - c.args.from)) (sym c.most_decimals-most.ensures.value) ∙
+    l.invariant.1 ∙ f in
     (λ i. (n i, c.args.cut.first - most))
     ∙ sym (whole ∙ ap (λ (d : ℕ). (near (number_of c.args.real) (c.args.cut.first - d), c.args.cut.first - d)) e)

@@ -56,7 +56,8 @@ returns-clause-near c x z =
     let t = c.args.cut.twice in
     let d = 2 * 10 ^ (16 - k) in
     let y = rw c.ten_to-half.ensures.value at (c.if-is_nearer_below.ensures.no refl) in
-    rw c.ten_to-half.ensures.value (sym (near_high x c.args.cut.first t k (t / d) (t % d) c.args.cut.lost c.requires.few.0 c.requires.few.1 z
+    rw c.ten_to-half.ensures.value (sym (near_high x c.args.cut.first t k (t / d) (t % d) c.args.cut.lost c.requires.few.0 c.requires.few.1
+    z
     (sym (div-add-mod' t d)) (mod-lt t (omega (arith, some k))) y))
 
 pub returns-clause-other : goal.returns-clause-other

@@ -9,7 +9,8 @@ use Rattle.sf_float_item.proofs.scan.FloatScan.take_run.Goals as goal
 -- with the digits ahead
 ahead : (r s : Reached) (piece : List ℕ) (at k : ℕ) → read (Some r) (take at piece) ≡ Some s
     → read (Some s) (take k (take (length piece - at) (drop at piece))) ≡ Some s → read (Some r) (take (at + k) piece) ≡ Some s
-ahead r s piece at k p q = read_further r s s piece at k p (subst (λ (t : List ℕ). read (Some s) (take k t) ≡ Some s) (take_rest piece at) q)
+ahead r s piece at k p q = read_further r s s piece at k p
+    (subst (λ (t : List ℕ). read (Some s) (take k t) ≡ Some s) (take_rest piece at) q)
 
 pub returns-then-at-piece-clause-read : goal.returns-then-at-piece-clause-read
 returns-then-at-piece-clause-read c =

@@ -9,7 +9,8 @@ use Rattle.sf_loops.proofs.items.LineItemsIterator.next.Goals as goal
 pub returns-in-Ok-Some-clause-steps : goal.returns-in-Ok-Some-clause-steps
 returns-in-Ok-Some-clause-steps g c =
     let left : c.self.inside.left ≡ c.args.self.now.left = ap (λ (r : LinesLeft g.row.S.Denot). r.left) c.self.view_is in (
-      line_row_by g.S.Source.to_come g.S.Source.reads g.S.Source.failures g.row.N g.T.Row.kinds (slots_by g.T.Row.given g.T.Row.listed) _ _ _ _ _
+      line_row_by g.S.Source.to_come g.S.Source.reads g.S.Source.failures g.row.N g.T.Row.kinds (slots_by g.T.Row.given g.T.Row.listed) _ _
+          _ _ _
           (ap (λ (r : LinesLeft g.row.S.Denot). r.now) c.self.view_is) c.in-Ok-Some.field-0-is
           (record { over = c.in-Ok-Some.ensures.over; next = c.in-Ok-Some.ensures.next }),
       omega (arith, left, c.if-self-eq0.false),
@@ -17,7 +18,8 @@ returns-in-Ok-Some-clause-steps g c =
 
 pub returns-in-Ok-None-clause-steps : goal.returns-in-Ok-None-clause-steps
 returns-in-Ok-None-clause-steps g c = inr (
-  line_row_by g.S.Source.to_come g.S.Source.reads g.S.Source.failures g.row.N g.T.Row.kinds (slots_by g.T.Row.given g.T.Row.listed) _ _ _ _ _
+  line_row_by g.S.Source.to_come g.S.Source.reads g.S.Source.failures g.row.N g.T.Row.kinds (slots_by g.T.Row.given g.T.Row.listed) _ _ _ _
+      _
       (ap (λ (r : LinesLeft g.row.S.Denot). r.now) c.self.view_is) c.in-Ok-None.field-0-is
       (record { over = c.in-Ok-None.ensures.over; next = c.in-Ok-None.ensures.next }),
   refl,
@@ -25,7 +27,8 @@ returns-in-Ok-None-clause-steps g c = inr (
 
 pub returns-in-Err-clause-steps : goal.returns-in-Err-clause-steps
 returns-in-Err-clause-steps g c = (
-  line_answers_by g.S.Source.to_come g.S.Source.reads g.S.Source.failures g.row.N g.T.Row.kinds (slots_by g.T.Row.given g.T.Row.listed) _ _ _ _
+  line_answers_by g.S.Source.to_come g.S.Source.reads g.S.Source.failures g.row.N g.T.Row.kinds (slots_by g.T.Row.given g.T.Row.listed) _ _
+      _ _
       (ap (λ (r : LinesLeft g.row.S.Denot). r.now) c.self.view_is)
       (record { over = c.in-Err.ensures.over; next = c.in-Err.ensures.next }),
   c.left_after-left.ensures.left

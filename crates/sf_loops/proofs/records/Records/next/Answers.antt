@@ -17,7 +17,8 @@ invariant_of-self-in-Ok g c = subst (HasShape g.T.Row.kinds g.T.Row.optional) (s
 
 pub invariant_of-self-in-Err-NoMemory : goal.invariant_of-self-in-Err-NoMemory
 invariant_of-self-in-Err-NoMemory g c =
-    subst (HasShape g.T.Row.kinds g.T.Row.optional) (sym (ap (λ (l : Loop g.row.S.Denot). l.format) c.refuse_row.ensures.over ∙ c.advance.ensures.format))
+    subst (HasShape g.T.Row.kinds g.T.Row.optional) (sym (ap (λ (l : Loop g.row.S.Denot). l.format) c.refuse_row.ensures.over ∙
+    c.advance.ensures.format))
     c.self.invariant
 
 pub from_report-requires-clause-done : goal.from_report-requires-clause-done
@@ -30,12 +31,14 @@ pub from_report-requires-clause-given : goal.from_report-requires-clause-given
 from_report-requires-clause-given g c =
     let there : c.advance.result ≡ Ok true = c.in-Ok-true.is ∙ ap Ok c.in-Ok-true.field-0-test in
     subst (λ (r : RunReport). AreGivenAs g.T.Row.kinds g.T.Row.optional r.values) (sym c.report.ensures.value)
-    (given_row g.T.Row.kinds g.T.Row.optional c.self.inside.reports c.advance.new.self c.advance.result c.advance.ensures.over c.advance.ensures.next there
+    (given_row g.T.Row.kinds g.T.Row.optional c.self.inside.reports c.advance.new.self c.advance.result c.advance.ensures.over
+    c.advance.ensures.next there
     c.advance.ensures.format c.report.ensures.accepted c.self.invariant)
 
 pub returns-in-Ok-false-clause-next : goal.returns-in-Ok-false-clause-next
 returns-in-Ok-false-clause-next g c =
-    as_row g.S.Source.to_come g.S.Source.reads g.S.Source.failures g.row.N g.T.Row.kinds (slots_by g.T.Row.given g.T.Row.listed) c.self.inside.reports
+    as_row g.S.Source.to_come g.S.Source.reads g.S.Source.failures g.row.N g.T.Row.kinds (slots_by g.T.Row.given g.T.Row.listed)
+    c.self.inside.reports
     c.args.self.now
     c.advance.new.self c.advance.new.self c.advance.result (Ok None) c.self.view_is c.advance.ensures.next
     (subst (λ r. RowAnswers g.T.Row.kinds (slots_by g.T.Row.given g.T.Row.listed) c.advance.new.self c.advance.new.self r (Ok None))
@@ -43,30 +46,37 @@ returns-in-Ok-false-clause-next g c =
 
 pub returns-in-Err-clause-next : goal.returns-in-Err-clause-next
 returns-in-Err-clause-next g c =
-    as_row g.S.Source.to_come g.S.Source.reads g.S.Source.failures g.row.N g.T.Row.kinds (slots_by g.T.Row.given g.T.Row.listed) c.self.inside.reports
+    as_row g.S.Source.to_come g.S.Source.reads g.S.Source.failures g.row.N g.T.Row.kinds (slots_by g.T.Row.given g.T.Row.listed)
+    c.self.inside.reports
     c.args.self.now
     c.advance.new.self c.advance.new.self c.advance.result (Err c.in-Err.fault) c.self.view_is c.advance.ensures.next
-    (subst (λ r. RowAnswers g.T.Row.kinds (slots_by g.T.Row.given g.T.Row.listed) c.advance.new.self c.advance.new.self r (Err c.in-Err.fault)) (sym c.in-Err.is)
+    (subst (λ r. RowAnswers g.T.Row.kinds (slots_by g.T.Row.given g.T.Row.listed) c.advance.new.self c.advance.new.self r
+    (Err c.in-Err.fault)) (sym c.in-Err.is)
     (refl, refl))
 
 pub returns-in-Ok-clause-next : goal.returns-in-Ok-clause-next
 returns-in-Ok-clause-next g c =
-    as_row g.S.Source.to_come g.S.Source.reads g.S.Source.failures g.row.N g.T.Row.kinds (slots_by g.T.Row.given g.T.Row.listed) c.self.inside.reports
+    as_row g.S.Source.to_come g.S.Source.reads g.S.Source.failures g.row.N g.T.Row.kinds (slots_by g.T.Row.given g.T.Row.listed)
+    c.self.inside.reports
     c.args.self.now
     c.advance.new.self c.advance.new.self c.advance.result (Ok (Some c.in-Ok.row)) c.self.view_is c.advance.ensures.next
-    (subst (λ r. RowAnswers g.T.Row.kinds (slots_by g.T.Row.given g.T.Row.listed) c.advance.new.self c.advance.new.self r (Ok (Some c.in-Ok.row)))
+    (subst (λ r. RowAnswers g.T.Row.kinds (slots_by g.T.Row.given g.T.Row.listed) c.advance.new.self c.advance.new.self r
+    (Ok (Some c.in-Ok.row)))
     (sym (c.in-Ok-true.is ∙ ap Ok c.in-Ok-true.field-0-test)) (
       refl,
-      subst (λ (r : RunReport). AreSlotsOf (length g.T.Row.kinds) (slots_by g.T.Row.given g.T.Row.listed c.in-Ok.row) r.values) c.report.ensures.value
+      subst (λ (r : RunReport). AreSlotsOf (length g.T.Row.kinds) (slots_by g.T.Row.given g.T.Row.listed c.in-Ok.row) r.values)
+          c.report.ensures.value
           c.in-Ok.ensures.row,
     ))
 
 pub returns-in-Err-NoMemory-clause-next : goal.returns-in-Err-NoMemory-clause-next
 returns-in-Err-NoMemory-clause-next g c =
-    as_row g.S.Source.to_come g.S.Source.reads g.S.Source.failures g.row.N g.T.Row.kinds (slots_by g.T.Row.given g.T.Row.listed) c.self.inside.reports
+    as_row g.S.Source.to_come g.S.Source.reads g.S.Source.failures g.row.N g.T.Row.kinds (slots_by g.T.Row.given g.T.Row.listed)
+    c.self.inside.reports
     c.args.self.now
     c.advance.new.self c.refuse_row.new.self c.advance.result (Err c.refuse_row.result) c.self.view_is c.advance.ensures.next
-    (subst (λ r. RowAnswers g.T.Row.kinds (slots_by g.T.Row.given g.T.Row.listed) c.advance.new.self c.refuse_row.new.self r (Err c.refuse_row.result))
+    (subst (λ r. RowAnswers g.T.Row.kinds (slots_by g.T.Row.given g.T.Row.listed) c.advance.new.self c.refuse_row.new.self r
+    (Err c.refuse_row.result))
     (sym (c.in-Ok-true.is ∙ ap Ok c.in-Ok-true.field-0-test)) (c.refuse_row.ensures.fault, c.refuse_row.ensures.over))
 
 pub returns-in-Ok-false-clause-over : goal.returns-in-Ok-false-clause-over
