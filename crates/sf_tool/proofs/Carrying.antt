@@ -26,12 +26,12 @@ use Rattle.sf_records.specs.Forms.{writing}
 use Rattle.sf_records.specs.form.OutputForm.{OutputForm}
 use Rattle.sf_arguments.specs.declared.word_reading.WordReading.{WordReading}
 use Rattle.sf_jobs.specs.Commands.{CarriesOut, CarriesOutBy, Copies, CopiesBoth, CopiesWords, IsRefusedText, ScansAs, ScansBy, ScansForm, ScansPrint, ScansPrintWords, ScansText, ScansUnder, ScansWord, Unread, form_of, grammar_of, reading_of}
-use Rattle.sf_jobs.specs.CopyFormats.{line_format}
+use Rattle.sf_jobs.specs.CopyFormats.{line_of}
 use Rattle.sf_jobs.specs.declared.copy_formats.CopyFormats.{CopyFormats}
 use Rattle.sf_records.specs.Copies.{copying}
 use Rattle.sf_tool.specs.Copies.{CopiesPair, CopiesTexts, line_options}
 use Rattle.sf_tool.specs.Exits.{DoesOrder, EndsCopies, EndsLines, EndsScans, unread_of}
-use Rattle.sf_tool.specs.Fronts.{file_name}
+use Rattle.sf_console.specs.Fronts.{file_name}
 use Rattle.sf_tool.specs.Lines.{RunsForm, RunsLines, RunsUnder, RunsWriting, ScansLines, scanning}
 use Rattle.sf_jobs.specs.declared.writing.Writing.{Writing}
 use Rattle.sf_jobs.specs.declared.writing.Writing.TheVariants.{Form, Print}
@@ -447,8 +447,8 @@ module _ {T S K E : Type 0} (f : T → S) (to_come : S → Option (List ℕ)) (f
     (
       copied.0,
       copied.1,
-      runs_lines (λ number ds. copying formats.print formats.scan) (line_options options formats) limit [] (line_format formats ∷ [])
-          copied.0 from from' out out' err err' answer copied.2,
+      runs_lines (λ number ds. copying formats.print formats.scan.format) (line_options options formats) limit []
+          ((line_of formats).format ∷ []) copied.0 from from' out out' err err' answer copied.2,
     ),
   )
 

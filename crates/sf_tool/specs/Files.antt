@@ -7,10 +7,11 @@ use Rattle.sf_messages.specs.Texts.{status_of}
 use Rattle.sf_words.specs.declared.order.Order.{Order}
 use Rattle.sf_words.specs.declared.order.WordsFault.{WordsFault}
 use Rattle.sf_jobs.specs.Answers.{Answer}
-use Rattle.sf_tool.specs.Exits.{Declines, DoesOn, exit_of, is_explained}
-use Rattle.sf_tool.specs.Fronts.{file_name, in_front}
+use Rattle.sf_tool.specs.Exits.{Declines, DoesOn, is_explained}
+use Rattle.sf_console.specs.Ends.{exit_of}
+use Rattle.sf_console.specs.Fronts.{file_name, in_front}
 use Rattle.sf_reasons.specs.Faults.{IsWithReason, is_read_fault}
-use Rattle.sf_tool.specs.Saying.{Says}
+use Rattle.sf_console.specs.Saying.{Says}
 use Rattle.sf_tool.specs.declared.files.Turn.{Turn}
 
 -- the scan goes on after a line that failed

@@ -1,6 +1,5 @@
 -- What the program writes and answers, on writers for its output and its error output.
 use Rattle.std.specs.Prelude.{◌≡◌, ◌⊎◌, ℕ, zero, suc, Bool, true, false, List, [], Option, Result, Ok, Err}
-use Rattle.std.specs.Io.KnownBytes.{Keeps}
 use Rattle.std.specs.declared.io.Error.{Error}
 use Rattle.std.specs.declared.io.traits.Write as write
 use Rattle.sf_blocks.specs.declared.block_sink.BlockSink.{BlockSink}
@@ -14,11 +13,8 @@ use Rattle.sf_tool.specs.declared.program.Terminals.{Terminals}
 use Rattle.sf_tool.specs.Exits.{IsRead, is_explained}
 use Rattle.sf_tool.specs.Files.{RunsAsked}
 use Rattle.sf_reasons.specs.Faults.{IsWithReason, is_unheard}
-use Rattle.sf_tool.specs.Saying.{SaysText}
-
--- what waits is handed on, as far as the writer takes it: all that was taken stays so, and no write has failed
-abbrev pub HandsOn : {W : Type 0} {w : write.Ghosts W} → BlockSink W w → BlockSink W w → Type 0
-HandsOn before after = Keeps (taken_by before) (taken_by after) × (write_failures after ≡ write_failures before)
+use Rattle.sf_console.specs.Saying.{SaysText}
+use Rattle.sf_console.specs.Hands.{HandsOn}
 
 -- somebody waits for each record: the output is a terminal, or the words say so
 abbrev pub IsAwaited : Bool → Result Order WordsFault → Type 0

@@ -2,13 +2,10 @@
 ghost use Rattle.std.specs.Prelude.{◌≡◌, ◌≤◌, ℕ, Bool, false, List, [], Some, IsSome, length, map, max, string_bytes};
 ghost use Rattle.sf_words.specs.Orders.{HasTextsFor};
 ghost use Rattle.sf_tool.specs.Files.{EndsFile, RunsFile, RunsFiles, RunsInputs, keeps_going, turn_of};
-ghost use Rattle.sf_tool.specs.Fronts.{file_name};
+ghost use Rattle.sf_console.specs.Fronts.{file_name};
 
-use crate::console::Console;
-use crate::error_output::tell;
-use crate::fronts::file_name;
-use crate::invocation::{exit_of, is_explained, run_source};
-use crate::reasons::Reasons;
+use crate::invocation::{is_explained, run_source};
+use sf_console::{Console, Reasons, exit_of, file_name, tell};
 use sf_messages::CommandFault;
 use sf_print::Sink;
 use sf_reasons::{LastError, is_read_fault, reason_alone};

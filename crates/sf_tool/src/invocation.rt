@@ -1,27 +1,19 @@
 //! One run of the command, from its words to its exit status.
-ghost use Rattle.std.specs.Prelude.{◌≡◌, ◌≤◌, ◌<◌, ◌++◌, ℕ, List, None, Some, Ok, true, false, IfSome, length, map, option_map, string_bytes};
+ghost use Rattle.std.specs.Prelude.{◌≡◌, ◌≤◌, ◌<◌, None, Some, Ok, true, false, length, map, string_bytes};
 ghost use Rattle.sf_words.specs.Orders.{HasTexts, HasTextsFor};
 ghost use Rattle.sf_words.specs.declared.order.Verb.TheVariants.{Copy};
-ghost use Rattle.sf_tool.specs.Exits.{CanRun, Declines, Does, DoesOn, DoesOrder, Ends, EndsCopies, EndsLines, EndsOrder, EndsScans};
-ghost use Rattle.sf_tool.specs.Exits.{Exits, ExitsOn, Helps, IsTwiceLine, SaysFault, SaysNotes, exit_of, is_explained};
-ghost use Rattle.sf_tool.specs.Fronts.{file_name};
-ghost use Rattle.sf_jobs.specs.Heads.{names_text};
-ghost use Rattle.sf_tool.specs.Saying.{Says};
+ghost use Rattle.sf_tool.specs.Exits.{CanRun, Declines, Does, DoesOn, DoesOrder, EndsCopies, EndsLines, EndsRefused, EndsScans};
+ghost use Rattle.sf_tool.specs.Exits.{Exits, ExitsOn, Helps, is_explained};
 
-use crate::console::{Apart, Console};
-use crate::copies::copy_lines;
-use crate::error_output::{say, tell};
-use crate::explain::{Left, notes_of, notes_of_refused};
-use crate::fronts::file_name;
-use crate::lines::{lines_job, scan_lines};
-use crate::reasons::{Lent, Reasons, end_known};
-use sf_jobs::{carry_out, form_of, grammar_of, names_text};
-use sf_makers::Names;
-use sf_messages::{CommandFault, error_line, name_twice_line};
+use crate::copies::copy_by_formats;
+use crate::lines::scan_lines;
+use sf_console::{Apart, Console, Lent, Reasons, end, end_known, exit_of, say};
+use sf_jobs::{RefusedWord, form_of, grammar_of, lines_job, prepare, prepare_copies, run};
+use sf_messages::CommandFault;
+use sf_notes::{Left, notes_of_copies, notes_of_job, notes_of_refused};
 use sf_places::{BLOCK_BYTES, Input, Placed};
 use sf_print::Sink;
 use sf_read::{Lookahead, Source};
-use sf_reasons::file_of;
 use sf_records::write_whole;
 use sf_words::{LineOptions, Notes, Order, Verb, WordsFault, read_words};
 use std::alloc::Global;
@@ -29,113 +21,6 @@ use std::marker::Brand;
 
 /// What was read of the words of a command.
 pub(crate) type Asked = Result<Order, WordsFault>;
-
-/// Hands the error output the notes, if there are any. A fault of it is ignored.
-fn tell_notes<K: Sink, E, C: Console<K, E>>(out: &mut K, err: &mut E, notes: &[u8])
-    ensures { SaysNotes C.Hands C.said C.unsaid notes.now out.old out.new err.old err.new }
-{
-    match notes {
-        [] => {}
-        _ => say::<K, E, C>(out, err, notes),
-    }
-}
-
-/// Ends with this exit status, or says why not in a line on the error output. The notes are said after that. What it
-/// ends with is handed on.
-fn end<K: Sink, E, C: Console<K, E>>(
-    out: &mut K,
-    err: &mut E,
-    answer: Result<u8, CommandFault>,
-    notes: &[u8],
-) -> Result<u8, CommandFault>
-    ensures { Ends C.Hands C.said C.unsaid notes.now answer out.old out.new err.old err.new result }
-{
-    match answer {
-        Ok(status) => {
-            tell_notes::<K, E, C>(out, err, notes);
-            Ok(status)
-        }
-        Err(fault) => {
-            tell::<K, E, C>(out, err, None, error_line(fault).as_str().as_bytes(), notes);
-            Err(fault)
-        }
-    }
-}
-
-/// The line that says the name itself, where the fault is that it stands twice, and memory is there.
-fn named_line(alloc: Global, names: Option<&str>, fault: CommandFault) -> Option<Vec<u8>>
-    ensures { IfSome result (λ line. IsTwiceLine (option_map (λ given. given.now) names.entry) fault line.items) }
-{
-    let CommandFault::NameTwice { number } = fault else {
-        return None;
-    };
-    let Some(text) = names else {
-        return None;
-    };
-    if number == 0 {
-        return None;
-    }
-    let Ok(names) = Names::split(alloc, text) else {
-        return None;
-    };
-    match name_twice_line(alloc, names.name(number)) {
-        Ok(line) => Some(line),
-        Err(_) => None,
-    }
-}
-
-/// Says why an order doesn't end cleanly, in a line on the error output, and the notes after that. Of a fault of the
-/// input, the name of the file stands in front.
-fn tell_fault<K: Sink, E, C: Console<K, E>>(
-    alloc: Global,
-    order: &Order,
-    out: &mut K,
-    err: &mut E,
-    fault: CommandFault,
-    notes: &[u8],
-)
-    ensures { SaysFault C.Hands C.said C.unsaid (names_text order.now) (file_name order.now) notes.now fault
-        out.old out.new err.old err.new }
-{
-    let file = file_of(fault, file_name(order));
-    match named_line(alloc, names_text(order), fault) {
-        Some(line) => tell::<K, E, C>(out, err, file, &line, notes),
-        None => tell::<K, E, C>(out, err, file, error_line(fault).as_str().as_bytes(), notes),
-    }
-}
-
-/// Ends an order, as `end` does.
-pub(crate) fn end_order<K: Sink, E, C: Console<K, E>>(
-    alloc: Global,
-    order: &Order,
-    out: &mut K,
-    err: &mut E,
-    answer: Result<u8, CommandFault>,
-    notes: &[u8],
-) -> Result<u8, CommandFault>
-    ensures { EndsOrder C.Hands C.said C.unsaid order.now notes.now answer out.old out.new err.old err.new result }
-{
-    match answer {
-        Ok(status) => {
-            tell_notes::<K, E, C>(out, err, notes);
-            Ok(status)
-        }
-        Err(fault) => {
-            tell_fault::<K, E, C>(alloc, order, out, err, fault, notes);
-            Err(fault)
-        }
-    }
-}
-
-/// The exit status of an answer.
-pub(crate) fn exit_of(answer: Result<u8, CommandFault>) -> u8
-    ensures { result ≡ exit_of answer }
-{
-    match answer {
-        Ok(status) => status,
-        Err(fault) => fault.status(),
-    }
-}
 
 /// Writes help that was asked for.
 fn help<K: Sink>(text: &str, out: &mut K) -> Result<u8, CommandFault>
@@ -168,6 +53,27 @@ pub(crate) fn decline<K: Sink, E, C: Console<K, E>>(
     }
 }
 
+/// Ends an order of which a word is refused. Why is said after the line, where that is asked for.
+fn end_refused<S, K: Sink, E, C: Console<K, E>, R: Reasons<S>>(
+    alloc: Global,
+    watched: bool,
+    explain: bool,
+    order: &Order,
+    source: &S,
+    out: &mut K,
+    err: &mut E,
+    refused: RefusedWord<'_>,
+) -> Result<u8, CommandFault>
+    ensures { EndsRefused C.Hands C.said C.unsaid watched explain (R.why_unread source.now) (C.why out.old) order.now
+        refused.entry.word.now refused.entry.fault out.old out.new err.old err.new result }
+{
+    let notes = notes_of_refused(alloc, explain, refused);
+    let answer = Err(refused.fault);
+    end_known::<S, K, E, C, R>(
+        alloc, watched, explain, order, source, out, err, answer, &notes,
+    )
+}
+
 /// Copies lines by an order, and says why the command doesn't end cleanly where it doesn't.
 fn end_copies<S: Source, K: Sink, E, C: Console<K, E>, R: Reasons<S>, const N: usize>(
     alloc: Global,
@@ -180,20 +86,33 @@ fn end_copies<S: Source, K: Sink, E, C: Console<K, E>, R: Reasons<S>, const N: u
     err: &mut E,
 ) -> Result<u8, CommandFault>
     requires limit { order.now.limit ≤ 2147483647 }
+    requires copy { order.now.verb ≡ Copy }
     requires texts { HasTexts Copy (map string_bytes order.now.texts.items) }
     ensures { EndsCopies K.contents K.failures C.Hands C.said C.unsaid S.to_come S.failures R.why_unread C.why watched
         explain options order.now from.old from.new out.old out.new err.old err.new result }
 {
-    let answer = copy_lines::<S, K, E, C, N>(alloc, explain, order, options, from, out, err);
-    let left = Left {
-        place: None,
-        held: &[],
-    };
-    let notes = notes_of(alloc, explain, order, left, answer);
-    let source = from.source();
-    end_known::<S, K, E, C, R>(
-        alloc, watched, explain, order, source, out, err, answer, &notes,
-    )
+    match prepare_copies(alloc, order) {
+        Ok(formats) => {
+            let answer = copy_by_formats::<S, K, E, C, N>(
+                alloc, explain, &formats, order, options, from, out, err,
+            );
+            let notes = notes_of_copies(alloc, explain, order, &formats, answer);
+            let source = from.source();
+            end_known::<S, K, E, C, R>(
+                alloc, watched, explain, order, source, out, err, answer, &notes,
+            )
+        }
+        Err(refused) => end_refused::<S, K, E, C, R>(
+            alloc,
+            watched,
+            explain,
+            order,
+            from.source(),
+            out,
+            err,
+            refused,
+        ),
+    }
 }
 
 /// Scans lines by an order, and says why the command doesn't end cleanly where it doesn't.
@@ -231,14 +150,16 @@ fn end_scans<S: Source, K: Sink, E, C: Console<K, E>, R: Reasons<S>, const N: us
                 &[],
             )
         }
-        Err(refused) => {
-            let notes = notes_of_refused(alloc, explain, refused);
-            let source = from.source();
-            let answer = Err(refused.fault);
-            end_known::<S, K, E, C, R>(
-                alloc, watched, explain, order, source, out, err, answer, &notes,
-            )
-        }
+        Err(refused) => end_refused::<S, K, E, C, R>(
+            alloc,
+            watched,
+            explain,
+            order,
+            from.source(),
+            out,
+            err,
+            refused,
+        ),
     }
 }
 
@@ -268,6 +189,47 @@ fn end_lines<S: Source, K: Sink, E, C: Console<K, E>, R: Reasons<S>, const N: us
     }
 }
 
+/// Does what an order of records asks for, and says why the command doesn't end cleanly where it doesn't.
+fn run_records<S: Source, K: Sink, E, C: Console<K, E>, R: Reasons<S>, const N: usize>(
+    alloc: Global,
+    watched: bool,
+    explain: bool,
+    order: &Order,
+    from: &mut Lookahead<S, N>,
+    out: &mut K,
+    err: &mut E,
+) -> Result<u8, CommandFault>
+    requires limit { order.now.limit ≤ 2147483647 }
+    requires texts { HasTexts order.now.verb (map string_bytes order.now.texts.items) }
+    ensures { DoesOrder K.contents K.failures C.Hands C.said C.unsaid S.to_come S.failures R.why_unread C.why watched
+        explain None order.now None from.old from.new out.old out.new err.old err.new result }
+{
+    match prepare(alloc, order) {
+        Ok(job) => {
+            let answer = run(alloc, &job, order, from, out);
+            let left = Left {
+                place: None,
+                held: from.held(),
+            };
+            let notes = notes_of_job(alloc, explain, order, &job, left, answer);
+            let source = from.source();
+            end_known::<S, K, E, C, R>(
+                alloc, watched, explain, order, source, out, err, answer, &notes,
+            )
+        }
+        Err(refused) => end_refused::<S, K, E, C, R>(
+            alloc,
+            watched,
+            explain,
+            order,
+            from.source(),
+            out,
+            err,
+            refused,
+        ),
+    }
+}
+
 /// Does what an order asks for on what the lookahead holds and its source gives. The place in the input isn't told, as
 /// what was used of it before isn't known.
 fn run_order<S: Source, K: Sink, E, C: Console<K, E>, R: Reasons<S>, const N: usize>(
@@ -286,18 +248,7 @@ fn run_order<S: Source, K: Sink, E, C: Console<K, E>, R: Reasons<S>, const N: us
         from.old from.new out.old out.new err.old err.new result }
 {
     match order.lines {
-        None => {
-            let answer = carry_out(alloc, order, from, out);
-            let left = Left {
-                place: None,
-                held: from.held(),
-            };
-            let notes = notes_of(alloc, explain, order, left, answer);
-            let source = from.source();
-            end_known::<S, K, E, C, R>(
-                alloc, watched, explain, order, source, out, err, answer, &notes,
-            )
-        }
+        None => run_records::<S, K, E, C, R, N>(alloc, watched, explain, order, from, out, err),
         Some(options) => end_lines::<S, K, E, C, R, N>(
             alloc, watched, explain, order, options, from, out, err,
         ),
@@ -376,11 +327,19 @@ fn run_placed<S: Source, K: Sink, E, C: Console<K, E> + Reasons<S>, I: Input>(
     ensures { DoesOn K.contents K.failures C.Hands C.said C.unsaid S.to_come S.failures C.why_unread C.why watched
         (Ok order.now) from.old out.old out.new err.old err.new result }
 {
+    let job = match prepare(alloc, order) {
+        Ok(job) => job,
+        Err(refused) => {
+            return end_refused::<S, K, E, C, C>(
+                alloc, watched, true, order, from, out, err, refused,
+            );
+        }
+    };
     let mut ahead = Lookahead::<Placed<&mut S, I>, BLOCK_BYTES>::new(Placed::new(from));
-    let answer = carry_out(alloc, order, &mut ahead, out);
+    let answer = run(alloc, &job, order, &mut ahead, out);
     let held = ahead.held();
     let place = ahead.source().place_before(held);
-    let notes = notes_of(alloc, true, order, Left { place, held }, answer);
+    let notes = notes_of_job(alloc, true, order, &job, Left { place, held }, answer);
     let source = &**ahead.source().source();
     end_known::<S, K, E, C, C>(
         alloc, watched, true, order, source, out, err, answer, &notes,

@@ -1,17 +1,12 @@
 //! The command `sf`: records scanned from an input, a line for each; and words printed by a format.
 #![tactic(auto)]
 
-mod console;
 mod copies;
-mod error_output;
-mod explain;
 mod files;
-mod fronts;
 mod invocation;
 pub mod laws;
 mod lines;
 mod program;
-mod reasons;
 
 pub use files::{Opened, Opener};
 pub use invocation::{run_words, tool};

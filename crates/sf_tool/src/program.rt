@@ -4,13 +4,14 @@ ghost use Rattle.sf_blocks.specs.Blocks.{faults_of, handed_to, has_failed_flush,
 ghost use Rattle.sf_messages.specs.Texts.{error_line};
 ghost use Rattle.sf_tool.specs.Exits.{CanRun};
 ghost use Rattle.sf_tool.specs.Files.{RunsAsked};
-ghost use Rattle.sf_tool.specs.Programs.{Closes, HandsOn, IsAwaited, Reports, RunsOn, RunsProgram, SaysUnwritten, is_explained_by};
-ghost use Rattle.sf_tool.specs.Saying.{SaysText};
+ghost use Rattle.sf_tool.specs.Programs.{Closes, IsAwaited, Reports, RunsOn, RunsProgram, SaysUnwritten, is_explained_by};
+ghost use Rattle.sf_console.specs.Hands.{HandsOn};
+ghost use Rattle.sf_console.specs.Saying.{SaysText};
 
-use crate::console::InOrder;
 use crate::files::{Opener, run_inputs};
-use crate::invocation::{Asked, decline, exit_of, is_explained};
+use crate::invocation::{Asked, decline, is_explained};
 use sf_blocks::{BlockSink, Unblocked};
+use sf_console::{InOrder, exit_of};
 use sf_messages::{CommandFault, error_line};
 use sf_reasons::{LastError, is_unheard, with_reason};
 use sf_records::write_whole;

@@ -1,23 +1,63 @@
-use Rattle.std.proofs.Common.{◌≡◌, ◌∙◌, ◌++◌, ℕ, List, Some, Ok, true, ap, subst, sym}
+use Rattle.std.proofs.Common.{◌≡◌, ◌∙◌, ◌++◌, ℕ, List, None, Some, Ok, Err, true, ap, map, string_bytes, subst, sym}
 use Rattle.std.specs.Prelude.{IfSome}
 use Rattle.sf_places.specs.Behind.{IsBehind}
 use Rattle.sf_read.specs.Ahead.{Ahead}
-use Rattle.sf_tool.specs.Exits.{Does, DoesOrder, EndsKnown, is_explained, unread_of}
-use Rattle.sf_tool.specs.Explains.{SaysMore}
+use Rattle.sf_jobs.specs.Commands.{form_of, grammar_of, reading_of}
+use Rattle.sf_jobs.proofs.Working.{none_does}
+use Rattle.sf_tool.specs.Exits.{Does, DoesOrder, is_explained, unread_of}
+use Rattle.sf_console.specs.Ends.{EndsKnown}
+use Rattle.sf_notes.specs.Explains.{SaysMore}
 use Rattle.sf_tool.proofs.Carrying.{carries, over, over_fresh}
+use Rattle.sf_notes.proofs.Explaining.{more_of_none}
 use Rattle.sf_tool.proofs.Placing.{placed_on}
 use Rattle.sf_tool.proofs.invocation.run_placed.Goals as goal
 
+-- a word is refused
+pub returns-in-Err : goal.returns-in-Err
+returns-in-Err g c =
+    let order = c.args.order.now in
+    let watched = c.args.watched in
+    let fault = c.in-Err.refused.fault in
+    let word = c.in-Err.refused.word.now in
+    let none = c.in-Err.ensures.err in
+    let to_come = g.S.Source.to_come in
+    let faults = g.S.Source.failures in
+    let taken = g.K.Sink.contents in
+    let unwritten = g.K.Sink.failures in
+    let hands = g.C.Console.Hands in
+    let said = g.C.Console.said in
+    let unsaid = g.C.Console.unsaid in
+    let unread = g.C.Reasons.why_unread in
+    let why = g.C.Console.why in
+    let out = c.args.out.now in
+    let out' = c.end_refused.new.out in
+    let err = c.args.err.now in
+    let err' = c.end_refused.new.err in
+    let ended = c.end_refused.result in
+    let from = unread_of c.args.from.now in
+    let (notes, says, ends) = c.end_refused.ensures in
+    let does = none_does to_come faults taken unwritten (grammar_of order.profile) (form_of order.output) (reading_of order.raw) order
+    order.verb (map string_bytes order.texts.items) word fault none from out in
+    let done : DoesOrder taken unwritten hands said unsaid to_come faults unread why watched (is_explained watched order.notes)
+    order.lines order None from from out out' err err' ended =
+    subst (λ e. DoesOrder taken unwritten hands said unsaid to_come faults unread why watched e order.lines order None from from out out'
+    err err' ended) (sym c.requires.explained)
+    (subst (λ lines. DoesOrder taken unwritten hands said unsaid to_come faults unread why watched true lines order None from from out
+    out' err err' ended) (sym c.requires.records)
+    (Err fault, (out, does, (notes, more_of_none true order None from.held notes word fault none says, ends)))) in
+    record { left = from; place = None; done = done; placed = tt }
+
+-- the job is done
 pub returns : goal.returns
 returns g c =
     let order = c.args.order.now in
     let watched = c.args.watched in
     let explain = is_explained watched order.notes in
     let before = c.new-ahead.result in
-    let after = c.carry_out-answer.new.from in
-    let answer = c.carry_out-answer.result in
+    let after = c.run-answer.new.from in
+    let answer = c.run-answer.result in
     let place = c.place_before-place.result in
-    let notes = c.notes_of-notes.result.items in
+    let notes = c.notes_of_job-notes.result.items in
     let to_come = g.S.Source.to_come in
     let faults = g.S.Source.failures in
     let taken = g.K.Sink.contents in
@@ -26,7 +66,7 @@ returns g c =
     let said = g.C.Console.said in
     let unsaid = g.C.Console.unsaid in
     let out = c.args.out.now in
-    let mid = c.carry_out-answer.new.out in
+    let mid = c.run-answer.new.out in
     let out' = c.end_known.new.out in
     let err = c.args.err.now in
     let err' = c.end_known.new.err in
@@ -56,11 +96,11 @@ returns g c =
       answer,
       (
         mid,
-        carries (λ a. a.source.now) to_come faults taken unwritten order before after out mid answer c.carry_out-answer.ensures,
+        carries (λ a. a.source.now) to_come faults taken unwritten order before after out mid answer c.run-answer.ensures.does,
         (
           notes,
           subst (λ held. SaysMore true order place held answer notes)
-              c.held-held.ensures.held c.notes_of-notes.ensures,
+              c.held-held.ensures.held c.notes_of_job-notes.ensures,
           subst (λ told. EndsKnown hands said unsaid watched true (unread after.source.source.now) (unwritten_why mid) order told answer
               mid out' err err' ended) c.deref.ensures.value
               (subst (λ (s : _). EndsKnown hands said unsaid watched true (unread s.now) (unwritten_why mid) order c.deref.result.now

@@ -2,9 +2,12 @@ use Rattle.std.proofs.Common.{◌≡◌, ◌∙◌, ◌++◌, ◌∷◌, [], fal
 use Rattle.std.specs.Prelude.{option_map}
 use Rattle.sf_lines.specs.Telling.{Tells}
 use Rattle.sf_messages.specs.LineTexts.{line_fault_text}
-use Rattle.sf_tool.specs.Fronts.{in_front}
+use Rattle.sf_console.specs.Fronts.{in_front}
 use Rattle.sf_tool.proofs.Lining.{says_more}
 use Rattle.sf_tool.proofs.lines.LineNotesTeller.tell.Goals as goal
+
+pub more_of_line-requires : goal.more_of_line-requires
+more_of_line-requires g c = λ x is. absurd (cc)
 
 pub returns-clause-told : goal.returns-clause-told
 returns-clause-told g c telling says =
