@@ -2,12 +2,14 @@
 //! where a caller can use the law.
 #![tactic(auto)]
 
+mod doubles;
 mod formats;
 mod pairs;
 mod prints;
 mod runs;
 mod scans;
 
+pub use doubles::{double_fits, whole_scan};
 pub use formats::{
     both_profiles, faulted_twice, has_slot, in_their_order, one_profile, parsed_again,
     parsed_and_refused, parsed_twice, print_parsed_twice, spelled_or_faulty,
