@@ -1,4 +1,4 @@
-//! The output and the error output of a command: messages, what waits in the output before them, and how a command ends.
+//! The output and the error output of a command: messages, what waits in the output before them, and how it ends.
 #![tactic(auto)]
 
 mod console;

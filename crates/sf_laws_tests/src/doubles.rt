@@ -17,7 +17,8 @@ use sf_pair::laws::{aligned_is_accepted, aligned_is_whole, finite_doubles_fit, f
 /// Whether a double fits a pair of one conversion: each finite one does, where the conversion writes 17 digits and the
 /// scan has room for them.
 pub fn double_fits(pair: &Pair<'_>, bits: u64) -> bool
-    ensures { (c : PrintConv) (s : Conversion) → conversions pair.now.print ≡ c ∷ [] → assigned_conversions pair.now.scan ≡ s ∷ []
+    ensures { (c : PrintConv) (s : Conversion) → conversions pair.now.print ≡ c ∷ []
+        → assigned_conversions pair.now.scan ≡ s ∷ []
         → length (values_of pair.now.print) ≡ 1 → c.slot ≡ 1 → CarriesDoubles c s
         → float_is_finite (from_bits binary64 bits) ≡ true → result ≡ true }
 {

@@ -64,5 +64,6 @@ returns g c =
     (c.lines_with.ensures line telling last told) in
     let by_how = subst (λ how. runs (record { print = formats.print; scan = formats.scan.format }) how c.from_ref.result.now)
     c.line_options-how.ensures by_pair in
-    let ran = subst (runs (record { print = formats.print; scan = formats.scan.format }) (line_options c.args.options formats)) tried by_how in
+    let ran = subst (runs (record { print = formats.print; scan = formats.scan.format })
+        (line_options c.args.options formats)) tried by_how in
     (telling, says, ran)
