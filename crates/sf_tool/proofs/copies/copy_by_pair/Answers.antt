@@ -65,5 +65,5 @@ returns g c =
     let by_how = subst (λ how. runs (record { print = formats.print; scan = formats.scan.format }) how c.from_ref.result.now)
     c.line_options-how.ensures by_pair in
     let ran = subst (runs (record { print = formats.print; scan = formats.scan.format })
-        (line_options c.args.options formats)) tried by_how in
+    (line_options c.args.options formats)) tried by_how in
     (telling, says, ran)
