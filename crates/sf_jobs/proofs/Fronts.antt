@@ -1,15 +1,15 @@
 -- What a scan format has before a newline at its end.
-use Rattle.std.proofs.Common.{◌≡◌, ◌∙◌, ◌-◌, ◌++◌, ◌≢◌, ℕ, List, Option, Some, None, ap, ap₂, sym, subst, arith, inl, inr, length, take}
-use Rattle.std.specs.Prelude.{is_some}
-use Rattle.std.proofs.Math.Seq.{take-append_seam}
-use Rattle.std.proofs.lemmas.List.{append_cancel_right, length-append}
+use Rattle.std.proofs.Common.{◌≡◌, ◌∙◌, ◌++◌, ◌≢◌, List, ℕ, None, Some, ap, sym, subst, inl, inr}
+use Rattle.std.proofs.lemmas.List.{append_cancel_right}
 use Rattle.sf_format.specs.declared.directive.Directive.{Directive}
 use Rattle.sf_format.specs.declared.directive.Profile.{Profile}
 use Rattle.sf_format.specs.declared.fault.FormatFault.{FormatFault}
+use Rattle.sf_format.specs.declared.fault.FormatWhy.{FormatWhy}
 use Rattle.sf_format.specs.declared.fault.FormatWhy.TheVariants.{NoMemory}
 use Rattle.sf_format.specs.Faults.{IsRefused}
 use Rattle.sf_format.specs.Grammar.{Spells}
-use Rattle.sf_jobs.specs.CopyFormats.{HasFront, IsLineText, IsNoFormat, ReadsLine, newline_end}
+use Rattle.sf_jobs.specs.CopyFormats.{HasFront, IsNoFormat, newline_end}
+use Rattle.sf_jobs.specs.declared.formats.ScanText.{ScanText}
 
 -- a text that is refused, and not for memory, is no format
 pub is_no_format : (profile : Profile) (text : List ℕ) (fault : FormatFault) → fault.why ≢ NoMemory → IsRefused profile text fault
@@ -23,13 +23,11 @@ pub no_front : (profile : Profile) (own front : List ℕ) → own ≡ front ++ n
 no_front profile own front is none other other_is =
     subst (IsNoFormat profile) (append_cancel_right front other newline_end (sym is ∙ other_is)) none
 
--- the bytes by which a line is read
-pub reads_line : (profile : Profile) (own : List ℕ) (front : Option (List Directive)) (text : List ℕ) → HasFront profile own front
-    → IsLineText own (is_some front) text → ReadsLine profile own front text
-reads_line profile own None text has is = (is, has)
-reads_line profile own (Some ds) text (front, ends, spells) is =
-    let size : length own - length newline_end ≡ length front =
-    omega (arith, ap (length {A = ℕ}) ends, length-append front newline_end) in
-    let same : text ≡ front =
-    is ∙ ap₂ (λ n bytes. take n bytes) size ends ∙ take-append_seam front newline_end in
-    (ends ∙ ap (λ bytes. bytes ++ newline_end) (sym same), subst (λ bytes. Spells profile bytes ds) (sym same) spells)
+-- the bytes before the end, which spell a format, and that format
+pub has_front : (profile : Profile) (own front : List ℕ) (ds : List Directive) (scan : ScanText) → own ≡ front ++ newline_end
+    → Spells profile front ds → scan.text.items ≡ front → scan.format ≡ ds → HasFront profile own (Some scan)
+has_front profile own front ds scan is spells bytes format = (
+  is ∙ ap (λ (t : List ℕ). t ++ newline_end) (sym bytes),
+  subst (λ (t : List ℕ). Spells profile t scan.format) (sym bytes) (subst (λ (d : List Directive). Spells profile front d) (sym format)
+      spells),
+)

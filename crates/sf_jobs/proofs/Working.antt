@@ -25,7 +25,7 @@ use Rattle.sf_jobs.specs.declared.formats.ScanText.{ScanText}
 use Rattle.sf_jobs.specs.declared.job.Job.TheVariants as job
 use Rattle.sf_jobs.specs.declared.writing.Writing.TheVariants as written
 use Rattle.sf_jobs.proofs.Answering.{counts_is, print_counts_is, refused_prints, refused_scans, refused_shows, unprinted_is, unread_is, unwritten_is}
-use Rattle.sf_jobs.proofs.Checking.{no_print_counts, no_print_unwritten, no_scan_counts, no_scan_format, no_scan_text, no_scan_unwritten}
+use Rattle.sf_jobs.proofs.Checking.{no_print_counts, no_print_format, no_print_text, no_print_unwritten, no_scan_counts, no_scan_format, no_scan_text, no_scan_unwritten}
 
 -- ---- words that are formats, and words that are none
 
@@ -36,6 +36,12 @@ pub no_scan : (profile : Profile) (word : List ℕ) (fault : CommandFault) → I
 no_scan profile word fault (inl bad) = no_scan_text profile word fault bad
 no_scan profile word fault (inr r) =
     subst (IsNoScanWord profile word) (sym r.is) (no_scan_format profile word r.text r.of r.stands r.refused)
+
+pub no_print : (profile : Profile) (word : List ℕ) (fault : CommandFault) → IsNoPrint profile word fault
+    → IsNoPrintWord profile word fault
+no_print profile word fault (inl bad) = no_print_text profile word fault bad
+no_print profile word fault (inr r) =
+    subst (IsNoPrintWord profile word) (sym r.is) (no_print_format profile word r.text r.of r.stands r.refused)
 
 -- the words after the first
 pub rest_shown : {A : Type 0} (v : A → List ℕ) (xs ys : List A) → xs ≡ ys → map v (drop 1 xs) ≡ drop 1 (map v ys)

@@ -108,6 +108,14 @@ abbrev pub IsOwnFault : Job → CommandFault → Type 0
 IsOwnFault (job.Copy units scan) (Pair fault) = pair_fault units scan.format ≡ Some fault
 IsOwnFault _ _ = Unit {0}
 
+-- the scan format by which records are read, or which is shown or checked
+abbrev pub scan_of : Job → Option ScanText
+scan_of (job.Show scan) = Some scan
+scan_of (job.Scan scan writing) = Some scan
+scan_of (job.Check units scan verdict) = Some scan
+scan_of (job.Copy units scan) = Some scan
+scan_of _ = None
+
 -- ---- orders
 
 abbrev pub IsJob : Order → Job → Type 0

@@ -4,4 +4,5 @@ pub mod Commands
 pub mod CopyFormats
 pub mod Heads
 pub mod Jobs
+pub mod LinesJobs
 pub mod Writings

@@ -4,7 +4,7 @@ ghost use Rattle.sf_words.specs.Orders.{HasTexts};
 ghost use Rattle.sf_words.specs.declared.order.Verb.TheVariants as verb;
 ghost use Rattle.sf_records.specs.form.OutputForm.{OutputForm};
 ghost use Rattle.sf_jobs.specs.Checks.{IsPrintWord};
-ghost use Rattle.sf_jobs.specs.Jobs.{AreNoTwo, IsJob, IsJobBy, IsNoJob, IsNoJobBy, IsScan};
+ghost use Rattle.sf_jobs.specs.Jobs.{AreNoTwo, IsJob, IsJobBy, IsNoJob, IsNoJobBy, IsScan, scan_of};
 
 use crate::check::verdict_of;
 use crate::command::{form_of, grammar_of};
@@ -50,6 +50,21 @@ pub enum Job {
         print: PrintFormat,
         scan: ScanText,
     },
+}
+
+impl Job {
+    /// The scan format by which records are read, or which is shown or checked.
+    pub fn scan(&self) -> Option<&ScanText>
+        ensures { option_map (λ scan. scan.now) result ≡ scan_of self.entry.now }
+    {
+        match self {
+            Job::Show { scan }
+            | Job::Scan { scan, .. }
+            | Job::Check { scan, .. }
+            | Job::Copy { scan, .. } => Some(scan),
+            Job::Print { .. } | Job::Answer { .. } => None,
+        }
+    }
 }
 
 /// The job of `sf show`.
@@ -163,13 +178,13 @@ fn answer_job<'o>(alloc: Global, profile: Profile, word: &'o str) -> Result<Job,
 
 /// Two formats.
 #[derive(Drop)]
-struct Two {
-    print: PrintFormat,
-    scan: ScanText,
+pub(crate) struct Two {
+    pub(crate) print: PrintFormat,
+    pub(crate) scan: ScanText,
 }
 
 /// The formats of two words. The print format is judged first.
-fn two_of<'o>(
+pub(crate) fn two_of<'o>(
     alloc: Global,
     profile: Profile,
     one: &'o str,

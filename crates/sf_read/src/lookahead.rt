@@ -70,6 +70,13 @@ impl<S: Source, const N: usize> Lookahead<S, N> {
         &self.source
     }
 
+    /// The source, given back. What is held is dropped.
+    pub fn into_source(self) -> S
+        ensures { result ≡ self.source }
+    {
+        self.source
+    }
+
     /// Whether the source has told its end; then nothing is held, and nothing is to come.
     pub fn is_at_end(&self) -> bool
         ensures is { result ≡ self.now.at_end }

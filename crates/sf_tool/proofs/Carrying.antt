@@ -1,23 +1,16 @@
 -- What is done on a source that stands for another, as told of that other.
-use Rattle.std.proofs.Common.{◌≡◌, ◌∙◌, ℕ, false, inl, inr, ap, List, [], ◌∷◌, map, option_map, string_bytes, Bool, Option, None, Some, Result, Ok, Err}
+use Rattle.std.proofs.Common.{◌≡◌, ◌∙◌, ℕ, false, inl, inr, ap, List, [], ◌∷◌, map, option_map, string_bytes, Bool, Option, None, Some, Ok, Err}
 use Rattle.std.specs.Prelude.{IfErr}
-use Rattle.std.specs.declared.io.Error.{Error}
 use Rattle.sf_format.specs.declared.directive.Directive.{Directive}
 use Rattle.sf_format.specs.declared.directive.Profile.{Profile}
 use Rattle.sf_format.specs.declared.unit.Unit.{Unit as PrintUnit}
-use Rattle.sf_lines.specs.declared.end.LineFault.{LineFault}
-use Rattle.sf_lines.specs.declared.end.LinesEnd.{LinesEnd}
-use Rattle.sf_lines.specs.Loops.{Loops as LineLoops}
-use Rattle.sf_lines.specs.Turns.{LineWork}
 use Rattle.sf_messages.specs.declared.fault.CommandFault.{CommandFault}
 use Rattle.sf_messages.specs.declared.fault.CommandFault.TheVariants.{BadEscape, Format, PrintFormat, Values, Record, Lines, Write, Memory, Pair, Unprintable, NameCount, NameEmpty, NameTwice}
 use Rattle.sf_messages.specs.declared.fault.FormatName.{FormatName}
-use Rattle.sf_places.specs.declared.place.Place.{Place}
 use Rattle.sf_read.specs.Ahead.{Ahead}
 use Rattle.sf_records.specs.declared.end.ToolEnd.{ToolEnd}
 use Rattle.sf_records.specs.Records.{Loops}
 use Rattle.sf_records.specs.Works.{Work}
-use Rattle.sf_words.specs.declared.order.LineOptions.{LineOptions}
 use Rattle.sf_words.specs.declared.order.Order.{Order}
 use Rattle.sf_words.specs.declared.order.Verb.{Verb}
 use Rattle.sf_words.specs.declared.order.Verb.TheVariants as verb
@@ -26,18 +19,10 @@ use Rattle.sf_records.specs.Forms.{writing}
 use Rattle.sf_records.specs.form.OutputForm.{OutputForm}
 use Rattle.sf_arguments.specs.declared.word_reading.WordReading.{WordReading}
 use Rattle.sf_jobs.specs.Commands.{CarriesOut, CarriesOutBy, Copies, CopiesBoth, CopiesWords, IsRefusedText, ScansAs, ScansBy, ScansForm, ScansPrint, ScansPrintWords, ScansText, ScansUnder, ScansWord, Unread, form_of, grammar_of, reading_of}
-use Rattle.sf_jobs.specs.CopyFormats.{line_format}
-use Rattle.sf_jobs.specs.declared.copy_formats.CopyFormats.{CopyFormats}
-use Rattle.sf_records.specs.Copies.{copying}
-use Rattle.sf_tool.specs.Copies.{CopiesPair, CopiesTexts, line_options}
-use Rattle.sf_tool.specs.Exits.{DoesOrder, EndsCopies, EndsLines, EndsScans, unread_of}
-use Rattle.sf_tool.specs.Fronts.{file_name}
-use Rattle.sf_tool.specs.Lines.{RunsForm, RunsLines, RunsUnder, RunsWriting, ScansLines, scanning}
-use Rattle.sf_jobs.specs.declared.writing.Writing.{Writing}
-use Rattle.sf_jobs.specs.declared.writing.Writing.TheVariants.{Form, Print}
+use Rattle.sf_tool.specs.Exits.{unread_of}
+use Rattle.sf_jobs.specs.declared.writing.Writing.TheVariants.{Print}
 use Rattle.sf_jobs.specs.Heads.{heading_by, is_headed, names_text}
-use Rattle.sf_makers.specs.Forms.{Heading, writing_under}
-use Rattle.sf_makers.specs.Prints.{printing}
+use Rattle.sf_makers.specs.Forms.{Heading}
 use Rattle.sf_jobs.proofs.Results.{if_err, if_ok}
 
 -- what is held, and the source that is stood for
@@ -308,230 +293,3 @@ module _ {T S K : Type 0} (f : T → S) (to_come : S → Option (List ℕ)) (fau
   carries from from' out out' answer h =
       carries_by f to_come faults contents write_faults (grammar_of order.profile) (form_of order.output) (reading_of order.raw) order
       order.verb (map string_bytes order.texts.items) from from' out out' answer h
-
--- ---- lines
-
-module _ {T S K E : Type 0} (f : T → S) (to_come : S → Option (List ℕ)) (faults : S → ℕ) (contents : K → Option (List ℕ))
-    (write_faults : K → ℕ)
-    (said : E → Option (List ℕ)) (unsaid : E → ℕ) where
-  line_loops : (w : LineWork) (t : List ℕ) (now : Ahead T) (n k : ℕ) (before after : Option (List ℕ)) (silent : Bool)
-      (told told' : Option (List ℕ)) (end : LinesEnd)
-      → LineLoops w (λ s. to_come (f s)) t now n k before after silent told told' end
-      → LineLoops w to_come t (over f now) n k before after silent told told' end
-  line_loops w t now n k before after silent told told' end l = record {
-    failed = l.failed;
-    failures_are = l.failures_are;
-    nothing_held = l.nothing_held;
-    consumed = l.consumed;
-    rest = l.rest;
-    turns = l.turns;
-    are = l.are;
-    done = l.done;
-    later = l.later;
-    parts = l.parts;
-    part = l.part;
-    appends = l.appends;
-    tells = l.tells;
-    ends = l.ends;
-  }
-
-  runs_lines : (makes : ℕ → List Directive → Work) (options : LineOptions) (limit : ℕ) (ignored formats : List (List Directive))
-      (telling : ℕ → List ℕ → LineFault → List ℕ) (from from' : Ahead T) (out out' : K) (err err' : E) (answer : Answer)
-      → RunsLines (λ s. to_come (f s))
-      (λ s. faults (f s)) contents write_faults said unsaid makes options limit ignored formats telling from from'
-      out out' err err' answer
-      → RunsLines to_come faults contents write_faults said unsaid makes options limit ignored formats telling (over f from)
-      (over f from') out out' err err' answer
-  unfolding line_loops
-  runs_lines makes options limit ignored formats telling from from' out out' err err' answer r = record {
-    end = r.end;
-    mute = r.mute;
-    tells = λ t is.
-        let told = r.tells t is in (
-          line_loops (scanning makes options limit ignored formats telling) t from' (faults (f from.source)) (faults (f from'.source))
-              (contents out)
-              (contents out') r.mute (said err) (said err') r.end told.0,
-          told.1,
-        );
-    faults = r.faults;
-    status = r.status;
-    answers = r.answers;
-    failures = r.failures;
-  }
-
-  runs_under : (due : Bool) (heading : Heading) (options : LineOptions) (limit : ℕ) (ignored formats : List (List Directive))
-      (telling : ℕ → List ℕ → LineFault → List ℕ) (from from' : Ahead T) (out out' : K) (err err' : E) (answer : Answer)
-      → RunsUnder (λ s. to_come (f s)) (λ s. faults (f s)) contents write_faults said unsaid due heading options limit ignored formats
-      telling from from' out out' err err' answer
-      → RunsUnder to_come faults contents write_faults said unsaid due heading options limit ignored formats telling (over f from)
-      (over f from') out out' err err' answer
-  runs_under due heading options limit ignored formats telling from from' out out' err err' answer r = record {
-    mid = r.mid;
-    wrote = r.wrote;
-    header = r.header;
-    failures = r.failures;
-    scanned = if_ok r.wrote _ _
-        (λ ok ran. runs_lines (writing_under heading) options limit ignored formats telling from from' r.mid out' err err' answer ran)
-        r.scanned;
-    stopped = if_err r.wrote _ _ (λ why h. (h.0, ap (over f) h.1, h.2, h.3)) r.stopped;
-  }
-
-  runs_form : (form : OutputForm) (tagged due : Bool) (names : Option (List ℕ)) (options : LineOptions) (limit : ℕ)
-      (ignored formats : List (List Directive)) (telling : ℕ → List ℕ → LineFault → List ℕ) (from from' : Ahead T) (out out' : K)
-      (err err' : E) (answer : Answer)
-      → RunsForm (λ s. to_come (f s)) (λ s. faults (f s)) contents write_faults said unsaid form tagged due names options limit ignored
-      formats telling from from' out out' err err' answer
-      → RunsForm to_come faults contents write_faults said unsaid form tagged due names options limit ignored formats telling (over f from)
-      (over f from') out out' err err' answer
-  runs_form form tagged due None options limit ignored formats telling from from' out out' err err' answer r =
-      runs_lines (writing_under (heading_by form None tagged)) options limit ignored formats telling from from' out out' err err' answer r
-  runs_form form tagged due (Some names) options limit ignored formats telling from from' out out' err err' answer
-      (inl (unnamed, same, written, silent)) = inl (unnamed, ap (over f) same, written, silent)
-  runs_form form tagged due (Some names) options limit ignored formats telling from from' out out' err err' answer (inr (named, under)) =
-      inr (
-        named,
-        runs_under due (heading_by form (Some names) tagged) options limit ignored formats telling from from' out out' err err'
-            answer under,
-      )
-
-  runs_writing : (tagged due : Bool) (names : Option (List ℕ)) (how : Writing) (options : LineOptions) (limit : ℕ)
-      (ignored formats : List (List Directive)) (telling : ℕ → List ℕ → LineFault → List ℕ) (from from' : Ahead T) (out out' : K)
-      (err err' : E) (answer : Answer)
-      → RunsWriting (λ s. to_come (f s)) (λ s. faults (f s)) contents write_faults said unsaid tagged due names how options limit ignored
-      formats telling from from' out out' err err' answer
-      → RunsWriting to_come faults contents write_faults said unsaid tagged due names how options limit ignored formats telling
-      (over f from) (over f from') out out' err err' answer
-  runs_writing tagged due names (Form form) options limit ignored formats telling from from' out out' err err' answer r =
-      runs_form form tagged due names options limit ignored formats telling from from' out out' err err' answer r
-  runs_writing tagged due names (Print units) options limit ignored formats telling from from' out out' err err' answer r =
-      runs_lines (λ number. printing units) options limit ignored formats telling from from' out out' err err' answer r
-
-  scans_lines : (file : Option (List ℕ)) (due : Bool) (profile : Profile) (form : OutputForm) (tagged : Bool)
-      (names print : Option (List ℕ)) (options : LineOptions)
-      (explain : Bool) (limit : ℕ)
-      (passed words : List (List ℕ))
-      (from from' : Ahead T) (out out' : K) (err err' : E) (answer : Answer)
-      → ScansLines (λ s. to_come (f s))
-      (λ s. faults (f s)) contents write_faults said unsaid file due profile form tagged names print options explain limit
-      passed words from from' out out' err err' answer
-      → ScansLines to_come faults contents write_faults said unsaid file due profile form tagged names print options explain limit passed
-      words
-      (over f from)
-      (over f from') out out' err err' answer
-  scans_lines file due profile form tagged names print options explain limit passed words from from' out out' err err' answer
-      (inl (bad, same, written, silent)) = inl (bad, ap (over f) same, written, silent)
-  scans_lines file due profile form tagged names print options explain limit passed words from from' out out' err err' answer
-      (inr (writing, ignored, formats, telling, so, pass, are, suits, is, r)) = inr (
-        writing,
-        ignored,
-        formats,
-        telling,
-        so,
-        pass,
-        are,
-        suits,
-        is,
-        runs_writing tagged due names writing options limit ignored formats telling from from' out out' err err' answer r,
-      )
-
-  copies_pair : (file : Option (List ℕ)) (profile : Profile) (options : LineOptions) (explain : Bool) (limit : ℕ) (formats : CopyFormats)
-      (from from' : Ahead T) (out out' : K) (err err' : E) (answer : Answer)
-      → CopiesPair (λ s. to_come (f s)) (λ s. faults (f s)) contents write_faults said unsaid file profile options explain limit formats
-      from from' out out' err err' answer
-      → CopiesPair to_come faults contents write_faults said unsaid file profile options explain limit formats (over f from)
-      (over f from') out out' err err' answer
-  copies_pair file profile options explain limit formats from from' out out' err err' answer (inl (bad, same, written, silent)) =
-      inl (bad, ap (over f) same, written, silent)
-  copies_pair file profile options explain limit formats from from' out out' err err' answer (inr (aligned, copied)) = inr (
-    aligned,
-    (
-      copied.0,
-      copied.1,
-      runs_lines (λ number ds. copying formats.print formats.scan) (line_options options formats) limit [] (line_format formats ∷ [])
-          copied.0 from from' out out' err err' answer copied.2,
-    ),
-  )
-
-  copies_texts : (file : Option (List ℕ)) (profile : Profile) (options : LineOptions) (explain : Bool) (limit : ℕ)
-      (texts : List (List ℕ)) (from from' : Ahead T) (out out' : K) (err err' : E) (answer : Answer)
-      → CopiesTexts (λ s. to_come (f s)) (λ s. faults (f s)) contents write_faults said unsaid file profile options explain limit texts
-      from from' out out' err err' answer
-      → CopiesTexts to_come faults contents write_faults said unsaid file profile options explain limit texts (over f from)
-      (over f from') out out' err err' answer
-  copies_texts file profile options explain limit [] from from' out out' err err' answer none = absurd none
-  copies_texts file profile options explain limit (print ∷ []) from from' out out' err err' answer none = absurd none
-  copies_texts file profile options explain limit (print ∷ scan ∷ next ∷ more) from from' out out' err err' answer none = absurd none
-  copies_texts file profile options explain limit (print ∷ scan ∷ []) from from' out out' err err' answer
-      (inl (bad, same, written, silent)) = inl (bad, ap (over f) same, written, silent)
-  copies_texts file profile options explain limit (print ∷ scan ∷ []) from from' out out' err err' answer (inr (formats, are, pair)) =
-      inr (formats, are, copies_pair file profile options explain limit formats from from' out out' err err' answer pair)
-
--- ---- the command
-
-module _ {T S K E : Type 0} (f : T → S) (contents : K → Option (List ℕ)) (write_faults : K → ℕ) (hands : K → K → Type 0)
-    (said : E → Option (List ℕ)) (unsaid : E → ℕ) (to_come : S → Option (List ℕ)) (faults : S → ℕ) (unread : S → Option Error)
-    (unwritten : K → Option Error) (watched : Bool) where
-  ends_scans : (explain : Bool) (options : LineOptions) (order : Order) (from from' : Ahead T) (out out' : K) (err err' : E)
-      (ended : Answer)
-      → EndsScans contents write_faults hands said unsaid (λ s. to_come (f s))
-      (λ s. faults (f s)) (λ s. unread (f s)) unwritten watched explain options order from from' out out' err err' ended
-      → EndsScans contents write_faults hands said unsaid to_come faults unread unwritten watched explain options order (over f from)
-      (over f from') out out' err err' ended
-  ends_scans explain options order from from' out out' err err' ended (answer, (mid, (between, done, ends))) = (
-    answer,
-    (
-      mid,
-      (
-        between,
-        scans_lines f to_come faults contents write_faults said unsaid (file_name order) (is_headed order.file) _ _ order.tag
-            (names_text order) _ options explain order.limit _ _ from
-            from' out mid err between answer done,
-        ends,
-      ),
-    ),
-  )
-
-  ends_copies : (explain : Bool) (options : LineOptions) (order : Order) (from from' : Ahead T) (out out' : K) (err err' : E)
-      (ended : Answer)
-      → EndsCopies contents write_faults hands said unsaid (λ s. to_come (f s))
-      (λ s. faults (f s)) (λ s. unread (f s)) unwritten watched explain options order from from' out out' err err' ended
-      → EndsCopies contents write_faults hands said unsaid to_come faults unread unwritten watched explain options order (over f from)
-      (over f from') out out' err err' ended
-  ends_copies explain options order from from' out out' err err' ended (answer, (mid, (between, done, ends))) = (
-    answer,
-    (
-      mid,
-      (
-        between,
-        copies_texts f to_come faults contents write_faults said unsaid (file_name order) _ options explain order.limit _ from
-            from' out mid err between answer done,
-        ends,
-      ),
-    ),
-  )
-
-  ends_lines : (explain : Bool) (options : LineOptions) (order : Order) (verb : Verb) (from from' : Ahead T) (out out' : K)
-      (err err' : E) (ended : Answer)
-      → EndsLines contents write_faults hands said unsaid (λ s. to_come (f s))
-      (λ s. faults (f s)) (λ s. unread (f s)) unwritten watched explain options order verb from from' out out' err err' ended
-      → EndsLines contents write_faults hands said unsaid to_come faults unread unwritten watched explain options order verb (over f from)
-      (over f from') out out' err err' ended
-  ends_lines explain options order verb.Scan from from' out out' err err' ended done =
-      ends_scans explain options order from from' out out' err err' ended done
-  ends_lines explain options order verb.Copy from from' out out' err err' ended done =
-      ends_copies explain options order from from' out out' err err' ended done
-  ends_lines explain options order verb.Show from from' out out' err err' ended none = absurd none
-  ends_lines explain options order verb.Print from from' out out' err err' ended none = absurd none
-  ends_lines explain options order verb.Check from from' out out' err err' ended none = absurd none
-
-  pub does_order : (explain : Bool) (lines : Option LineOptions) (order : Order) (place : Option Place) (from from' : Ahead T)
-      (out out' : K) (err err' : E)
-      (ended : Answer)
-      → DoesOrder contents write_faults hands said unsaid (λ s. to_come (f s))
-      (λ s. faults (f s)) (λ s. unread (f s)) unwritten watched explain lines order place from from' out out' err err' ended
-      → DoesOrder contents write_faults hands said unsaid to_come faults unread unwritten watched explain lines order place (over f from)
-      (over f from') out out' err err' ended
-  does_order explain None order place from from' out out' err err' ended (answer, (mid, done, more)) =
-      (answer, (mid, carries f to_come faults contents write_faults order from from' out mid answer done, more))
-  does_order explain (Some options) order place from from' out out' err err' ended done =
-      ends_lines explain options order order.verb from from' out out' err err' ended done

@@ -5,4 +5,3 @@ pub mod Filing
 pub mod Lining
 pub mod OneSaid
 pub mod Placing
-pub mod Saying

@@ -1,18 +1,19 @@
--- The formats of lines, read from their words in turn, and what is said and answered of the lines.
-use Rattle.std.proofs.Common.{◌≡◌, ◌∙◌, if◌then◌else◌, ℕ, suc, ◌+◌, ◌<◌, ◌≤◌, true, false, Bool, zero, List, [], ◌∷◌, ◌++◌, length, map, drop, get_or, Option, Some, None, Result, Ok, Err, inl, inr, refl, sym, ap, subst, append_assoc, append-nil, arith}
-use Rattle.std.specs.Prelude.{IfErr, IfOk, slice_get, ◌-◌}
-use Rattle.std.proofs.Math.Seq.{drop-cons}
+-- What is said and answered of the lines.
+use Rattle.std.proofs.Common.{◌≡◌, ◌∙◌, if◌then◌else◌, ℕ, suc, ◌+◌, ◌<◌, true, false, Bool, List, [], ◌∷◌, ◌++◌, length, Option, Some, None, Err, inl, inr, refl, sym, ap, subst, arith, Bor}
+use Rattle.std.specs.Prelude.{slice_get, ◌-◌}
+use Rattle.std.specs.Option.{ForSome, option_copied}
 use Rattle.std.proofs.lemmas.Option.{same_Some}
 use Rattle.sf_format.specs.declared.directive.Directive.{Directive}
 use Rattle.sf_format.specs.declared.directive.Profile.{Profile}
 use Rattle.sf_format.specs.Grammar.{Spells}
 use Rattle.sf_format.specs.Pieces.{text_of}
+use Rattle.sf_format.specs.declared.spans.Span.{Span}
 use Rattle.sf_lines.specs.declared.end.LineFault.{LineFault}
 use Rattle.sf_lines.specs.declared.end.LinesFault.{LinesFault}
 use Rattle.sf_lines.specs.declared.end.LinesFault.TheVariants as lines_fault
 use Rattle.sf_lines.specs.Loops.{is_write}
 use Rattle.sf_messages.specs.declared.fault.CommandFault.{CommandFault}
-use Rattle.sf_messages.specs.declared.fault.CommandFault.TheVariants.{BadEscape, Format, Memory, PrintFormat, Unprintable}
+use Rattle.sf_messages.specs.declared.fault.CommandFault.TheVariants.{BadEscape, Format, Lines, Memory, NameCount, NameEmpty, NameTwice, Pair, PrintFormat, Record, Unprintable, Values, Write}
 use Rattle.sf_messages.specs.declared.fault.FormatName.{FormatName}
 use Rattle.sf_messages.specs.declared.fault.FormatName.TheVariants as names
 use Rattle.sf_messages.specs.Notes.{escape_notes}
@@ -26,71 +27,13 @@ use Rattle.sf_messages.specs.LineTexts.{line_fault_text}
 use Rattle.sf_print.specs.Sinks.{counted_on}
 use Rattle.sf_jobs.specs.Checks.{IsNoScanWord, IsScanWord}
 use Rattle.sf_jobs.specs.Answers.{Answer}
-use Rattle.sf_records.specs.Judging as ends
-use Rattle.sf_records.specs.declared.end.ToolFault.{ToolFault}
-use Rattle.sf_records.specs.declared.end.ToolFault.TheVariants as record_fault
-use Rattle.sf_jobs.specs.Commands.{Counts, is_write_fault, answer_by as record_answer}
+use Rattle.sf_jobs.specs.Commands.{Counts, is_write_fault}
 use Rattle.sf_arguments.specs.Escapes.{Unescapes}
-use Rattle.sf_tool.specs.Fronts.{in_front}
-use Rattle.sf_tool.specs.Explains.{IsMoreOfLine, OfWord, SaysFormat, more_of_line}
-use Rattle.sf_tool.specs.Lines.{AreRefused, AreScanWords, IsFirstRefused, IsRefused, IsTelling, SaysLines, SaysMoreOfLines, SaysOfLines, SomeIsSaid, answer_by, line_telling}
+use Rattle.sf_console.specs.Fronts.{in_front}
+use Rattle.sf_notes.specs.Explains.{AreSpansOf, IsMoreOfLine, OfWord, SaysFormat, SaysMoreOfRefused, SaysRefused, more_of_line}
+use Rattle.sf_tool.specs.Lines.{IsTelling, SaysLines, SaysMoreOfLines, SaysOfLines, SomeIsSaid, answer_by, line_telling}
+use Rattle.sf_jobs.specs.LinesJobs.{AreRefused, AreScanWords, IsFirstRefused, IsRefused}
 use Rattle.sf_arguments.proofs.Escaping.{one_reading}
-
--- ---- words
-
--- the formats of the words before are read: with those of the words behind they are those of all
-pub record Opened (profile : Profile) (words rest : List (List ℕ)) (formats : List (List Directive)) : Type 0 where
-  pub all : (more : List (List Directive)) → AreScanWords profile rest more → AreScanWords profile words (formats ++ more)
-  pub none : (refused : List ℕ) (fault : CommandFault) → IsFirstRefused profile rest refused fault
-      → IsFirstRefused profile words refused fault
-
-module _ {A : Type 0} (f : A → List ℕ) (profile : Profile) (words : List A) (formats : List (List Directive)) where
-  abbrev behind : ℕ → List (List ℕ)
-  behind i = map f (drop i words)
-
-  stands_next : (i : ℕ) (x : A) → i < length words → x ≡ get_or words i x → behind i ≡ f x ∷ behind (i + 1)
-  stands_next i x lt is =
-      let on : i + 1 ≡ suc i = omega arith in
-      ap (map f) (drop-cons words i x lt ∙ ap (λ y. y ∷ drop (suc i) words) (sym is) ∙ ap (λ n. x ∷ drop n words) (sym on))
-
-  pub opened_next : (i : ℕ) (x : A) → i < length words → x ≡ get_or words i x → (ds : List Directive) → IsScanWord profile (f x) ds
-      → Opened profile (map f words) (behind i) formats → Opened profile (map f words) (behind (i + 1)) (formats ++ ds ∷ [])
-  opened_next i x lt is ds stands o =
-      let next = stands_next i x lt is in
-      record {
-        all = λ more h. subst (AreScanWords profile (map f words)) (sym (append_assoc formats (ds ∷ []) more))
-            (o.all (ds ∷ more) (subst (λ ws. AreScanWords profile ws (ds ∷ more)) (sym next) (stands, h)));
-        none = λ refused fault h. o.none refused fault (subst (λ ws. IsFirstRefused profile ws refused fault) (sym next)
-            (inr (ds, stands, h)));
-      }
-
-  pub closed_at : (i : ℕ) (x : A) → i < length words → x ≡ get_or words i x → (fault : CommandFault) → IsNoScanWord profile (f x) fault
-      → Opened profile (map f words) (behind i) formats → IsFirstRefused profile (map f words) (f x) fault
-  closed_at i x lt is fault bad o = o.none (f x) fault (subst (λ ws. IsFirstRefused profile ws (f x) fault) (sym (stands_next i x lt is))
-      (inl (refl, bad)))
-
-  -- want of memory is told of a word that is read
-  pub refused_at : (i : ℕ) (x : A) → i < length words → x ≡ get_or words i x → (ds : List Directive) → IsScanWord profile (f x) ds
-      → Opened profile (map f words) (behind i) formats → IsFirstRefused profile (map f words) (f x) Memory
-  refused_at i x lt is ds (text, stands, spells) o = closed_at i x lt is Memory (text, stands) o
-
-  empty : (xs : List A) (i : ℕ) → length xs ≤ i → drop i xs ≡ []
-  empty [] zero le = refl
-  empty [] (suc i) le = refl
-  empty (x ∷ xs) zero le = absurd (omega (arith, le))
-  empty (x ∷ xs) (suc i) le = empty xs i (omega (arith, le))
-
-  pub all_opened : (i : ℕ) → length words ≤ i → Opened profile (map f words) (behind i) formats → AreScanWords profile (map f words) formats
-  all_opened i le o =
-      subst (AreScanWords profile (map f words)) (append-nil formats)
-      (o.all [] (subst (λ ws. AreScanWords profile ws []) (sym (ap (map f) (empty words i le))) refl))
-
--- as many formats as words
-pub as_many : (profile : Profile) (words : List (List ℕ)) (formats : List (List Directive)) → AreScanWords profile words formats
-    → length formats ≡ length words
-as_many profile [] formats is = ap (length {A = List Directive}) is
-as_many profile (word ∷ words) [] h = absurd h
-as_many profile (word ∷ words) (ds ∷ formats) (stands, h) = ap suc (as_many profile words formats h)
 
 -- ---- answers
 
@@ -121,6 +64,11 @@ module _ (file : Option (List ℕ)) (profile : Profile) (quiet : Bool) (text : L
       → telling number line fault ≡ in_front file (line_fault_text number fault ++ 10 ∷ []) ++ notes
   says_more false is e notes more = ap (λ f. f number line fault) is ∙ rw (e, more) refl
   says_more true (pieces, format, text_is, is) e notes more = ap (λ f. f number line fault) is ∙ rw (e, more pieces format text_is) refl
+
+-- the same of where directives stand, where that is lent
+pub spans_lent : (profile : Profile) (text : List ℕ) (own : Option (List Span)) (lent : Option (Bor (List Span)))
+    → option_copied lent ≡ own → ForSome own (AreSpansOf profile text) → ForSome lent (λ spans. AreSpansOf profile text spans.now)
+spans_lent profile text own lent is known spans lent_is = known spans.now (sym is ∙ ap option_copied lent_is)
 
 -- want of memory is told of words that all spell formats
 pub refused_memory : (profile : Profile) (words : List (List ℕ)) (formats : List (List Directive)) → AreScanWords profile words formats
@@ -203,22 +151,7 @@ some_said file profile quiet explain words formats are some text reads ds is =
     let same : own ≡ ds = same_Some own ds (sym last ∙ is) in
     ∣ (telling, subst (λ (d : List Directive). SaysLines file profile quiet explain text d telling) same says) ∣₁
 
--- ---- the words by which lines are passed over, and then the others
-
-pub refused_before : (profile : Profile) (passed words : List (List ℕ)) (word : List ℕ) (fault : CommandFault)
-    → IsFirstRefused profile passed word fault → IsFirstRefused profile (passed ++ words) word fault
-refused_before profile [] words word fault h = absurd h
-refused_before profile (first ∷ passed) words word fault (inl h) = inl h
-refused_before profile (first ∷ passed) words word fault (inr (ds, spells, h)) =
-    inr (ds, spells, refused_before profile passed words word fault h)
-
-pub refused_after : (profile : Profile) (passed words : List (List ℕ)) (ignored : List (List Directive)) (word : List ℕ)
-    (fault : CommandFault) → AreScanWords profile passed ignored → IsFirstRefused profile words word fault
-    → IsFirstRefused profile (passed ++ words) word fault
-refused_after profile [] words ignored word fault are h = h
-refused_after profile (first ∷ passed) words [] word fault are h = absurd are
-refused_after profile (first ∷ passed) words (ds ∷ ignored) word fault (spells, are) h =
-    inr (ds, spells, refused_after profile passed words ignored word fault are h)
+-- ---- words that are refused
 
 module _ (profile : Profile) (fault : CommandFault) where
   -- the word that is refused is no format, for this fault
@@ -284,17 +217,35 @@ module _ (profile : Profile) (form : OutputForm) (print : Option (List ℕ)) (pa
       → SaysOfLines profile print (passed ++ words) (Err (PrintFormat fault)) notes
   says_of_print_format fault refused notes h said = says_print_format print fault refused notes h said
 
+  refused_says : (fault : CommandFault) (refused notes : List ℕ) → IsRefused profile form print passed words refused fault
+      → SaysRefused refused fault notes → SaysOfLines profile print (passed ++ words) (Err fault) notes
+  refused_says (BadEscape name at) refused notes is said =
+      subst (SaysOfLines profile print (passed ++ words) (Err (BadEscape name at))) (sym said) (says_of_escape name at refused is)
+  refused_says (Format fault) refused notes is said = says_of_format fault refused notes is said
+  refused_says (PrintFormat fault) refused notes is said = says_of_print_format fault refused notes is said
+  refused_says (Values fault) refused notes is said = said
+  refused_says (Record fault) refused notes is said = said
+  refused_says (Lines fault) refused notes is said = said
+  refused_says Write refused notes is said = said
+  refused_says Memory refused notes is said = said
+  refused_says (Pair fault) refused notes is said = said
+  refused_says (Unprintable why) refused notes is said = said
+  refused_says (NameCount expected got) refused notes is said = said
+  refused_says (NameEmpty number) refused notes is said = said
+  refused_says (NameTwice number) refused notes is said = said
+
+  -- what is said of a word that is refused
+  pub more_of_refused_lines : (explain : Bool) (refused notes : List ℕ) (fault : CommandFault)
+      → IsRefused profile form print passed words refused fault → SaysMoreOfRefused explain refused fault notes
+      → SaysMoreOfLines explain profile print (passed ++ words) (Err fault) notes
+  more_of_refused_lines false refused notes fault is said = said
+  more_of_refused_lines true refused notes fault is (inl said) = inl (refused_says fault refused notes is said)
+  more_of_refused_lines true refused notes fault is (inr none) = inr none
+
   -- want of memory, once all formats are there
   pub no_memory : (writing : Writing) → IsWriting profile form print writing → (word : List ℕ)
       → IsFirstRefused profile (passed ++ words) word Memory → AreRefused profile form print passed words Memory
   no_memory writing is word first = (word, inr (writing, is, inl first))
-
--- what is said where more is asked for
-pub says_asked : (explain : Bool) → explain ≡ true → (profile : Profile) (print : Option (List ℕ)) (words : List (List ℕ))
-    (answer : Answer) (notes : List ℕ) → SaysOfLines profile print words answer notes
-    → SaysMoreOfLines explain profile print words answer notes
-says_asked true on profile print words answer notes said = inl said
-says_asked false on profile print words answer notes said = absurd (cc)
 
 -- nothing may be said where more is asked for
 pub nothing_said : (explain : Bool) (profile : Profile) (print : Option (List ℕ)) (words : List (List ℕ)) (answer : Answer)

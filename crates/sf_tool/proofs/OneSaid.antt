@@ -11,9 +11,9 @@ use Rattle.sf_messages.specs.declared.fault.CommandFault.TheVariants.{BadEscape,
 use Rattle.sf_messages.specs.declared.fault.FormatName.TheVariants as name
 use Rattle.sf_messages.specs.Notes.{escape_notes, format_notes}
 use Rattle.sf_jobs.specs.Checks.{IsNoScanWord, IsScanWord}
-use Rattle.sf_tool.specs.Explains.{SaysFormat}
+use Rattle.sf_notes.specs.Explains.{SaysFormat}
 use Rattle.sf_tool.specs.Laws.{OneIsSaid}
-use Rattle.sf_tool.specs.Lines.{IsFirstRefused}
+use Rattle.sf_jobs.specs.LinesJobs.{IsFirstRefused}
 use Rattle.sf_arguments.proofs.Escaping.{bad_or_good, one_reading}
 
 module _ (profile : Profile) (fault : CommandFault) where

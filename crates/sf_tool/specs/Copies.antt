@@ -14,7 +14,7 @@ use Rattle.sf_records.specs.Copies.{copying}
 use Rattle.sf_words.specs.declared.order.LineOptions.{LineOptions}
 use Rattle.sf_jobs.specs.Answers.{Answer}
 use Rattle.sf_jobs.specs.Checks.{IsFaultOf}
-use Rattle.sf_jobs.specs.CopyFormats.{AreCopyFormats, AreNoCopyFormats, line_format}
+use Rattle.sf_jobs.specs.CopyFormats.{AreCopyFormats, AreNoCopyFormats, line_of}
 use Rattle.sf_jobs.specs.declared.copy_formats.CopyFormats.{CopyFormats}
 use Rattle.sf_tool.specs.Lines.{RunsLines, SaysLines}
 
@@ -34,15 +34,15 @@ module _ {S K E : Type 0} (to_come : S → Option (List ℕ)) (read_faults : S �
   abbrev pub CopiesAligned : CopyFormats → Ahead S → Ahead S → K → K → E → E → Answer → Type 0
   CopiesAligned formats from from' out out' err err' answer =
       (telling : ℕ → List ℕ → LineFault → List ℕ)
-      × SaysLines file profile options.quiet explain formats.text.items (line_format formats) telling
-      × RunsLines to_come read_faults contents write_faults said unsaid (λ number ds. copying formats.print formats.scan)
-      (line_options options formats) limit [] (line_format formats ∷ []) telling from from' out out' err err' answer
+      × SaysLines file profile options.quiet explain (line_of formats).text.items (line_of formats).format telling
+      × RunsLines to_come read_faults contents write_faults said unsaid (λ number ds. copying formats.print formats.scan.format)
+      (line_options options formats) limit [] ((line_of formats).format ∷ []) telling from from' out out' err err' answer
 
   -- the formats are no pair, with nothing read, written or said; or the lines are copied
   abbrev pub CopiesPair : CopyFormats → Ahead S → Ahead S → K → K → E → E → Answer → Type 0
   CopiesPair formats from from' out out' err err' answer =
-      IsFaultOf (IsUnpaired formats.print formats.scan) answer × (from' ≡ from) × (out' ≡ out) × (err' ≡ err)
-      ⊎ IsAligned formats.print formats.scan × CopiesAligned formats from from' out out' err err' answer
+      IsFaultOf (IsUnpaired formats.print formats.scan.format) answer × (from' ≡ from) × (out' ≡ out) × (err' ≡ err)
+      ⊎ IsAligned formats.print formats.scan.format × CopiesAligned formats from from' out out' err err' answer
 
   -- the words are no formats, with nothing read, written or said; or they are, and the lines are copied by these
   abbrev pub CopiesLines : List ℕ → List ℕ → Ahead S → Ahead S → K → K → E → E → Answer → Type 0

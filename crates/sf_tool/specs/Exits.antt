@@ -1,5 +1,5 @@
 -- What one run of the command writes, says and answers.
-use Rattle.std.specs.Prelude.{◌≡◌, ◌≤◌, ◌⊎◌, ◌++◌, ℕ, Bool, List, [], ◌∷◌, true, false, Option, Some, None, Result, Ok, Err, IfErr, IfOk, IfSome, map, option_map, string_bytes}
+use Rattle.std.specs.Prelude.{◌≡◌, ◌≤◌, ◌++◌, ℕ, Bool, List, [], true, false, Option, Some, None, Result, Ok, Err, IfErr, IfOk, IfSome, map, option_map, string_bytes}
 use Rattle.std.specs.Io.KnownBytes.{Appends}
 use Rattle.std.specs.declared.io.Error.{Error}
 use Rattle.sf_places.specs.Behind.{IsBehind}
@@ -16,75 +16,23 @@ use Rattle.sf_words.specs.declared.order.WordsFault.{WordsFault}
 use Rattle.sf_words.specs.declared.order.WordsFault.TheVariants.{Help, Usage, NoMemory}
 use Rattle.sf_words.specs.Orders.{HasTextsFor, IsOrder, IsRefusal, faults_of}
 use Rattle.sf_messages.specs.declared.fault.CommandFault.{CommandFault}
-use Rattle.sf_messages.specs.declared.fault.CommandFault.TheVariants.{Write, Memory, NameTwice}
-use Rattle.sf_forms.specs.Columns.{name_at}
+use Rattle.sf_messages.specs.declared.fault.CommandFault.TheVariants.{Write, Memory}
 use Rattle.sf_jobs.specs.Answers.{Answer}
 use Rattle.sf_jobs.specs.Commands.{CarriesOut, Counts, form_of, grammar_of}
-use Rattle.sf_jobs.specs.Heads.{is_headed, names_text, split}
+use Rattle.sf_jobs.specs.Heads.{is_headed, names_text}
 use Rattle.sf_tool.specs.Copies.{CopiesTexts}
-use Rattle.sf_tool.specs.Explains.{SaysMore}
-use Rattle.sf_tool.specs.Fronts.{file_name, in_front}
+use Rattle.sf_notes.specs.Explains.{SaysMore, SaysMoreOfRefused}
+use Rattle.sf_console.specs.Fronts.{file_name}
 use Rattle.sf_tool.specs.Lines.{SaysMoreOfLines, ScansLines}
-use Rattle.sf_reasons.specs.Faults.{IsWithReason, file_of, is_unheard, reason_of}
-use Rattle.sf_tool.specs.Saying.{Says}
-use Rattle.sf_messages.specs.Texts.{error_line, name_twice_line, status_of}
+use Rattle.sf_console.specs.Saying.{Says}
+use Rattle.sf_console.specs.Ends.{Ends, EndsFailed, EndsKnown, exit_of}
 
--- the notes are said, if there are any
-abbrev pub SaysNotes : {K E : Type 0} → (K → K → Type 0) → (E → Option (List ℕ)) → (E → ℕ) → List ℕ → K → K → E → E → Type 0
-SaysNotes hands said unsaid [] out out' err err' = (out' ≡ out) × (err' ≡ err)
-SaysNotes hands said unsaid (b ∷ notes) out out' err err' = Says hands said unsaid (b ∷ notes) out out' err err'
-
--- the notes alone are said where there is an exit status; else the line of the fault, and the notes after it; ended: the answer
-abbrev pub Ends : {K E : Type 0} → (K → K → Type 0) → (E → Option (List ℕ)) → (E → ℕ) → List ℕ → Answer → K → K → E → E → Answer → Type 0
-Ends hands said unsaid notes (Ok n) out out' err err' ended = SaysNotes hands said unsaid notes out out' err err' × (ended ≡ Ok n)
-Ends hands said unsaid notes (Err fault) out out' err err' ended =
-    Says hands said unsaid (error_line fault ++ notes) out out' err err' × (ended ≡ Err fault)
-
--- the exit status of an answer
-abbrev pub exit_of : Answer → ℕ
-exit_of (Ok n) = n
-exit_of (Err fault) = status_of fault
-
--- a name stands twice, of those in the text: the line that says the name
-abbrev pub IsTwiceLine : Option (List ℕ) → CommandFault → List ℕ → Type 0
-IsTwiceLine names fault line =
-    (text : List ℕ) × (names ≡ Some text) × ((number : ℕ) × (fault ≡ NameTwice number)
-    × (line ≡ name_twice_line (name_at (split text) number)))
-
--- the line of a fault: where memory for one that says a name was refused, its number is said
-abbrev pub IsLineOf : Option (List ℕ) → CommandFault → List ℕ → Type 0
-IsLineOf names fault line = (line ≡ error_line fault) ⊎ IsTwiceLine names fault line
-
--- the line of the fault is said, with the name of the file in front where the fault is one of the input, and the notes after it
-abbrev pub SaysFault : {K E : Type 0} → (K → K → Type 0) → (E → Option (List ℕ)) → (E → ℕ) → Option (List ℕ) → Option (List ℕ) → List ℕ
-    → CommandFault → K → K → E → E → Type 0
-SaysFault hands said unsaid names file notes fault out out' err err' =
-    (line : List ℕ) × IsLineOf names fault line × Says hands said unsaid (in_front (file_of fault file) line ++ notes) out out' err err'
-
--- the end of an order: the same, but for the line of a name, and the name of a file
-abbrev pub EndsOrder : {K E : Type 0} → (K → K → Type 0) → (E → Option (List ℕ)) → (E → ℕ) → Order → List ℕ → Answer → K → K
-    → E → E → Answer → Type 0
-EndsOrder hands said unsaid order notes (Ok n) out out' err err' ended = SaysNotes hands said unsaid notes out out' err err' ×
-    (ended ≡ Ok n)
-EndsOrder hands said unsaid order notes (Err fault) out out' err err' ended =
-    SaysFault hands said unsaid (names_text order) (file_name order) notes fault out out' err err' × (ended ≡ Err fault)
-
--- the end of an order with a fault, by why its input and why its output failed last: why it came is said after the notes, where more
--- is said than the line; nothing is said on a terminal where nobody reads the output any more
-abbrev pub EndsFailed : {K E : Type 0} → (K → K → Type 0) → (E → Option (List ℕ)) → (E → ℕ) → Bool → Bool → Option Error → Option Error
+-- the same of an order of which a word is refused; the notes on that word come after the line, where more is said than the line
+abbrev pub EndsRefused : {K E : Type 0} → (K → K → Type 0) → (E → Option (List ℕ)) → (E → ℕ) → Bool → Bool → Option Error → Option Error
     → Order → List ℕ → CommandFault → K → K → E → E → Answer → Type 0
-EndsFailed hands said unsaid watched explain unread unwritten order notes fault out out' err err' ended =
-    (is_unheard watched unwritten fault ≡ true) × (out' ≡ out) × (err' ≡ err) × (ended ≡ Err fault)
-    ⊎ (is_unheard watched unwritten fault ≡ false) × ((all : List ℕ)
-    × IsWithReason explain (reason_of unread unwritten fault) notes all
-    × EndsOrder hands said unsaid order all (Err fault) out out' err err' ended)
-
-abbrev pub EndsKnown : {K E : Type 0} → (K → K → Type 0) → (E → Option (List ℕ)) → (E → ℕ) → Bool → Bool → Option Error → Option Error
-    → Order → List ℕ → Answer → K → K → E → E → Answer → Type 0
-EndsKnown hands said unsaid watched explain unread unwritten order notes (Ok n) out out' err err' ended =
-    EndsOrder hands said unsaid order notes (Ok n) out out' err err' ended
-EndsKnown hands said unsaid watched explain unread unwritten order notes (Err fault) out out' err err' ended =
-    EndsFailed hands said unsaid watched explain unread unwritten order notes fault out out' err err' ended
+EndsRefused hands said unsaid watched explain unread unwritten order refused fault out out' err err' ended =
+    (notes : List ℕ) × SaysMoreOfRefused explain refused fault notes
+    × EndsFailed hands said unsaid watched explain unread unwritten order notes fault out out' err err' ended
 
 -- help is written to the output
 abbrev pub HelpsBy : List ℕ → Option (List ℕ) → Option (List ℕ) → Answer → Type 0
@@ -196,16 +144,22 @@ module _ {K E : Type 0} (contents : K → Option (List ℕ)) (write_faults : K �
     Exits watched words place from from' out out' err err' status = (asked : Result Order WordsFault) × (ended : Answer)
         × ExitsBy watched words asked place from from' out out' err err' ended × (status ≡ exit_of ended)
 
-    -- What is done on what a source gives. left: what is held afterwards, and the source then. Where the source tells its bytes, the
-    -- place is that after the bytes which are neither held nor to come then.
-    pub record DoesOn (watched : Bool) (asked : Result Order WordsFault) (from : S) (out out' : K) (err err' : E)
+    -- What is done on what a source gives, which is given back (from'). left: what is held afterwards, and the source then. Where the
+    -- source tells its bytes, the place is that after the bytes which are neither held nor to come then.
+    pub record DoesOn (watched : Bool) (asked : Result Order WordsFault) (from from' : S) (out out' : K) (err err' : E)
         (ended : Answer) : Type 0 where
       pub left : Ahead S
       pub place : Option Place
       pub done : Does watched asked place (unread_of from) left out out' err err' ended
       pub placed : IfSome place (λ p. (c z : List ℕ) → to_come from ≡ Some (c ++ z) → input_of to_come left ≡ Some z → IsBehind c p)
+      pub back : left.source ≡ from'
 
-    -- what the command of the words comes to on what a source gives
+    -- what the command of the words comes to on what a source gives, which is given back
+    abbrev pub ExitsWith : Bool → List (List ℕ) → S → S → K → K → E → E → ℕ → Type 0
+    ExitsWith watched words from from' out out' err err' status = (asked : Result Order WordsFault) × IsRead words asked
+        × (ended : Answer) × DoesOn watched asked from from' out out' err err' ended × (status ≡ exit_of ended)
+
+    -- the same of a source that is not given back
     abbrev pub ExitsOn : Bool → List (List ℕ) → S → K → K → E → E → ℕ → Type 0
-    ExitsOn watched words from out out' err err' status = (asked : Result Order WordsFault) × IsRead words asked
-        × (ended : Answer) × DoesOn watched asked from out out' err err' ended × (status ≡ exit_of ended)
+    ExitsOn watched words from out out' err err' status =
+        (from' : S) × ExitsWith watched words from from' out out' err err' status

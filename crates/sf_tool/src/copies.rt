@@ -1,16 +1,14 @@
 //! The lines of an input, each copied by a pair of formats.
-ghost use Rattle.std.specs.Prelude.{◌≡◌, ◌≤◌, map, string_bytes};
+ghost use Rattle.std.specs.Prelude.{◌≡◌, ◌≤◌, IfErr};
 ghost use Rattle.sf_format.specs.Grammar.{Spells};
 ghost use Rattle.sf_jobs.specs.Commands.{grammar_of};
-ghost use Rattle.sf_jobs.specs.CopyFormats.{line_format};
-ghost use Rattle.sf_words.specs.Orders.{HasTexts};
-ghost use Rattle.sf_words.specs.declared.order.Verb.TheVariants.{Copy};
-ghost use Rattle.sf_tool.specs.Copies.{CopiesAligned, CopiesPair, CopiesTexts, line_options};
-ghost use Rattle.sf_tool.specs.Fronts.{file_name};
+ghost use Rattle.sf_jobs.specs.CopyFormats.{IsOwnUnpaired, line_of};
+ghost use Rattle.sf_tool.specs.Copies.{CopiesAligned, CopiesPair, line_options};
+ghost use Rattle.sf_console.specs.Fronts.{file_name};
 
-use crate::console::Console;
 use crate::lines::lines_with;
-use sf_jobs::{CopyFormats, grammar_of, read_copy_formats};
+use sf_console::Console;
+use sf_jobs::CopyFormats;
 use sf_lines::LineFormats;
 use sf_messages::CommandFault;
 use sf_pair::Pair;
@@ -44,34 +42,29 @@ fn copy_by_pair<S: Source, K: Sink, E, C: Console<K, E>, const N: usize>(
     err: &mut E,
 ) -> Result<u8, CommandFault>
     requires limit { order.now.limit ≤ 2147483647 }
-    requires pair { pair.now ≡ record { print = formats.now.print; scan = formats.now.scan } }
-    requires line { Spells (grammar_of order.now.profile) formats.now.text.items (line_format formats.now) }
+    requires pair { pair.now ≡ record { print = formats.now.print; scan = formats.now.scan.format } }
+    requires line { Spells (grammar_of order.now.profile) (line_of formats.now).text.items
+        (line_of formats.now).format }
     ensures { CopiesAligned S.to_come S.failures K.contents K.failures C.said C.unsaid (file_name order.now)
         (grammar_of order.now.profile) options explain order.now.limit formats.now from.old from.new out.old out.new
         err.old err.new result }
 {
     let mut maker = CopyMaker::new(pair);
+    let line = formats.line();
     let lines = LineFormats {
         ignored: &[],
-        tried: slice::from_ref(formats.line()),
+        tried: slice::from_ref(&line.format),
     };
     let how = line_options(options, formats);
     lines_with::<CopyMaker<'_, '_>, S, K, E, C, N>(
-        alloc,
-        explain,
-        &mut maker,
-        &lines,
-        &formats.text,
-        order,
-        how,
-        from,
-        out,
-        err,
+        alloc, explain, &mut maker, &lines, &line.text, order, how, from, out, err,
     )
 }
 
-/// Copies the lines by the formats, where they are a pair.
-fn copy_by_formats<S: Source, K: Sink, E, C: Console<K, E>, const N: usize>(
+/// Copies the lines of what the lookahead holds and its source gives by the formats, where they are a pair, and answers
+/// the exit status. What is to be said of lines that fail is said as they come; where that fails, nothing more is said
+/// of lines. Err says why nothing was read, or why the lines stopped before the end of the input.
+pub(crate) fn copy_by_formats<S: Source, K: Sink, E, C: Console<K, E>, const N: usize>(
     alloc: Global,
     explain: bool,
     formats: &CopyFormats,
@@ -82,41 +75,17 @@ fn copy_by_formats<S: Source, K: Sink, E, C: Console<K, E>, const N: usize>(
     err: &mut E,
 ) -> Result<u8, CommandFault>
     requires limit { order.now.limit ≤ 2147483647 }
-    requires line { Spells (grammar_of order.now.profile) formats.now.text.items (line_format formats.now) }
-    ensures { CopiesPair S.to_come S.failures K.contents K.failures C.said C.unsaid (file_name order.now)
+    requires line { Spells (grammar_of order.now.profile) (line_of formats.now).text.items
+        (line_of formats.now).format }
+    ensures copies { CopiesPair S.to_come S.failures K.contents K.failures C.said C.unsaid (file_name order.now)
         (grammar_of order.now.profile) options explain order.now.limit formats.now from.old from.new out.old out.new
         err.old err.new result }
+    ensures own { IfErr result (IsOwnUnpaired formats.now) }
 {
-    match Pair::check(&formats.print, &formats.scan) {
+    match Pair::check(&formats.print, &formats.scan.format) {
         Ok(pair) => copy_by_pair::<S, K, E, C, N>(
             alloc, explain, &pair, formats, order, options, from, out, err,
         ),
         Err(fault) => Err(CommandFault::Pair(fault)),
     }
-}
-
-/// Copies the lines of what the lookahead holds and its source gives by the two formats of an order's words, and
-/// answers the exit status. What is to be said of lines that fail is said as they come; where that fails, nothing more
-/// is said of lines. Err says why nothing was read, or why the lines stopped before the end of the input.
-pub(crate) fn copy_lines<S: Source, K: Sink, E, C: Console<K, E>, const N: usize>(
-    alloc: Global,
-    explain: bool,
-    order: &Order,
-    options: LineOptions,
-    from: &mut Lookahead<S, N>,
-    out: &mut K,
-    err: &mut E,
-) -> Result<u8, CommandFault>
-    requires limit { order.now.limit ≤ 2147483647 }
-    requires texts { HasTexts Copy (map string_bytes order.now.texts.items) }
-    ensures { CopiesTexts S.to_come S.failures K.contents K.failures C.said C.unsaid (file_name order.now)
-        (grammar_of order.now.profile) options explain order.now.limit (map string_bytes order.now.texts.items)
-        from.old from.new out.old out.new err.old err.new result }
-{
-    let [print, scan] = order.texts.as_slice() else {
-        unreachable!()
-    };
-    let profile = grammar_of(order.profile);
-    let formats = read_copy_formats(alloc, profile, print.as_str(), scan.as_str())?;
-    copy_by_formats::<S, K, E, C, N>(alloc, explain, &formats, order, options, from, out, err)
 }

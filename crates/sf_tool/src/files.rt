@@ -2,13 +2,10 @@
 ghost use Rattle.std.specs.Prelude.{◌≡◌, ◌≤◌, ℕ, Bool, false, List, [], Some, IsSome, length, map, max, string_bytes};
 ghost use Rattle.sf_words.specs.Orders.{HasTextsFor};
 ghost use Rattle.sf_tool.specs.Files.{EndsFile, RunsFile, RunsFiles, RunsInputs, keeps_going, turn_of};
-ghost use Rattle.sf_tool.specs.Fronts.{file_name};
+ghost use Rattle.sf_console.specs.Fronts.{file_name};
 
-use crate::console::Console;
-use crate::error_output::tell;
-use crate::fronts::file_name;
-use crate::invocation::{exit_of, is_explained, run_source};
-use crate::reasons::Reasons;
+use crate::invocation::{Finished, is_explained, run_source};
+use sf_console::{Console, Reasons, exit_of, file_name, tell};
 use sf_messages::CommandFault;
 use sf_print::Sink;
 use sf_reasons::{LastError, is_read_fault, reason_alone};
@@ -148,8 +145,16 @@ fn run_file<S: LastError, K: Sink, E, C: Console<K, E> + Reasons<S>, F: Opener<S
     let Opened { source, is_open } = files.open(name);
     let why = C::why_unread(&source);
     let notes = reason_alone(alloc, is_explained(watched, order.notes), why);
-    let answer = run_source::<S, K, E, C>(alloc, watched, order, source, out, err);
-    end_file::<K, E, C>(is_open, keeps_going(order), name, &notes, answer, out, err)
+    let ran = run_source::<S, K, E, C>(alloc, watched, order, source, out, err);
+    end_file::<K, E, C>(
+        is_open,
+        keeps_going(order),
+        name,
+        &notes,
+        ran.answer,
+        out,
+        err,
+    )
 }
 
 /// Reads the files of an order one after the other, and answers the greatest of their exit statuses.
@@ -179,7 +184,7 @@ fn run_files<S: LastError, K: Sink, E, C: Console<K, E> + Reasons<S>, F: Opener<
     worst
 }
 
-/// Does what an order asks for on its inputs: on its files, or on the source where it has none.
+/// Does what an order asks for on its inputs: on its files, or on the source where it has none, which is given back.
 pub(crate) fn run_inputs<S: LastError, K: Sink, E, C: Console<K, E> + Reasons<S>, F: Opener<S>>(
     alloc: Global,
     watched: bool,
@@ -188,15 +193,24 @@ pub(crate) fn run_inputs<S: LastError, K: Sink, E, C: Console<K, E> + Reasons<S>
     files: &mut F,
     out: &mut K,
     err: &mut E,
-) -> u8
+) -> Finished<S>
     requires limit { order.limit ≤ 2147483647 }
     requires texts { HasTextsFor order.lines order.verb (map string_bytes order.texts.items) }
     ensures { RunsInputs F.Opens K.contents K.failures C.Hands C.said C.unsaid S.to_come S.failures C.why_unread C.why
-        watched (length order.files.items) order from files.old files.new out.old out.new err.old err.new result }
+        watched (length order.files.items) order from result.source files.old files.new out.old out.new err.old err.new
+        result.status }
 {
     let mut order = order;
     if order.files.is_empty() {
-        return exit_of(run_source::<S, K, E, C>(alloc, watched, &order, from, out, err));
+        let ran = run_source::<S, K, E, C>(alloc, watched, &order, from, out, err);
+        return Finished {
+            status: exit_of(ran.answer),
+            source: ran.source,
+        };
     }
-    run_files::<S, K, E, C, F>(alloc, watched, &mut order, files, out, err)
+    let status = run_files::<S, K, E, C, F>(alloc, watched, &mut order, files, out, err);
+    Finished {
+        status,
+        source: from,
+    }
 }

@@ -1,27 +1,19 @@
 //! One run of the command, from its words to its exit status.
-ghost use Rattle.std.specs.Prelude.{◌≡◌, ◌≤◌, ◌<◌, ◌++◌, ℕ, List, None, Some, Ok, true, false, IfSome, length, map, option_map, string_bytes};
+ghost use Rattle.std.specs.Prelude.{◌≡◌, ◌≤◌, ◌<◌, None, Some, Ok, true, false, length, map, string_bytes};
 ghost use Rattle.sf_words.specs.Orders.{HasTexts, HasTextsFor};
 ghost use Rattle.sf_words.specs.declared.order.Verb.TheVariants.{Copy};
-ghost use Rattle.sf_tool.specs.Exits.{CanRun, Declines, Does, DoesOn, DoesOrder, Ends, EndsCopies, EndsLines, EndsOrder, EndsScans};
-ghost use Rattle.sf_tool.specs.Exits.{Exits, ExitsOn, Helps, IsTwiceLine, SaysFault, SaysNotes, exit_of, is_explained};
-ghost use Rattle.sf_tool.specs.Fronts.{file_name};
-ghost use Rattle.sf_jobs.specs.Heads.{names_text};
-ghost use Rattle.sf_tool.specs.Saying.{Says};
+ghost use Rattle.sf_tool.specs.Exits.{CanRun, Declines, Does, DoesOn, DoesOrder, EndsCopies, EndsLines, EndsRefused, EndsScans};
+ghost use Rattle.sf_tool.specs.Exits.{Exits, ExitsOn, ExitsWith, Helps, is_explained};
 
-use crate::console::{Apart, Console};
-use crate::copies::copy_lines;
-use crate::error_output::{say, tell};
-use crate::explain::{Left, notes_of, notes_of_refused};
-use crate::fronts::file_name;
-use crate::lines::{lines_job, scan_lines};
-use crate::reasons::{Lent, Reasons, end_known};
-use sf_jobs::{carry_out, form_of, grammar_of, names_text};
-use sf_makers::Names;
-use sf_messages::{CommandFault, error_line, name_twice_line};
+use crate::copies::copy_by_formats;
+use crate::lines::scan_lines;
+use sf_console::{Apart, Console, Reasons, end, end_known, exit_of, say};
+use sf_jobs::{RefusedWord, form_of, grammar_of, lines_job, prepare, prepare_copies, run};
+use sf_messages::CommandFault;
+use sf_notes::{Left, notes_of_copies, notes_of_job, notes_of_refused};
 use sf_places::{BLOCK_BYTES, Input, Placed};
 use sf_print::Sink;
 use sf_read::{Lookahead, Source};
-use sf_reasons::file_of;
 use sf_records::write_whole;
 use sf_words::{LineOptions, Notes, Order, Verb, WordsFault, read_words};
 use std::alloc::Global;
@@ -29,113 +21,6 @@ use std::marker::Brand;
 
 /// What was read of the words of a command.
 pub(crate) type Asked = Result<Order, WordsFault>;
-
-/// Hands the error output the notes, if there are any. A fault of it is ignored.
-fn tell_notes<K: Sink, E, C: Console<K, E>>(out: &mut K, err: &mut E, notes: &[u8])
-    ensures { SaysNotes C.Hands C.said C.unsaid notes.now out.old out.new err.old err.new }
-{
-    match notes {
-        [] => {}
-        _ => say::<K, E, C>(out, err, notes),
-    }
-}
-
-/// Ends with this exit status, or says why not in a line on the error output. The notes are said after that. What it
-/// ends with is handed on.
-fn end<K: Sink, E, C: Console<K, E>>(
-    out: &mut K,
-    err: &mut E,
-    answer: Result<u8, CommandFault>,
-    notes: &[u8],
-) -> Result<u8, CommandFault>
-    ensures { Ends C.Hands C.said C.unsaid notes.now answer out.old out.new err.old err.new result }
-{
-    match answer {
-        Ok(status) => {
-            tell_notes::<K, E, C>(out, err, notes);
-            Ok(status)
-        }
-        Err(fault) => {
-            tell::<K, E, C>(out, err, None, error_line(fault).as_str().as_bytes(), notes);
-            Err(fault)
-        }
-    }
-}
-
-/// The line that says the name itself, where the fault is that it stands twice, and memory is there.
-fn named_line(alloc: Global, names: Option<&str>, fault: CommandFault) -> Option<Vec<u8>>
-    ensures { IfSome result (λ line. IsTwiceLine (option_map (λ given. given.now) names.entry) fault line.items) }
-{
-    let CommandFault::NameTwice { number } = fault else {
-        return None;
-    };
-    let Some(text) = names else {
-        return None;
-    };
-    if number == 0 {
-        return None;
-    }
-    let Ok(names) = Names::split(alloc, text) else {
-        return None;
-    };
-    match name_twice_line(alloc, names.name(number)) {
-        Ok(line) => Some(line),
-        Err(_) => None,
-    }
-}
-
-/// Says why an order doesn't end cleanly, in a line on the error output, and the notes after that. Of a fault of the
-/// input, the name of the file stands in front.
-fn tell_fault<K: Sink, E, C: Console<K, E>>(
-    alloc: Global,
-    order: &Order,
-    out: &mut K,
-    err: &mut E,
-    fault: CommandFault,
-    notes: &[u8],
-)
-    ensures { SaysFault C.Hands C.said C.unsaid (names_text order.now) (file_name order.now) notes.now fault
-        out.old out.new err.old err.new }
-{
-    let file = file_of(fault, file_name(order));
-    match named_line(alloc, names_text(order), fault) {
-        Some(line) => tell::<K, E, C>(out, err, file, &line, notes),
-        None => tell::<K, E, C>(out, err, file, error_line(fault).as_str().as_bytes(), notes),
-    }
-}
-
-/// Ends an order, as `end` does.
-pub(crate) fn end_order<K: Sink, E, C: Console<K, E>>(
-    alloc: Global,
-    order: &Order,
-    out: &mut K,
-    err: &mut E,
-    answer: Result<u8, CommandFault>,
-    notes: &[u8],
-) -> Result<u8, CommandFault>
-    ensures { EndsOrder C.Hands C.said C.unsaid order.now notes.now answer out.old out.new err.old err.new result }
-{
-    match answer {
-        Ok(status) => {
-            tell_notes::<K, E, C>(out, err, notes);
-            Ok(status)
-        }
-        Err(fault) => {
-            tell_fault::<K, E, C>(alloc, order, out, err, fault, notes);
-            Err(fault)
-        }
-    }
-}
-
-/// The exit status of an answer.
-pub(crate) fn exit_of(answer: Result<u8, CommandFault>) -> u8
-    ensures { result ≡ exit_of answer }
-{
-    match answer {
-        Ok(status) => status,
-        Err(fault) => fault.status(),
-    }
-}
 
 /// Writes help that was asked for.
 fn help<K: Sink>(text: &str, out: &mut K) -> Result<u8, CommandFault>
@@ -168,6 +53,27 @@ pub(crate) fn decline<K: Sink, E, C: Console<K, E>>(
     }
 }
 
+/// Ends an order of which a word is refused. Why is said after the line, where that is asked for.
+fn end_refused<S, K: Sink, E, C: Console<K, E>, R: Reasons<S>>(
+    alloc: Global,
+    watched: bool,
+    explain: bool,
+    order: &Order,
+    source: &S,
+    out: &mut K,
+    err: &mut E,
+    refused: RefusedWord<'_>,
+) -> Result<u8, CommandFault>
+    ensures { EndsRefused C.Hands C.said C.unsaid watched explain (R.why_unread source.now) (C.why out.old) order.now
+        refused.entry.word.now refused.entry.fault out.old out.new err.old err.new result }
+{
+    let notes = notes_of_refused(alloc, explain, refused);
+    let answer = Err(refused.fault);
+    end_known::<S, K, E, C, R>(
+        alloc, watched, explain, order, source, out, err, answer, &notes,
+    )
+}
+
 /// Copies lines by an order, and says why the command doesn't end cleanly where it doesn't.
 fn end_copies<S: Source, K: Sink, E, C: Console<K, E>, R: Reasons<S>, const N: usize>(
     alloc: Global,
@@ -180,20 +86,33 @@ fn end_copies<S: Source, K: Sink, E, C: Console<K, E>, R: Reasons<S>, const N: u
     err: &mut E,
 ) -> Result<u8, CommandFault>
     requires limit { order.now.limit ≤ 2147483647 }
+    requires copy { order.now.verb ≡ Copy }
     requires texts { HasTexts Copy (map string_bytes order.now.texts.items) }
     ensures { EndsCopies K.contents K.failures C.Hands C.said C.unsaid S.to_come S.failures R.why_unread C.why watched
         explain options order.now from.old from.new out.old out.new err.old err.new result }
 {
-    let answer = copy_lines::<S, K, E, C, N>(alloc, explain, order, options, from, out, err);
-    let left = Left {
-        place: None,
-        held: &[],
-    };
-    let notes = notes_of(alloc, explain, order, left, answer);
-    let source = from.source();
-    end_known::<S, K, E, C, R>(
-        alloc, watched, explain, order, source, out, err, answer, &notes,
-    )
+    match prepare_copies(alloc, order) {
+        Ok(formats) => {
+            let answer = copy_by_formats::<S, K, E, C, N>(
+                alloc, explain, &formats, order, options, from, out, err,
+            );
+            let notes = notes_of_copies(alloc, explain, order, &formats, answer);
+            let source = from.source();
+            end_known::<S, K, E, C, R>(
+                alloc, watched, explain, order, source, out, err, answer, &notes,
+            )
+        }
+        Err(refused) => end_refused::<S, K, E, C, R>(
+            alloc,
+            watched,
+            explain,
+            order,
+            from.source(),
+            out,
+            err,
+            refused,
+        ),
+    }
 }
 
 /// Scans lines by an order, and says why the command doesn't end cleanly where it doesn't.
@@ -231,14 +150,16 @@ fn end_scans<S: Source, K: Sink, E, C: Console<K, E>, R: Reasons<S>, const N: us
                 &[],
             )
         }
-        Err(refused) => {
-            let notes = notes_of_refused(alloc, explain, refused);
-            let source = from.source();
-            let answer = Err(refused.fault);
-            end_known::<S, K, E, C, R>(
-                alloc, watched, explain, order, source, out, err, answer, &notes,
-            )
-        }
+        Err(refused) => end_refused::<S, K, E, C, R>(
+            alloc,
+            watched,
+            explain,
+            order,
+            from.source(),
+            out,
+            err,
+            refused,
+        ),
     }
 }
 
@@ -268,6 +189,47 @@ fn end_lines<S: Source, K: Sink, E, C: Console<K, E>, R: Reasons<S>, const N: us
     }
 }
 
+/// Does what an order of records asks for, and says why the command doesn't end cleanly where it doesn't.
+fn run_records<S: Source, K: Sink, E, C: Console<K, E>, R: Reasons<S>, const N: usize>(
+    alloc: Global,
+    watched: bool,
+    explain: bool,
+    order: &Order,
+    from: &mut Lookahead<S, N>,
+    out: &mut K,
+    err: &mut E,
+) -> Result<u8, CommandFault>
+    requires limit { order.now.limit ≤ 2147483647 }
+    requires texts { HasTexts order.now.verb (map string_bytes order.now.texts.items) }
+    ensures { DoesOrder K.contents K.failures C.Hands C.said C.unsaid S.to_come S.failures R.why_unread C.why watched
+        explain None order.now None from.old from.new out.old out.new err.old err.new result }
+{
+    match prepare(alloc, order) {
+        Ok(job) => {
+            let answer = run(alloc, &job, order, from, out);
+            let left = Left {
+                place: None,
+                held: from.held(),
+            };
+            let notes = notes_of_job(alloc, explain, order, &job, left, answer);
+            let source = from.source();
+            end_known::<S, K, E, C, R>(
+                alloc, watched, explain, order, source, out, err, answer, &notes,
+            )
+        }
+        Err(refused) => end_refused::<S, K, E, C, R>(
+            alloc,
+            watched,
+            explain,
+            order,
+            from.source(),
+            out,
+            err,
+            refused,
+        ),
+    }
+}
+
 /// Does what an order asks for on what the lookahead holds and its source gives. The place in the input isn't told, as
 /// what was used of it before isn't known.
 fn run_order<S: Source, K: Sink, E, C: Console<K, E>, R: Reasons<S>, const N: usize>(
@@ -286,18 +248,7 @@ fn run_order<S: Source, K: Sink, E, C: Console<K, E>, R: Reasons<S>, const N: us
         from.old from.new out.old out.new err.old err.new result }
 {
     match order.lines {
-        None => {
-            let answer = carry_out(alloc, order, from, out);
-            let left = Left {
-                place: None,
-                held: from.held(),
-            };
-            let notes = notes_of(alloc, explain, order, left, answer);
-            let source = from.source();
-            end_known::<S, K, E, C, R>(
-                alloc, watched, explain, order, source, out, err, answer, &notes,
-            )
-        }
+        None => run_records::<S, K, E, C, R, N>(alloc, watched, explain, order, from, out, err),
         Some(options) => end_lines::<S, K, E, C, R, N>(
             alloc, watched, explain, order, options, from, out, err,
         ),
@@ -358,33 +309,56 @@ pub fn run_words<S: Source, K: Sink, E: Sink, const N: usize>(
     exit_of(run_ahead::<S, K, E, Apart, Apart, N>(alloc, false, &asked, from, out, err))
 }
 
+/// The answer of a run on a source, which is given back with what the run left in it.
+#[derive(Drop)]
+pub(crate) struct Ran<S: Drop> {
+    pub(crate) answer: Result<u8, CommandFault>,
+    pub(crate) source: S,
+}
+
 /// Carries out an order of records with an account of the lines of its input, so that the place in the input can be
 /// told.
 fn run_placed<S: Source, K: Sink, E, C: Console<K, E> + Reasons<S>, I: Input>(
     alloc: Global,
     watched: bool,
     order: &Order,
-    from: &mut S,
+    from: S,
     out: &mut K,
     err: &mut E,
-) -> Result<u8, CommandFault>
-    requires input { I.input ≡ S.to_come from.old }
+) -> Ran<S>
+    requires input { I.input ≡ S.to_come from }
     requires records { order.now.lines ≡ None }
     requires explained { is_explained watched order.now.notes ≡ true }
     requires limit { order.now.limit ≤ 2147483647 }
     requires texts { HasTexts order.now.verb (map string_bytes order.now.texts.items) }
     ensures { DoesOn K.contents K.failures C.Hands C.said C.unsaid S.to_come S.failures C.why_unread C.why watched
-        (Ok order.now) from.old out.old out.new err.old err.new result }
+        (Ok order.now) from result.source out.old out.new err.old err.new result.answer }
 {
-    let mut ahead = Lookahead::<Placed<&mut S, I>, BLOCK_BYTES>::new(Placed::new(from));
-    let answer = carry_out(alloc, order, &mut ahead, out);
+    let job = match prepare(alloc, order) {
+        Ok(job) => job,
+        Err(refused) => {
+            let answer = end_refused::<S, K, E, C, C>(
+                alloc, watched, true, order, &from, out, err, refused,
+            );
+            return Ran {
+                answer,
+                source: from,
+            };
+        }
+    };
+    let mut ahead = Lookahead::<Placed<S, I>, BLOCK_BYTES>::new(Placed::new(from));
+    let answer = run(alloc, &job, order, &mut ahead, out);
     let held = ahead.held();
     let place = ahead.source().place_before(held);
-    let notes = notes_of(alloc, true, order, Left { place, held }, answer);
-    let source = &**ahead.source().source();
-    end_known::<S, K, E, C, C>(
+    let notes = notes_of_job(alloc, true, order, &job, Left { place, held }, answer);
+    let source = ahead.source().source();
+    let answer = end_known::<S, K, E, C, C>(
         alloc, watched, true, order, source, out, err, answer, &notes,
-    )
+    );
+    Ran {
+        answer,
+        source: ahead.into_source().into_source(),
+    }
 }
 
 /// Does what an order asks for on what a source gives, block by block.
@@ -395,18 +369,21 @@ fn run_unplaced<S: Source, K: Sink, E, C: Console<K, E> + Reasons<S>>(
     from: S,
     out: &mut K,
     err: &mut E,
-) -> Result<u8, CommandFault>
+) -> Ran<S>
     requires limit { order.now.limit ≤ 2147483647 }
     requires texts { HasTextsFor order.now.lines order.now.verb (map string_bytes order.now.texts.items) }
     ensures { DoesOn K.contents K.failures C.Hands C.said C.unsaid S.to_come S.failures C.why_unread C.why watched
-        (Ok order.now) from out.old out.new err.old err.new result }
+        (Ok order.now) from result.source out.old out.new err.old err.new result.answer }
 {
-    let mut source = from;
-    let mut ahead = Lookahead::<&mut S, BLOCK_BYTES>::new(&mut source);
+    let mut ahead = Lookahead::<S, BLOCK_BYTES>::new(from);
     let explain = is_explained(watched, order.notes);
-    run_order::<&mut S, K, E, C, Lent<C>, BLOCK_BYTES>(
+    let answer = run_order::<S, K, E, C, C, BLOCK_BYTES>(
         alloc, watched, explain, order, &mut ahead, out, err,
-    )
+    );
+    Ran {
+        answer,
+        source: ahead.into_source(),
+    }
 }
 
 /// Does what an order asks for on what a source gives. An account of its lines is kept only where it is asked for.
@@ -417,16 +394,15 @@ pub(crate) fn run_source<S: Source, K: Sink, E, C: Console<K, E> + Reasons<S>>(
     from: S,
     out: &mut K,
     err: &mut E,
-) -> Result<u8, CommandFault>
+) -> Ran<S>
     requires limit { order.now.limit ≤ 2147483647 }
     requires texts { HasTextsFor order.now.lines order.now.verb (map string_bytes order.now.texts.items) }
     ensures { DoesOn K.contents K.failures C.Hands C.said C.unsaid S.to_come S.failures C.why_unread C.why watched
-        (Ok order.now) from out.old out.new err.old err.new result }
+        (Ok order.now) from result.source out.old out.new err.old err.new result.answer }
 {
     match order.lines {
         None if is_explained(watched, order.notes) => {
-            let mut source = from;
-            run_placed::<S, K, E, C, Brand>(alloc, watched, order, &mut source, out, err)
+            run_placed::<S, K, E, C, Brand>(alloc, watched, order, from, out, err)
         }
         _ => run_unplaced::<S, K, E, C>(alloc, watched, order, from, out, err),
     }
@@ -440,14 +416,44 @@ pub(crate) fn run_asked<S: Source, K: Sink, E, C: Console<K, E> + Reasons<S>>(
     from: S,
     out: &mut K,
     err: &mut E,
-) -> Result<u8, CommandFault>
+) -> Ran<S>
     requires { CanRun asked.now }
     ensures { DoesOn K.contents K.failures C.Hands C.said C.unsaid S.to_come S.failures C.why_unread C.why watched
-        asked.now from out.old out.new err.old err.new result }
+        asked.now from result.source out.old out.new err.old err.new result.answer }
 {
     match asked {
         Ok(order) => run_source::<S, K, E, C>(alloc, watched, order, from, out, err),
-        Err(fault) => decline::<K, E, C>(fault, out, err),
+        Err(fault) => Ran {
+            answer: decline::<K, E, C>(fault, out, err),
+            source: from,
+        },
+    }
+}
+
+/// The exit status of a command, and its source, with what the command left unread in it.
+#[derive(Drop)]
+pub struct Finished<S: Drop> {
+    pub status: u8,
+    pub source: S,
+}
+
+/// Runs the command as `tool` does, and gives its source back.
+pub fn run_tool<S: Source, K: Sink, E: Sink>(
+    alloc: Global,
+    words: &[String],
+    from: S,
+    out: &mut K,
+    err: &mut E,
+) -> Finished<S>
+    ensures { ExitsWith K.contents K.failures (λ before after. after ≡ before) E.contents E.failures S.to_come
+        S.failures (λ source. None) (λ out. None) false (map string_bytes words.now) from result.source out.old out.new
+        err.old err.new result.status }
+{
+    let asked = read_words(alloc, words);
+    let ran = run_asked::<S, K, E, Apart>(alloc, false, &asked, from, out, err);
+    Finished {
+        status: exit_of(ran.answer),
+        source: ran.source,
     }
 }
 
@@ -470,6 +476,6 @@ pub fn tool<S: Source, K: Sink, E: Sink>(
         S.failures
         (λ source. None) (λ out. None) false (map string_bytes words.now) from out.old out.new err.old err.new result }
 {
-    let asked = read_words(alloc, words);
-    exit_of(run_asked::<S, K, E, Apart>(alloc, false, &asked, from, out, err))
+    let finished = run_tool(alloc, words, from, out, err);
+    finished.status
 }

@@ -1,20 +1,15 @@
 //! The command `sf`: records scanned from an input, a line for each; and words printed by a format.
 #![tactic(auto)]
 
-mod console;
 mod copies;
-mod error_output;
-mod explain;
 mod files;
-mod fronts;
 mod invocation;
 pub mod laws;
 mod lines;
 mod program;
-mod reasons;
 
 pub use files::{Opened, Opener};
-pub use invocation::{run_words, tool};
+pub use invocation::{Finished, run_tool, run_words, tool};
 pub use program::{Ended, Terminals, run_program};
 pub use sf_arguments::{ArgumentFault, WordReading, print_values, print_words};
 pub use sf_jobs::carry_out;

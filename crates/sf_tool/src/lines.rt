@@ -5,25 +5,22 @@ ghost use Rattle.sf_format.specs.declared.directive.Directive.{Directive};
 ghost use Rattle.sf_lines.specs.declared.end.LineFault.{LineFault};
 ghost use Rattle.sf_jobs.specs.Commands.{form_of, grammar_of};
 ghost use Rattle.sf_jobs.specs.Heads.{is_headed, names_text};
+ghost use Rattle.sf_jobs.specs.LinesJobs.{AreScanWords};
 ghost use Rattle.sf_jobs.specs.Writings.{IsWriting, SuitsAll};
 ghost use Rattle.sf_arguments.specs.Escapes.{Unescapes};
-ghost use Rattle.sf_tool.specs.Explains.{OfWord};
-ghost use Rattle.sf_tool.specs.Fronts.{file_name};
-ghost use Rattle.sf_tool.specs.Lines.{AreScanWords, IsFirstRefused, IsRefused, RunsForm, RunsLines, RunsUnder, RunsWriting, SaysBy, SaysLines, ScansLines, SomeIsSaid, SomeIsSaidBy, answer_by};
+ghost use Rattle.std.specs.Option.{ForSome};
+ghost use Rattle.sf_notes.specs.Explains.{AreSpansOf, OfWord};
+ghost use Rattle.sf_console.specs.Fronts.{file_name};
+ghost use Rattle.sf_tool.specs.Lines.{RunsForm, RunsLines, RunsUnder, RunsWriting, SaysBy, SaysLines, ScansLines, SomeIsSaid, SomeIsSaidBy, answer_by};
 
-use crate::console::Console;
-use crate::error_output::write_told;
-use crate::explain::more_of_line;
-use crate::fronts::file_name;
 use sf_arguments::unescape;
-use sf_format::{Profile, ScanFormat};
-use sf_jobs::{
-    RefusedWord, Writing, check_formats, grammar_of, header_fault, is_headed, named_maker,
-    read_scan, read_writing, text_of, write_header,
-};
+use sf_console::{Console, file_name, write_told};
+use sf_format::{Profile, ScanFormat, Spans};
+use sf_jobs::{LinesJob, Writing, grammar_of, header_fault, is_headed, named_maker, write_header};
 use sf_lines::{LineFault, LineFormats, LinesEnd, LinesOptions, Teller, run_lines};
 use sf_makers::{FormMaker, Maker, PrintMaker};
 use sf_messages::{CommandFault, line_fault_line};
+use sf_notes::{known_spans, more_of_line};
 use sf_print::Sink;
 use sf_read::{Lookahead, Source};
 use sf_records::OutputForm;
@@ -57,7 +54,10 @@ struct LineNotes<'e, 'v, K: Sink, E, C: Console<K, E>> {
     of: PhantomData<(K, C)>,
     failed: bool,
     voice: &'v Voice<'v>,
+    /// Where the directives of the last format stand in its bytes, where that is known.
+    spans: Option<Spans>,
     ghost some: { SomeIsSaidBy voice.now },
+    ghost stand: { ForSome spans (AreSpansOf voice.now.profile voice.now.text.now) },
 }
 
 impl<K: Sink, E, C: Console<K, E>> Teller<K> for LineNotes<'_, '_, K, E, C> {
@@ -90,6 +90,7 @@ impl<K: Sink, E, C: Console<K, E>> Teller<K> for LineNotes<'_, '_, K, E, C> {
             self.alloc,
             voice.explain,
             voice.profile,
+            self.spans.as_ref(),
             voice.text,
             voice.format,
             line,
@@ -99,106 +100,6 @@ impl<K: Sink, E, C: Console<K, E>> Teller<K> for LineNotes<'_, '_, K, E, C> {
         let line = told.as_str().as_bytes();
         self.failed = write_told::<K, E, C>(to, self.err, voice.file, line, &more);
         Ok(())
-    }
-}
-
-/// The scan formats that the words spell, in their order; or the first that spells none.
-fn formats_of(
-    alloc: Global,
-    profile: Profile,
-    words: &[String],
-) -> Result<Vec<ScanFormat>, RefusedWord<'_>>
-    ensures ok { IfOk result (λ formats. AreScanWords profile (map string_bytes words.entry.now) formats.items) }
-    ensures err { IfErr result (λ refused. IsFirstRefused profile
-        (map string_bytes words.entry.now) refused.word.now refused.fault) }
-{
-    let mut formats = Vec::new(alloc);
-    for given in words {
-        let word = given.as_str();
-        let format = match read_scan(alloc, profile, word) {
-            Ok(format) => format,
-            Err(fault) => return Err(RefusedWord { word, fault }),
-        };
-        if formats.push(format).is_err() {
-            let fault = CommandFault::Memory;
-            return Err(RefusedWord { word, fault });
-        }
-    }
-    Ok(formats)
-}
-
-/// The scan formats of an order of lines.
-#[derive(Drop)]
-pub(crate) struct ScanFormats {
-    /// By which lines are passed over.
-    ignored: Vec<ScanFormat>,
-    /// By which lines are scanned.
-    tried: Vec<ScanFormat>,
-}
-
-/// The scan formats that the words spell, those by which lines are passed over first; or the first that spells none.
-fn scan_formats<'w>(
-    alloc: Global,
-    profile: Profile,
-    ignored: &'w [String],
-    words: &'w [String],
-) -> Result<ScanFormats, RefusedWord<'w>>
-    ensures ignored { IfOk result (λ formats. AreScanWords profile (map string_bytes ignored.entry.now)
-        formats.ignored.items) }
-    ensures tried { IfOk result (λ formats. AreScanWords profile (map string_bytes words.entry.now)
-        formats.tried.items) }
-    ensures err { IfErr result (λ refused. IsFirstRefused profile
-        (map string_bytes ignored.entry.now ++ map string_bytes words.entry.now) refused.word.now refused.fault) }
-{
-    let ignored = match formats_of(alloc, profile, ignored) {
-        Ok(formats) => formats,
-        Err(refused) => return Err(refused),
-    };
-    match formats_of(alloc, profile, words) {
-        Ok(tried) => Ok(ScanFormats { ignored, tried }),
-        Err(refused) => Err(refused),
-    }
-}
-
-/// The formats of an order of lines.
-#[derive(Drop)]
-pub(crate) struct LinesJob {
-    /// How records are written.
-    writing: Writing,
-    /// By which formats lines are scanned.
-    formats: ScanFormats,
-}
-
-/// The formats that the words of an order of lines spell. The print format is judged first, where there is one, then
-/// the scan formats, and then whether it can print what they give.
-pub(crate) fn lines_job<'o>(
-    alloc: Global,
-    profile: Profile,
-    form: OutputForm,
-    order: &'o Order,
-) -> Result<LinesJob, RefusedWord<'o>>
-    ensures writing { IfOk result (λ job. IsWriting profile form (option_map string_bytes order.entry.now.print)
-        job.writing) }
-    ensures ignored { IfOk result (λ job. AreScanWords profile (map string_bytes order.entry.now.ignored.items)
-        job.formats.ignored.items) }
-    ensures tried { IfOk result (λ job. AreScanWords profile (map string_bytes order.entry.now.texts.items)
-        job.formats.tried.items) }
-    ensures suits { IfOk result (λ job. SuitsAll job.writing job.formats.tried.items) }
-    ensures err { IfErr result (λ refused. IsRefused profile form (option_map string_bytes order.entry.now.print)
-        (map string_bytes order.entry.now.ignored.items) (map string_bytes order.entry.now.texts.items)
-        refused.word.now refused.fault) }
-{
-    let writing = match read_writing(alloc, profile, form, text_of(order.print.as_ref())) {
-        Ok(writing) => writing,
-        Err(refused) => return Err(refused),
-    };
-    let formats = match scan_formats(alloc, profile, &order.ignored, &order.texts) {
-        Ok(formats) => formats,
-        Err(refused) => return Err(refused),
-    };
-    match check_formats(&writing, &formats.tried) {
-        Ok(()) => Ok(LinesJob { writing, formats }),
-        Err(fault) => Err(RefusedWord { word: "", fault }),
     }
 }
 
@@ -293,12 +194,14 @@ fn lines_told<M: Maker, S: Source, K: Sink, E, C: Console<K, E>, const N: usize>
         → RunsLines S.to_come S.failures K.contents K.failures C.said C.unsaid (M.work maker.old) options limit
         formats.now.ignored.now formats.now.tried.now telling from.old from.new out.old out.new err.old err.new result }
 {
+    let spans = known_spans(alloc, voice.explain, voice.profile, voice.text);
     let mut notes = LineNotes::<K, E, C> {
         alloc,
         err,
         of: PhantomData,
         failed: false,
         voice,
+        spans,
     };
     loop_lines(alloc, maker, formats, options, limit, from, out, &mut notes)
 }

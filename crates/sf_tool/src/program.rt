@@ -4,13 +4,14 @@ ghost use Rattle.sf_blocks.specs.Blocks.{faults_of, handed_to, has_failed_flush,
 ghost use Rattle.sf_messages.specs.Texts.{error_line};
 ghost use Rattle.sf_tool.specs.Exits.{CanRun};
 ghost use Rattle.sf_tool.specs.Files.{RunsAsked};
-ghost use Rattle.sf_tool.specs.Programs.{Closes, HandsOn, IsAwaited, Reports, RunsOn, RunsProgram, SaysUnwritten, is_explained_by};
-ghost use Rattle.sf_tool.specs.Saying.{SaysText};
+ghost use Rattle.sf_tool.specs.Programs.{Closes, IsAwaited, Reports, RunsOn, RunsProgram, SaysUnwritten, is_explained_by};
+ghost use Rattle.sf_console.specs.Hands.{HandsOn};
+ghost use Rattle.sf_console.specs.Saying.{SaysText};
 
-use crate::console::InOrder;
 use crate::files::{Opener, run_inputs};
-use crate::invocation::{Asked, decline, exit_of, is_explained};
+use crate::invocation::{Asked, Finished, decline, is_explained};
 use sf_blocks::{BlockSink, Unblocked};
+use sf_console::{InOrder, exit_of};
 use sf_messages::{CommandFault, error_line};
 use sf_reasons::{LastError, is_unheard, with_reason};
 use sf_records::write_whole;
@@ -25,10 +26,12 @@ pub struct Terminals {
     pub errors: bool,
 }
 
-/// The exit status of the program, and the writers of its output and its error output.
+/// The exit status of the program, its input, with what it left unread in it, and the writers of its output and its
+/// error output.
 #[derive(Drop)]
-pub struct Ended<W: Write + Drop, E: Write + Drop> {
+pub struct Ended<S: Drop, W: Write + Drop, E: Write + Drop> {
     pub status: u8,
+    pub input: S,
     pub output: W,
     pub errors: E,
 }
@@ -142,10 +145,11 @@ fn close<W: Write + Drop, E: Write + Drop>(
     CommandFault::Write.status()
 }
 
-/// The exit status of the program, and the writer of its output.
+/// The exit status of the program, its input, and the writer of its output.
 #[derive(Drop)]
-struct Closed<W: Write + Drop> {
+struct Closed<S: Drop, W: Write + Drop> {
     status: u8,
+    input: S,
     output: W,
 }
 
@@ -158,19 +162,20 @@ fn run_asked_inputs<S: LastError, W: Write + Drop, E: Write + Drop, F: Opener<S>
     files: &mut F,
     output: &mut BlockSink<W>,
     errors: &mut Unblocked<E>,
-) -> u8
+) -> Finished<S>
     requires { CanRun asked }
     ensures { RunsAsked F.Opens taken_by write_failures HandsOn (handed_to ⟦<E as Write>⟧) faults_of S.to_come
-        S.failures S.last_error last_error_of watched asked from files.old files.new output.old output.new errors.old
-        errors.new result }
+        S.failures S.last_error last_error_of watched asked from result.source files.old files.new output.old output.new
+        errors.old errors.new result.status }
 {
     match asked {
         Ok(order) => run_inputs::<S, BlockSink<W>, Unblocked<E>, InOrder, F>(
             alloc, watched, order, from, files, output, errors,
         ),
-        Err(fault) => exit_of(decline::<BlockSink<W>, Unblocked<E>, InOrder>(
-            &fault, output, errors,
-        )),
+        Err(fault) => Finished {
+            status: exit_of(decline::<BlockSink<W>, Unblocked<E>, InOrder>(&fault, output, errors)),
+            source: from,
+        },
     }
 }
 
@@ -183,12 +188,12 @@ fn run_open<S: LastError, W: Write + Drop, E: Write + Drop, F: Opener<S>>(
     files: &mut F,
     output: BlockSink<W>,
     errors: &mut Unblocked<E>,
-) -> Closed<W>
+) -> Closed<S, W>
     requires { CanRun asked }
     ensures { (ran : BlockSink W ⟦<W as Write>⟧) × ((closed : BlockSink W ⟦<W as Write>⟧)
         × ((said : Unblocked E) × ((answer : ℕ)
         × RunsAsked F.Opens taken_by write_failures HandsOn (handed_to ⟦<E as Write>⟧) faults_of S.to_come S.failures
-        S.last_error last_error_of watched asked from files.old files.new output ran errors.old said answer
+        S.last_error last_error_of watched asked from result.input files.old files.new output ran errors.old said answer
         × Closes ⟦<W as Write>⟧ ⟦<E as Write>⟧ watched (is_explained_by watched asked) ran closed said errors.new
         answer result.status
         × (result.output ≡ writer_of closed)))) }
@@ -207,15 +212,16 @@ fn run_open<S: LastError, W: Write + Drop, E: Write + Drop, F: Opener<S>>(
         &mut output,
         errors,
     );
-    let status = close(alloc, telling, &mut output, errors, ended);
+    let status = close(alloc, telling, &mut output, errors, ended.status);
     Closed {
         status,
+        input: ended.source,
         output: output.into_writer(),
     }
 }
 
-/// Runs the program of the words, which are those after its name, on its streams, and gives its writers back with its
-/// exit status. `from` is its standard input; `files` opens the files that the words name. A message goes to the error
+/// Runs the program of the words, which are those after its name, on its streams, and gives these back with its exit
+/// status. `from` is its standard input; `files` opens the files that the words name. A message goes to the error
 /// output at once, after all that was written to the output before it. At a terminal, or where the words ask for it,
 /// each record goes to the output at once; else they go in blocks. The output is flushed before the end; where that or
 /// an earlier flush fails, the status is 3, and one line reports it. The other statuses are those of `tool`.
@@ -230,10 +236,10 @@ pub fn run_program<S: LastError, W: Write + Drop, E: Write + Drop, F: Opener<S>>
     files: &mut F,
     output: W,
     errors: E,
-) -> Ended<W, E>
+) -> Ended<S, W, E>
     ensures { RunsProgram ⟦<W as Write>⟧ ⟦<E as Write>⟧ F.Opens S.to_come S.failures S.last_error
-        (map string_bytes words.now) terminals from files.old files.new output result.output errors result.errors
-        result.status }
+        (map string_bytes words.now) terminals from result.input files.old files.new output result.output errors
+        result.errors result.status }
 {
     let asked = read_words(alloc, words);
     let mut errors = Unblocked::new(errors);
@@ -250,6 +256,7 @@ pub fn run_program<S: LastError, W: Write + Drop, E: Write + Drop, F: Opener<S>>
             );
             Ended {
                 status: closed.status,
+                input: closed.input,
                 output: closed.output,
                 errors: errors.into_writer(),
             }
@@ -258,6 +265,7 @@ pub fn run_program<S: LastError, W: Write + Drop, E: Write + Drop, F: Opener<S>>
             say_fault(&mut errors, CommandFault::Memory);
             Ended {
                 status: CommandFault::Memory.status(),
+                input: from,
                 output,
                 errors: errors.into_writer(),
             }

@@ -1,15 +1,16 @@
-use Rattle.std.proofs.Common.{◌≡◌, ◌++◌, Some}
+use Rattle.std.proofs.Common.{◌≡◌, ◌∙◌, ◌++◌, Some, ap, sym}
 use Rattle.std.proofs.lemmas.Slice.Eq.{strip_suffix_is}
 use Rattle.std.proofs.lemmas.Bool.Decides.{Decides-eqb}
 use Rattle.sf_jobs.specs.CopyFormats.{newline_end}
-use Rattle.sf_jobs.proofs.Fronts.{is_no_format, no_front}
+use Rattle.sf_jobs.proofs.Fronts.{has_front, is_no_format, no_front}
 use Rattle.sf_jobs.proofs.copy_formats.front_of.Goals as goal
 
 pub returns-in-Ok : goal.returns-in-Ok
 returns-in-Ok c =
     let ends : c.args.own.now ≡ c.in-Some.front.now ++ newline_end =
     strip_suffix_is Decides-eqb c.args.own.now newline_end (Some c.in-Some.front) c.in-Some.ensures.cases in
-    (c.in-Some.front.now, ends, c.in-Ok.ensures.spelled)
+    has_front c.args.profile c.args.own.now c.in-Some.front.now c.in-Ok.format c.in_ok-scan.scan ends c.in-Ok.ensures.spelled
+    c.in_ok-scan.ensures.bytes c.in_ok-scan.ensures.format
 
 pub returns-in_default-why : goal.returns-in_default-why
 returns-in_default-why c =

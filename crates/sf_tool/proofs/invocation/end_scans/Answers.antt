@@ -1,9 +1,10 @@
 use Rattle.std.proofs.Common.{◌++◌, [], Err, inl, map, refl, string_bytes, subst}
 use Rattle.std.specs.Prelude.{option_map}
 use Rattle.sf_jobs.specs.Commands.{form_of, grammar_of}
-use Rattle.sf_tool.specs.Exits.{EndsKnown}
-use Rattle.sf_tool.specs.Lines.{IsRefused}
-use Rattle.sf_tool.proofs.Lining.{nothing_said}
+use Rattle.sf_tool.specs.Exits.{EndsRefused}
+use Rattle.sf_console.specs.Ends.{EndsKnown}
+use Rattle.sf_jobs.specs.LinesJobs.{IsRefused}
+use Rattle.sf_tool.proofs.Lining.{more_of_refused_lines, nothing_said}
 use Rattle.sf_tool.proofs.invocation.end_scans.Goals as goal
 
 -- the words are refused
@@ -19,14 +20,10 @@ returns-in-Err g c =
     c.in-Err.ensures.err in
     let refused = subst (λ profile. IsRefused profile (form_of order.output) print passed words word fault) c.grammar_of-profile.ensures
     by_form in
-    let by_source = subst (λ (s : _). EndsKnown g.C.Console.Hands g.C.Console.said g.C.Console.unsaid c.args.watched c.args.explain
-    (g.R.Reasons.why_unread s) (g.C.Console.why c.args.out.now) order c.deref.result.now (Err fault) c.args.out.now
-    c.end_known-in-Err.new.out c.args.err.now c.end_known-in-Err.new.err c.end_known-in-Err.result) c.source-source-in-Err.ensures
-    c.end_known-in-Err.ensures in
-    let ends = subst (λ notes. EndsKnown g.C.Console.Hands g.C.Console.said g.C.Console.unsaid c.args.watched c.args.explain
-    (g.R.Reasons.why_unread c.args.from.now.source) (g.C.Console.why c.args.out.now) order notes (Err fault) c.args.out.now
-    c.end_known-in-Err.new.out c.args.err.now c.end_known-in-Err.new.err c.end_known-in-Err.result) c.deref.ensures.value
-    by_source in (
+    let ended = subst (λ (s : _). EndsRefused g.C.Console.Hands g.C.Console.said g.C.Console.unsaid c.args.watched c.args.explain
+    (g.R.Reasons.why_unread s) (g.C.Console.why c.args.out.now) order word fault c.args.out.now c.end_refused.new.out c.args.err.now
+    c.end_refused.new.err c.end_refused.result) c.source.ensures c.end_refused.ensures in
+    let (notes, says, ends) = ended in (
       Err fault,
       (
         c.args.out.now,
@@ -34,8 +31,9 @@ returns-in-Err g c =
           c.args.err.now,
           inl ((fault, refl, (word, refused)), refl, refl, refl),
           (
-            c.notes_of_refused-notes.result.items,
-            c.notes_of_refused-notes.ensures (grammar_of order.profile) (form_of order.output) print passed words refused,
+            notes,
+            more_of_refused_lines (grammar_of order.profile) (form_of order.output) print passed words c.args.explain word notes fault
+                refused says,
             ends,
           ),
         ),

@@ -14,4 +14,5 @@ returns-in-Err g c = rw c.in-Err.is (record {
   place = None;
   done = (refl, c.decline.ensures);
   placed = tt;
+  back = refl;
 })

@@ -3,7 +3,7 @@ use Rattle.sf_tool.proofs.lines.lines_told.Goals as goal
 
 -- the voice says of lines what it does
 pub invariant_of-notes : goal.invariant_of-notes
-invariant_of-notes g c = record { some = c.requires.said }
+invariant_of-notes g c = record { some = c.requires.said; stand = c.known_spans-spans.ensures }
 
 pub returns : goal.returns
 returns g c telling says = search (rules, c.loop_lines.ensures.runs telling says, c.loop_lines.ensures.kept)

@@ -3,7 +3,7 @@ use Rattle.std.specs.Prelude.{option_map}
 use Rattle.std.proofs.lemmas.Option.{same_Some, slice_get-get_or}
 use Rattle.sf_format.specs.declared.directive.Directive.{Directive}
 use Rattle.sf_jobs.specs.Commands.{grammar_of}
-use Rattle.sf_tool.specs.Fronts.{file_name}
+use Rattle.sf_console.specs.Fronts.{file_name}
 use Rattle.sf_tool.specs.Lines.{SaysLines, SomeIsSaid}
 use Rattle.sf_tool.proofs.lines.lines_with.Goals as goal
 

@@ -6,10 +6,12 @@ use Rattle.sf_messages.specs.declared.fault.CommandFault.TheVariants.{Memory}
 use Rattle.sf_jobs.specs.Heads.{is_headed, names_text}
 use Rattle.sf_jobs.specs.Commands.{form_of, grammar_of}
 use Rattle.sf_arguments.specs.Escapes.{Unescapes}
-use Rattle.sf_tool.specs.Explains.{OfWord}
-use Rattle.sf_tool.specs.Fronts.{file_name}
-use Rattle.sf_tool.specs.Lines.{AreRefused, RunsWriting, SaysLines, SomeIsSaid}
-use Rattle.sf_tool.proofs.Lining.{as_many, no_memory, refused_after, refused_memory, some_said, telling_of}
+use Rattle.sf_notes.specs.Explains.{OfWord}
+use Rattle.sf_console.specs.Fronts.{file_name}
+use Rattle.sf_tool.specs.Lines.{RunsWriting, SaysLines, SomeIsSaid}
+use Rattle.sf_jobs.specs.LinesJobs.{AreRefused}
+use Rattle.sf_tool.proofs.Lining.{no_memory, refused_memory, some_said, telling_of}
+use Rattle.sf_jobs.proofs.LineWords.{as_many, refused_after}
 use Rattle.sf_tool.proofs.lines.scan_lines.Goals as goal
 
 pub returns-in_err-text : goal.returns-in_err-text

@@ -1,7 +1,7 @@
 use Rattle.std.proofs.Common.{◌≡◌, ◌∙◌, ℕ, List, subst}
 use Rattle.sf_blocks.specs.Blocks.{faults_of, handed_to}
 use Rattle.sf_messages.specs.Texts.{error_line}
-use Rattle.sf_tool.specs.Saying.{SaysText}
+use Rattle.sf_console.specs.Saying.{SaysText}
 use Rattle.sf_tool.proofs.program.say_fault.Goals as goal
 
 pub returns : goal.returns

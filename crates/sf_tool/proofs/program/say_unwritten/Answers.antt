@@ -4,7 +4,7 @@ use Rattle.sf_messages.specs.Texts.{error_line}
 use Rattle.sf_messages.specs.declared.fault.CommandFault.TheVariants.{Write}
 use Rattle.sf_reasons.specs.Faults.{IsWithReason, is_unheard}
 use Rattle.sf_reasons.proofs.Alone.{alone}
-use Rattle.sf_tool.specs.Saying.{SaysText}
+use Rattle.sf_console.specs.Saying.{SaysText}
 use Rattle.sf_tool.proofs.program.say_unwritten.Goals as goal
 
 pub returns-in-Some : goal.returns-in-Some

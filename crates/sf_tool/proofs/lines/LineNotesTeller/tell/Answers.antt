@@ -2,9 +2,14 @@ use Rattle.std.proofs.Common.{◌≡◌, ◌∙◌, ◌++◌, ◌∷◌, [], fal
 use Rattle.std.specs.Prelude.{option_map}
 use Rattle.sf_lines.specs.Telling.{Tells}
 use Rattle.sf_messages.specs.LineTexts.{line_fault_text}
-use Rattle.sf_tool.specs.Fronts.{in_front}
-use Rattle.sf_tool.proofs.Lining.{says_more}
+use Rattle.sf_console.specs.Fronts.{in_front}
+use Rattle.sf_tool.proofs.Lining.{says_more, spans_lent}
 use Rattle.sf_tool.proofs.lines.LineNotesTeller.tell.Goals as goal
+
+pub more_of_line-requires : goal.more_of_line-requires
+more_of_line-requires g c =
+    let notes = c.args.self.now in
+    spans_lent notes.voice.now.profile notes.voice.now.text.now notes.spans c.as_ref.result c.as_ref.ensures.value notes.stand
 
 pub returns-clause-told : goal.returns-clause-told
 returns-clause-told g c telling says =
