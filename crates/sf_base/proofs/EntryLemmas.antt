@@ -13,9 +13,9 @@ use Rattle.std.proofs.lemmas.Map.Keys.{IsDistinct-push}
 use Rattle.std.proofs.lemmas.Map.Steps.{length-le_from_distinct_below}
 use Rattle.sf_base.specs.Data.{Bytes, Assigned, datum_at}
 use Rattle.sf_base.specs.Kept.{assigned, is_opened, with_closed, with_text}
-use Rattle.sf_base.specs.Entries.{datum_in, assigned_in, IsWithin, slots_of, opened_at, kept_of, IsSlot, IsAbsent, IsUnderWay, IsSound}
-use Rattle.sf_base.specs.declared.entries.Cell.{Cell}
-use Rattle.sf_base.specs.declared.entries.Cell.TheVariants as cell
+use Rattle.sf_base.specs.Entries.{Cell, cell_of, text_entry, datum_in, assigned_in, IsWithin, slots_of, opened_at, kept_of, IsSlot, IsAbsent, IsUnderWay, IsSound}
+use Rattle.sf_base.specs.Entries as cell
+use Rattle.sf_base.specs.declared.real.Real.TheVariants as reals
 use Rattle.sf_base.specs.declared.entries.Entry.{Entry}
 
 -- what was not found is not among the rest
@@ -63,24 +63,25 @@ length-lt-slots n xs slot apart in_range is_slot absent =
     omega (arith, few, length-append more (0 ∷ []), length-append xs (slot ∷ []))
 
 IsWithin-le : (m n : ℕ) → m ≤ n → (x : Cell) → IsWithin m x → IsWithin n x
-IsWithin-le m n le (cell.Number number) h = h
+IsWithin-le m n le (cell.Number kind negative magnitude) h = h
 IsWithin-le m n le (cell.Text from to) h = (h.0, omega (arith, h.1))
-IsWithin-le m n le (cell.Real r) h = h
+IsWithin-le m n le (cell.Real (reals.F32 bits)) h = h
+IsWithin-le m n le (cell.Real (reals.F64 bits)) h = h
 
 -- one entry more, which may be a text that ends where the closed ones now do
 pub IsSound-push : (slots : ℕ) (es : List Entry) (closed closed' len : ℕ) (opened opened' : Option ℕ) (e : Entry)
     → IsSound slots es closed len opened → closed ≤ closed' → closed' ≤ len → IsSlot slots e.slot → IsAbsent e.slot (slots_of es)
-    → IsWithin closed' e.cell → IsUnderWay slots (slots_of es ++ e.slot ∷ []) closed' len opened'
+    → IsWithin closed' (cell_of e) → IsUnderWay slots (slots_of es ++ e.slot ∷ []) closed' len opened'
     → IsSound slots (es ++ e ∷ []) closed' len opened'
 IsSound-push slots es closed closed' len opened opened' e sound rises held is_slot absent within under_way =
     let slots_more : slots_of (es ++ e ∷ []) ≡ slots_of es ++ e.slot ∷ [] = map-append (λ (x : Entry). x.slot) es (e ∷ []) in
-    let wider : All (λ (x : Entry). IsWithin closed' x.cell) es =
-    All-weaker (λ (x : Entry). IsWithin closed x.cell) (λ (x : Entry). IsWithin closed' x.cell)
-    (λ x w. IsWithin-le closed closed' rises x.cell w) es sound.within in
+    let wider : All (λ (x : Entry). IsWithin closed' (cell_of x)) es =
+    All-weaker (λ (x : Entry). IsWithin closed (cell_of x)) (λ (x : Entry). IsWithin closed' (cell_of x))
+    (λ x w. IsWithin-le closed closed' rises (cell_of x) w) es sound.within in
     record {
       apart = rw slots_more (IsDistinct-push nat_eq_equiv (slots_of es) e.slot sound.apart absent);
       in_range = rw slots_more (All-push (IsSlot slots) (slots_of es) e.slot sound.in_range is_slot);
-      within = All-push (λ (x : Entry). IsWithin closed' x.cell) es e wider within;
+      within = All-push (λ (x : Entry). IsWithin closed' (cell_of x)) es e wider within;
       closed_held = held;
       under_way = rw slots_more under_way;
     }
@@ -102,25 +103,25 @@ closed-all slots taken closed len (Some s) text h none = cc
 
 -- a text within the first n bytes is the same in all of them
 datum_in-take : (all : List ℕ) (n : ℕ) (cell : Cell) → IsWithin n cell → datum_in all cell ≡ datum_in (take n all) cell
-datum_in-take all n (cell.Number number) h = refl
+datum_in-take all n (cell.Number kind negative magnitude) h = refl
 datum_in-take all n (cell.Real r) h = refl
 datum_in-take all n (cell.Text from to) h =
     ap Bytes (between_is all from to ∙ (ap (drop from) (sym (take-take to n all h.1)) ∙ sym (between_is (take n all) from to)))
 
-pub assigned_in-take : (all : List ℕ) (n : ℕ) (es : List Entry) → All (λ (e : Entry). IsWithin n e.cell) es
+pub assigned_in-take : (all : List ℕ) (n : ℕ) (es : List Entry) → All (λ (e : Entry). IsWithin n (cell_of e)) es
     → map (assigned_in all) es ≡ map (assigned_in (take n all)) es
 assigned_in-take all n [] within = refl
 assigned_in-take all n (e ∷ es) within =
-    let first = datum_in-take all n e.cell (All-head (λ (x : Entry). IsWithin n x.cell) e es within) in
-    let rest = assigned_in-take all n es (All-tail (λ (x : Entry). IsWithin n x.cell) e es within) in
+    let first = datum_in-take all n (cell_of e) (All-head (λ (x : Entry). IsWithin n (cell_of x)) e es within) in
+    let rest = assigned_in-take all n es (All-tail (λ (x : Entry). IsWithin n (cell_of x)) e es within) in
     cc
 
 -- what is kept after the text from n on is closed
-pub kept_of-close : (es : List Entry) (all : List ℕ) (n len slot room : ℕ) → len ≡ length all → All (λ (e : Entry). IsWithin n e.cell) es
-    → kept_of (es ++ record { slot = slot; cell = cell.Text n len } ∷ []) all len None room
+pub kept_of-close : (es : List Entry) (all : List ℕ) (n len slot room : ℕ) → len ≡ length all → All (λ (e : Entry). IsWithin n (cell_of e)) es
+    → kept_of (es ++ text_entry slot n len ∷ []) all len None room
     ≡ with_closed (kept_of es all n (Some slot) room)
 kept_of-close es all n len slot room is_len within =
-    let e : Entry = record { slot = slot; cell = cell.Text n len } in
+    let e : Entry = text_entry slot n len in
     let whole : take len all ≡ all = rw is_len (take-length all) in
     let text : slice_range all n len ≡ drop n all = between_to_end all n len (omega (arith, is_len)) in
     let entries : map (assigned_in all) (es ++ e ∷ []) ≡ map (assigned_in all) es ++ assigned slot (Bytes (slice_range all n len)) ∷ [] =
@@ -138,8 +139,8 @@ none_opened text (Some slot) h = cc
 
 -- what is kept after a text is put after the closed ones, where none is opened
 kept_of-put_none : (es : List Entry) (all text : List ℕ) (n len slot room room' : ℕ) → n ≡ length all → len ≡ length (all ++ text)
-    → All (λ (e : Entry). IsWithin n e.cell) es
-    → kept_of (es ++ record { slot = slot; cell = cell.Text n len } ∷ []) (all ++ text) len None room'
+    → All (λ (e : Entry). IsWithin n (cell_of e)) es
+    → kept_of (es ++ text_entry slot n len ∷ []) (all ++ text) len None room'
     ≡ with_text slot text room' (kept_of es all n None room)
 kept_of-put_none es all text n len slot room room' is_n is_len within =
     let front : take n (all ++ text) ≡ all = rw is_n (take-append_seam all text) in
@@ -148,8 +149,8 @@ kept_of-put_none es all text n len slot room room' is_n is_len within =
     rw (kept_of-close es (all ++ text) n len slot room' is_len within, front, rest, whole) refl
 
 pub kept_of-put : (es : List Entry) (all text : List ℕ) (n len slot room room' : ℕ) (opened : Option ℕ)
-    → opened_at (drop n all) opened ≡ None → n ≡ length all → len ≡ length (all ++ text) → All (λ (e : Entry). IsWithin n e.cell) es
-    → kept_of (es ++ record { slot = slot; cell = cell.Text n len } ∷ []) (all ++ text) len opened room'
+    → opened_at (drop n all) opened ≡ None → n ≡ length all → len ≡ length (all ++ text) → All (λ (e : Entry). IsWithin n (cell_of e)) es
+    → kept_of (es ++ text_entry slot n len ∷ []) (all ++ text) len opened room'
     ≡ with_text slot text room' (kept_of es all n opened room)
 kept_of-put es all text n len slot room room' opened none is_n is_len within =
     rw (none_opened (drop n all) opened none) (kept_of-put_none es all text n len slot room room' is_n is_len within)
@@ -166,7 +167,7 @@ unfolding IsDistinct
 IsSound-none slots = record {
   apart = tt;
   in_range = All-nil (IsSlot slots);
-  within = All-nil (λ (x : Entry). IsWithin 0 x.cell);
+  within = All-nil (λ (x : Entry). IsWithin 0 (cell_of x));
   closed_held = omega arith;
   under_way = refl;
 }
@@ -192,7 +193,7 @@ differs_at k slot (suc i) (e ∷ es) d all below is = differs_at k slot i es d a
 -- an entry for the slot is the one that is found, as no two are for one slot
 pub found_at : (closed : List ℕ) (slot i : ℕ) (es : List Entry) (d : Entry) → IsDistinct nat_eq (slots_of es) → i < length es
     → (get_or es i d).slot ≡ slot
-    → Some (datum_in closed (get_or es i d).cell) ≡ datum_at slot (map (assigned_in closed) es)
+    → Some (datum_in closed (cell_of (get_or es i d))) ≡ datum_at slot (map (assigned_in closed) es)
 unfolding IsDistinct
 found_at closed slot i [] d apart below is = absurd (omega (arith, below))
 found_at closed slot zero (e ∷ es) d apart below is = let same : nat_eq slot e.slot ≡ true = eq-eqb slot e.slot (sym is) in rw same refl
@@ -204,7 +205,7 @@ found_at closed slot (suc i) (e ∷ es) d apart below is =
 -- a text is put after the closed ones, where none is opened
 pub IsSound-put : (slots : ℕ) (es : List Entry) (closed len len' : ℕ) (opened : Option ℕ) (text : List ℕ) (slot : ℕ)
     → IsSound slots es closed len opened → opened_at text opened ≡ None → len ≤ len' → IsSlot slots slot → IsAbsent slot (slots_of es)
-    → IsSound slots (es ++ record { slot = slot; cell = cell.Text closed len' } ∷ []) len' len' opened
+    → IsSound slots (es ++ text_entry slot closed len' ∷ []) len' len' opened
 IsSound-put slots es closed len len' opened text slot sound none more is_slot absent =
     let held : closed ≤ len' = omega (arith, sound.closed_held, more) in
     let longer : IsSound slots es closed len' (Some slot) = record {
@@ -215,7 +216,7 @@ IsSound-put slots es closed len len' opened text slot sound none more is_slot ab
       under_way = (is_slot, absent);
     } in
     rw (none_opened text opened none)
-    (IsSound-push slots es closed len' len' (Some slot) None (record { slot = slot; cell = cell.Text closed len' }) longer held
+    (IsSound-push slots es closed len' len' (Some slot) None (text_entry slot closed len') longer held
     (omega arith) is_slot absent (held, omega arith) refl)
 
 -- of more bytes that were appended at once, the first n stay

@@ -155,8 +155,9 @@ impl Buffer {
         ensures full { OnErr result (self.old.capacity < length self.old.bytes + count) }
     {
         if count <= MOVED && MOVED <= piece.len() && MOVED <= self.block.len() - self.len {
-            move_sixteen(&mut self.block, self.len, piece);
-            self.len += count;
+            let len = self.len;
+            move_sixteen(&mut self.block, len, piece);
+            self.len = len + count;
             return Ok(());
         }
         self.append_apart(piece, count)

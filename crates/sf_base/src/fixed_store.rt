@@ -2,7 +2,7 @@
 ghost use Rattle.std.specs.Prelude.{◌≡◌, ◌+◌, length};
 ghost use Rattle.sf_base.specs.Kept.{buffer_of, nothing_kept};
 
-use crate::entries::{Cell, Entry, find_shown, number_of};
+use crate::entries::{Entry, find_shown, number_of};
 use crate::store::{Store, StoreFull};
 use crate::{Number, Real, Shown, Value};
 use arrayvec::ArrayVec;
@@ -75,8 +75,7 @@ impl<const CAP: usize, const SLOTS: usize> Store for FixedStore<CAP, SLOTS> {
     }
 
     fn set_real(&mut self, slot: u8, real: Real) {
-        let cell = Cell::Real(real);
-        self.entries.push(Entry { slot, cell });
+        self.entries.push(Entry::of_real(slot, real));
     }
 
     fn open_text(&mut self, slot: u8) {
@@ -102,13 +101,7 @@ impl<const CAP: usize, const SLOTS: usize> Store for FixedStore<CAP, SLOTS> {
             return;
         };
         let end = self.bytes.len();
-        self.entries.push(Entry {
-            slot,
-            cell: Cell::Text {
-                from: self.closed,
-                to: end,
-            },
-        });
+        self.entries.push(Entry::of_text(slot, self.closed, end));
         self.closed = end;
         self.opened = None;
     }
@@ -132,8 +125,7 @@ impl<const CAP: usize, const SLOTS: usize> Store for FixedStore<CAP, SLOTS> {
     }
 
     fn set_number(&mut self, slot: u8, number: Number) {
-        let cell = Cell::Number(number);
-        self.entries.push(Entry { slot, cell });
+        self.entries.push(Entry::of_number(slot, number));
     }
 
     fn shown(&self, slot: u8) -> Option<Shown<'_>> {

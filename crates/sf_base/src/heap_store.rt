@@ -3,7 +3,7 @@ ghost use Rattle.std.specs.Prelude.{◌≡◌, ◌+◌, ◌<◌, ◌≤◌, ◌+
 ghost use Rattle.sf_base.specs.Kept.{buffer_of, nothing_kept};
 
 use crate::buffer::{Buffer, MOVED};
-use crate::entries::{Cell, Entry, find_shown, number_of};
+use crate::entries::{Entry, find_shown, number_of};
 use crate::store::{Store, StoreFull};
 use crate::{Number, Real, Shown, Value};
 use std::alloc::{AllocError, Global};
@@ -97,8 +97,7 @@ impl Store for HeapStore {
     }
 
     fn set_real(&mut self, slot: u8, real: Real) {
-        let cell = Cell::Real(real);
-        self.entries.push_reserved(Entry { slot, cell });
+        self.entries.push_reserved(Entry::of_real(slot, real));
     }
 
     fn open_text(&mut self, slot: u8) {
@@ -124,13 +123,8 @@ impl Store for HeapStore {
             return;
         };
         let end = self.bytes.len();
-        self.entries.push_reserved(Entry {
-            slot,
-            cell: Cell::Text {
-                from: self.closed,
-                to: end,
-            },
-        });
+        self.entries
+            .push_reserved(Entry::of_text(slot, self.closed, end));
         self.closed = end;
         self.opened = None;
     }
@@ -156,8 +150,7 @@ impl Store for HeapStore {
 
     #[inline(always)]
     fn set_number(&mut self, slot: u8, number: Number) {
-        let cell = Cell::Number(number);
-        self.entries.push_reserved(Entry { slot, cell });
+        self.entries.push_reserved(Entry::of_number(slot, number));
     }
 
     #[inline(always)]
@@ -165,8 +158,7 @@ impl Store for HeapStore {
         let from = self.closed;
         append(&mut self.bytes, &mut self.sure, piece, count)?;
         let to = self.bytes.len();
-        let cell = Cell::Text { from, to };
-        self.entries.push_reserved(Entry { slot, cell });
+        self.entries.push_reserved(Entry::of_text(slot, from, to));
         self.closed = to;
         Ok(())
     }

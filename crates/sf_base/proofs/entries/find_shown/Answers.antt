@@ -1,6 +1,6 @@
 use Rattle.std.proofs.Common.{Some, sym, ap, ◌∙◌, arith}
 use Rattle.std.proofs.lemmas.Grind.{common_steps}
-use Rattle.sf_base.specs.Entries.{datum_in}
+use Rattle.sf_base.specs.Entries.{cell_of, datum_in}
 use Rattle.sf_base.specs.declared.entries.Entry.{Entry}
 use Rattle.sf_base.proofs.EntryLemmas.{found_at}
 use Rattle.sf_base.proofs.entries.find_shown.Goals as goal
@@ -20,6 +20,6 @@ returns-then-entry-slot c =
     let entry : Entry = c.in-Some.entry.now in
     let found = c.in-Some.ensures.lookup in
     ap Some c.shown_in.ensures
-    ∙ ap (λ (e : Entry). Some (datum_in closed e.cell)) found.1
+    ∙ ap (λ (e : Entry). Some (datum_in closed (cell_of e))) found.1
     ∙ found_at closed c.args.slot _ c.args.entries.now entry c.requires.apart found.3.0
     (ap (λ (e : Entry). e.slot) (sym found.1) ∙ c.if-entry-slot.true)

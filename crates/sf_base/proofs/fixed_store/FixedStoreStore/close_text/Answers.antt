@@ -16,7 +16,7 @@ invariant_of-self g c =
     let s = c.self.inside in
     let sound = c.self.invariant.0 in
     let under_way = rw c.in-Some.is at sound.under_way in (
-      rw c.push.ensures.items (IsSound-push _ s.entries.items s.closed c.len-end.result (length s.bytes.items) s.opened None _ sound
+      rw (c.push.ensures.items, c.of_text.ensures) (IsSound-push _ s.entries.items s.closed c.len-end.result (length s.bytes.items) s.opened None _ sound
           (omega (arith, sound.closed_held, c.len-end.ensures.value)) (omega (arith, c.len-end.ensures.value)) under_way.0 under_way.1
           (omega (arith, sound.closed_held, c.len-end.ensures.value), omega arith) c.len-end.ensures.value),
       c.self.invariant.1,
@@ -25,6 +25,6 @@ invariant_of-self g c =
 pub returns : goal.returns
 returns g c =
     let s = c.self.inside in
-    rw (c.push.ensures.items, ← c.self.view_is, c.in-Some.is)
+    rw (c.push.ensures.items, c.of_text.ensures, ← c.self.view_is, c.in-Some.is)
     (kept_of-close s.entries.items s.bytes.items s.closed c.len-end.result c.in-Some.slot _ c.len-end.ensures.value
     c.self.invariant.0.within)

@@ -22,8 +22,9 @@ invariant_of-self g c =
     let other = rw (← c.self.view_is) at c.requires.not_opened in
     let under_way = IsUnderWay-push _ (slots_of s.entries.items) s.closed (length s.bytes.items) s.opened
     (drop s.closed s.bytes.items) c.args.slot sound.under_way other in (
-      rw c.push.ensures.items (IsSound-push _ s.entries.items s.closed s.closed (length s.bytes.items) s.opened s.opened _ sound
-          (omega arith) sound.closed_held (c.requires.at_least_one, c.requires.in_range) absent tt under_way),
+      rw c.push.ensures.items (IsSound-push _ s.entries.items s.closed s.closed (length s.bytes.items) s.opened s.opened c.of_real.result sound
+          (omega arith) sound.closed_held (rw c.of_real.ensures.slot (c.requires.at_least_one, c.requires.in_range))
+          (rw c.of_real.ensures.slot absent) (c.of_real.ensures.within _) (rw c.of_real.ensures.slot under_way)),
       c.self.invariant.1,
     )
 

@@ -15,7 +15,7 @@ invariant_of-self c =
     let s = c.self.inside in
     let sound = c.self.invariant.0 in
     let under_way = rw c.in-Some.is at sound.under_way in (
-      rw c.push_reserved.ensures.items (IsSound-push 32 s.entries.items s.closed c.len-end.result
+      rw (c.push_reserved.ensures.items, c.of_text.ensures) (IsSound-push 32 s.entries.items s.closed c.len-end.result
           (length s.bytes.bytes) s.opened None _ sound (omega (arith, sound.closed_held, c.len-end.ensures.count))
           (omega arith) under_way.0 under_way.1 (omega (arith, sound.closed_held, c.len-end.ensures.count), omega arith)
           c.len-end.ensures.count),
@@ -29,6 +29,6 @@ invariant_of-self c =
 pub returns : goal.returns
 returns c =
     let s = c.self.inside in
-    rw (c.push_reserved.ensures.items, ← c.self.view_is, c.in-Some.is)
+    rw (c.push_reserved.ensures.items, c.of_text.ensures, ← c.self.view_is, c.in-Some.is)
     (kept_of-close s.entries.items s.bytes.bytes s.closed c.len-end.result c.in-Some.slot _ c.len-end.ensures.count
     c.self.invariant.0.within)

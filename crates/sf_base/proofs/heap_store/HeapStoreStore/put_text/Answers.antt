@@ -21,7 +21,7 @@ invariant_of-self-2 c =
     let text = take c.args.count c.args.piece.now in
     let more : length s.bytes.bytes ≤ length c.append.new.bytes.bytes =
     rw c.in_ok-append.ensures.items (omega (arith, length-append s.bytes.bytes text)) in (
-      rw (c.push_reserved.ensures.items, c.len-to.ensures.count)
+      rw (c.push_reserved.ensures.items, c.of_text.ensures, c.len-to.ensures.count)
           (IsSound-put 32 s.entries.items s.closed (length s.bytes.bytes) (length c.append.new.bytes.bytes) s.opened
           (drop s.closed s.bytes.bytes) c.args.slot c.self.invariant.0 none more (c.requires.at_least_one, c.requires.in_range) absent),
       record {
@@ -40,6 +40,6 @@ returns-clause-ok c =
     let text = take c.args.count c.args.piece.now in
     let len : c.len-to.result ≡ length (s.bytes.bytes ++ text) =
     rw (c.len-to.ensures.count, c.in_ok-append.ensures.items) refl in
-    rw (c.push_reserved.ensures.items, c.in_ok-append.ensures.items, ← c.self.view_is)
+    rw (c.push_reserved.ensures.items, c.of_text.ensures, c.in_ok-append.ensures.items, ← c.self.view_is)
     (kept_of-put s.entries.items s.bytes.bytes text s.closed c.len-to.result c.args.slot 0 _ s.opened none whole len
     c.self.invariant.0.within)

@@ -21,8 +21,9 @@ invariant_of-self c =
     let other = rw (← c.self.view_is) at c.requires.not_opened in
     let under_way = IsUnderWay-push 32 (slots_of s.entries.items) s.closed (length s.bytes.bytes) s.opened
     (drop s.closed s.bytes.bytes) c.args.slot sound.under_way other in (
-      rw c.push_reserved.ensures.items (IsSound-push 32 s.entries.items s.closed s.closed (length s.bytes.bytes) s.opened s.opened _ sound
-          (omega arith) sound.closed_held (c.requires.at_least_one, c.requires.in_range) absent tt under_way),
+      rw c.push_reserved.ensures.items (IsSound-push 32 s.entries.items s.closed s.closed (length s.bytes.bytes) s.opened s.opened c.of_number.result sound
+          (omega arith) sound.closed_held (rw c.of_number.ensures.slot (c.requires.at_least_one, c.requires.in_range))
+          (rw c.of_number.ensures.slot absent) (c.of_number.ensures.within _) (rw c.of_number.ensures.slot under_way)),
       record {
         held = c.self.invariant.1.held;
         sure = c.self.invariant.1.sure;
