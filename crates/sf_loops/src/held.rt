@@ -1,5 +1,5 @@
 //! The run of one record: at once where it is held, and else by a scanner.
-ghost use Rattle.std.specs.Prelude.{◌≡◌, ◌≤◌, ◌+◌, length, None, IfSome, IsNone, unwrap_or};
+ghost use Rattle.std.specs.Prelude.{◌≡◌, ◌≤◌, ◌+◌, length, true, None, IfSome, IsNone, unwrap_or};
 ghost use Rattle.sf_base.specs.Kept.{buffer_of};
 ghost use Rattle.sf_format.specs.Widths.{width_sum};
 ghost use Rattle.sf_run.specs.outcome.Status.TheVariants as status;
@@ -27,6 +27,8 @@ pub(crate) fn take_held<S: Source, const N: usize>(
     ensures run { IfSome result (λ outcome. IsNextRun S.to_come S.reads S.failures N format.now limit from.old from.new
         lines.old lines.new (report_by outcome store.new.values)) }
     ensures room { capacity_of store.old ≤ capacity_of store.new }
+    ensures no_read { from.new.source ≡ from.old.source }
+    ensures stays { from.new.at_end ≡ from.old.at_end }
     ensures none { IsNone result → from.new ≡ from.old }
     ensures uncounted { IsNone result → lines.new ≡ lines.old }
 {
@@ -49,6 +51,8 @@ pub(crate) fn take_next<S: Source, const N: usize>(
     requires room { unwrap_or (width_sum format.now) 0 ≤ capacity_of store }
     ensures run { IsNextRun S.to_come S.reads S.failures N format.now limit from.old from.new lines.old lines.new
         result.report }
+    ensures no_read { from.old.at_end ≡ true → from.new.source ≡ from.old.source }
+    ensures stays { from.old.at_end ≡ true → from.new.at_end ≡ true }
     ensures room { capacity_of store ≤ capacity_of result.kept }
 {
     match fscan_counting(alloc, store, from, format, limit, lines) {

@@ -1,5 +1,5 @@
 //! The lines of an input, one after the other, as reports.
-ghost use Rattle.std.specs.Prelude.{◌≡◌, ◌≤◌, ◌<◌, ◌⊎◌, ◌↔◌, [], false, Option, None, Some, IfErr, IfOk, IfSome, IsErrOf, IsSome};
+ghost use Rattle.std.specs.Prelude.{◌≡◌, ◌≤◌, ◌<◌, ◌⊎◌, ◌↔◌, [], true, false, Option, None, Some, IfErr, IfOk, IfSome, IsErrOf, IsSome};
 ghost use Rattle.sf_format.specs.Proper.{AreKinded, IsAccepted};
 ghost use Rattle.sf_format.specs.Widths.{width_sum};
 ghost use Rattle.sf_run.specs.Limits.{RunTold, RunWithin};
@@ -226,6 +226,8 @@ impl<'f, S: Source, const N: usize> LineReports<'f, S, N> {
         ensures over { (end : Option LineStop) → self.old.over ≡ Some end → (self.new ≡ self.old)
             × LineEndedWith false end result }
         ensures next { self.old.over ≡ None → IsNextLine S.to_come S.reads S.failures N self.old self.new result }
+        ensures no_read { self.old.ahead.at_end ≡ true → self.new.ahead.source ≡ self.old.ahead.source }
+        ensures stays { self.old.ahead.at_end ≡ true → self.new.ahead.at_end ≡ true }
         ensures format { self.new.format ≡ self.old.format }
     {
         match self.over {

@@ -110,6 +110,8 @@ impl<'f, S: Source, const N: usize> Reports<'f, S, N> {
         ensures limit { self.new.limit ≡ self.old.limit }
         ensures answered { self.new.answered ≡ self.old.answered }
         ensures over { self.new.over ≡ self.old.over }
+        ensures no_read { self.old.ahead.at_end ≡ true → self.new.ahead.source ≡ self.old.ahead.source }
+        ensures stays { self.old.ahead.at_end ≡ true → self.new.ahead.at_end ≡ true }
     {
         let Some(store) = &mut self.store else {
             unreachable!();
@@ -135,6 +137,8 @@ impl<'f, S: Source, const N: usize> Reports<'f, S, N> {
         ensures limit { self.new.limit ≡ self.old.limit }
         ensures answered { self.new.answered ≡ self.old.answered }
         ensures over { self.new.over ≡ self.old.over }
+        ensures no_read { self.old.ahead.at_end ≡ true → self.new.ahead.source ≡ self.old.ahead.source }
+        ensures stays { self.old.ahead.at_end ≡ true → self.new.ahead.at_end ≡ true }
     {
         let Some(store) = self.store.take() else {
             unreachable!();
@@ -168,6 +172,8 @@ impl<'f, S: Source, const N: usize> Reports<'f, S, N> {
         ensures over { (end : Option RecordFault) → self.old.over ≡ Some end
             → (self.new ≡ self.old) × (result ≡ ended_with false end) }
         ensures next { self.old.over ≡ None → IsNext S.to_come S.reads S.failures N self.old self.new result }
+        ensures no_read { self.old.ahead.at_end ≡ true → self.new.ahead.source ≡ self.old.ahead.source }
+        ensures stays { self.old.ahead.at_end ≡ true → self.new.ahead.at_end ≡ true }
         ensures format { self.new.format ≡ self.old.format }
         ensures limit { self.new.limit ≡ self.old.limit }
     {
