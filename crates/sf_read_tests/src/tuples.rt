@@ -149,17 +149,17 @@ fn gap_row<T: Row>(
     alloc: Global,
     format: &[u8],
     text: &[u8],
-) -> Result<[Result<T, ScanRowFault>; 2], Fail> {
+) -> Result<(Result<T, ScanRowFault>, Result<T, ScanRowFault>), Fail> {
     let format = ScanFormat::parse(alloc, Profile::Three, format)?;
     let mut from = Lookahead::<SliceSource<'_>, 3>::new(SliceSource::new(text));
     let read = scan_row::<T, _, 3>(alloc, &mut from, &format, LIMIT);
-    Ok([read, sscan_row(alloc, text, &format, LIMIT)])
+    Ok((read, sscan_row(alloc, text, &format, LIMIT)))
 }
 
 /// The slots of the row are given these in turn.
 fn has_gaps<T: GivenRow + Drop>(alloc: Global, gaps: &Gaps) -> Result<(), Fail> {
     let (format, text, given) = gaps;
-    let [read, scanned] = gap_row::<T>(alloc, format, text)?;
+    let (read, scanned) = gap_row::<T>(alloc, format, text)?;
     is(&read?.with_given().as_slice(), given, text)?;
     is(&scanned?.with_given().as_slice(), given, text)
 }
@@ -187,7 +187,7 @@ fn missing_fields(rt: HostRuntime) -> Result<(), Fail> {
 /// The values of a row that are there.
 #[test]
 fn values_that_are_there(rt: HostRuntime) -> Result<(), Fail> {
-    let [read, _scanned] = gap_row::<(Option<i32>, Option<f64>, Option<u8>)>(
+    let (read, _scanned) = gap_row::<(Option<i32>, Option<f64>, Option<u8>)>(
         rt.alloc(),
         b"%?d;%?lf;%?hhu",
         b"7;;8",
@@ -202,7 +202,8 @@ fn values_that_are_there(rt: HostRuntime) -> Result<(), Fail> {
 #[test]
 fn slots_that_need_a_value(rt: HostRuntime) -> Result<(), Fail> {
     for format in [b"%?d%u", b"%d%?u", b"%?d%d"] {
-        for found in gap_row::<(Option<i32>, u32)>(rt.alloc(), format, b"1 2")? {
+        let (read, scanned) = gap_row::<(Option<i32>, u32)>(rt.alloc(), format, b"1 2")?;
+        for found in [read, scanned] {
             let differs = format != b"%?d%u";
             is(
                 &(found.err() == Some(ScanRowFault::ShapeDiffers)),
@@ -211,6 +212,6 @@ fn slots_that_need_a_value(rt: HostRuntime) -> Result<(), Fail> {
             )?;
         }
     }
-    let [read, _scanned] = gap_row::<(u32,)>(rt.alloc(), b"%*?d;%u", b";2")?;
+    let (read, _scanned) = gap_row::<(u32,)>(rt.alloc(), b"%*?d;%u", b";2")?;
     is(&read?.0, &2, b";2")
 }
