@@ -31,7 +31,7 @@ pub fn double_fits(pair: &Pair<'_>, bits: u64) -> bool
 
 /// The scan format of a pair, none of whose slots may be missing.
 pub fn whole_scan<'f>(pair: &Pair<'f>) -> &'f ScanFormat
-    ensures { has_optional result.now ≡ false }
+    ensures whole { has_optional result.now ≡ false }
     ensures slots { (slot : ℕ) → may_miss slot result.now ≡ false }
 {
     aligned_is_accepted();
