@@ -1,8 +1,9 @@
 -- What a checked pair reads, by its laws.
-use Rattle.std.proofs.Common.{◌≡◌, ◌<◌, ◌≤◌, inl, ℕ, List, [], ◌++◌, length, Some, sym, ap, subst, ◌∙◌, arith, append-nil, length-append}
+use Rattle.std.proofs.Common.{false, ◌≡◌, ◌<◌, ◌≤◌, inl, ℕ, List, [], ◌++◌, length, Some, sym, ap, subst, ◌∙◌, arith, append-nil, length-append}
 use Rattle.sf_base.specs.Data.{Datum}
 use Rattle.sf_format.specs.declared.directive.Directive.{Directive}
 use Rattle.sf_format.specs.declared.unit.Unit.{Unit as PrintUnit}
+use Rattle.sf_format.specs.Proper.{may_miss}
 use Rattle.sf_format.specs.Widths.{width_sum}
 use Rattle.std.specs.Prelude.{IsSome}
 use Rattle.sf_print.specs.Printed.{printed}
@@ -15,7 +16,7 @@ use Rattle.sf_report.specs.Runs.{RunReport}
 use Rattle.sf_pair.specs.Fits.{Fit}
 use Rattle.sf_pair.specs.Formats.{IsChecked}
 use Rattle.sf_pair.specs.Groups.{IsAligned}
-use Rattle.sf_pair.specs.Laws.{AlignedEndsOnNothing, AlignedIsBounded, AlignedSlotsAgree, PrintsSome, ReadWithin, RoundTrip, read_back}
+use Rattle.sf_pair.specs.Laws.{AlignedEndsOnNothing, AlignedIsBounded, AlignedMissesNone, AlignedSlotsAgree, PrintsSome, ReadWithin, RoundTrip, read_back}
 use Rattle.sf_pair.specs.Walk.{AlignedIsAccepted}
 
 module _ (us : List PrintUnit) (ds : List Directive) (checked : IsChecked us ds) (accepted : AlignedIsAccepted) where
@@ -24,6 +25,9 @@ module _ (us : List PrintUnit) (ds : List Directive) (checked : IsChecked us ds)
 
   pub bounded : AlignedIsBounded → IsSome (width_sum ds)
   bounded law = law us ds checked.scanned aligned
+
+  pub missed : AlignedMissesNone → (slot : ℕ) → may_miss slot ds ≡ false
+  missed law = law us ds aligned
 
   pub back : ReadWithin → AlignedSlotsAgree → (values : List Datum) (z text : List ℕ) → Fit us ds values → length (printed us values) ≤ 1000
       → text ≡ printed us values ++ z → (report : RunReport) → RunWithin ds 1000 text End report

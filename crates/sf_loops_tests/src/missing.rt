@@ -1,4 +1,6 @@
 //! Loops over rows some of whose values are missing.
+ghost use Rattle.std.specs.Prelude.{◌≤◌};
+
 use crate::answers::is;
 use sf_format::{Profile, ScanFormat};
 use sf_loops::{Lines, Records};
@@ -37,7 +39,9 @@ fn said<E: Display>(alloc: Global, answer: &Result<Option<Gaps>, E>) -> Result<S
 static RECORDS: [&str; 6] = ["1 2", "- 4", "5 -", "- -", "end", "end"];
 
 /// Each record ends with a `;`. (A conversion that may be missing passes over newlines, too.)
-fn records_in<const N: usize>(alloc: Global) -> Result<(), Fail> {
+fn records_in<const N: usize>(alloc: Global) -> Result<(), Fail>
+    requires { 1 ≤ N }
+{
     let format = ScanFormat::parse(alloc, Profile::Three, b"%?d,%?d;")?;
     let source = SliceSource::new(b"1,2;,4;5,;,;");
     let mut records = Records::<Gaps, _, N>::new(alloc, source, &format, LIMIT)?;
@@ -64,7 +68,9 @@ static LINES: [&str; 7] = [
     "end",
 ];
 
-fn lines_in<const N: usize>(alloc: Global) -> Result<(), Fail> {
+fn lines_in<const N: usize>(alloc: Global) -> Result<(), Fail>
+    requires { 1 ≤ N }
+{
     let format = ScanFormat::parse(alloc, Profile::Three, b"%?d,%?d")?;
     let source = SliceSource::new(b"1,2\n,4\n5,\n,\n7\n,-8");
     let mut lines = Lines::<Gaps, _, N>::new(alloc, source, &format, LIMIT)?;
