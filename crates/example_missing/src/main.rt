@@ -1,9 +1,7 @@
-//! A column for each value, of lines whose values may be missing, and the sum of the ages that are known.
+//! The sum of the ages that are known, of lines whose values may be missing, and how many are not known.
 #![tactic(auto)]
 
-use sf_scanf::{
-    GivenRow, Lines, PrintFormat, Profile, ScanFormat, StdSink, StdSource, fprint_given,
-};
+use sf_scanf::{Lines, Profile, ScanFormat, StdSource};
 
 /// The most bytes that one line may have.
 const LIMIT: u32 = 1000;
@@ -13,19 +11,18 @@ type Person = (Vec<u8>, Option<u32>, Option<f64>);
 
 fn main(rt: HostRuntime) -> anyhow::Result<()> {
     let alloc = rt.alloc();
-    let scan = ScanFormat::parse(alloc, Profile::Three, b"%[^,],%?u,%?lf")?;
-    let print = PrintFormat::parse(alloc, Profile::Three, b"%-8s|%3u|%5.2f|\n")?;
+    let format = ScanFormat::parse(alloc, Profile::Three, b"%[^,],%?u,%?lf")?;
     let input = StdSource::new(rt.stdin());
-    let mut output = StdSink::new(rt.stdout());
-    let people = Lines::<Person, _, 4096>::new(alloc, input, &scan, LIMIT)?;
+    let people = Lines::<Person, _, 4096>::new(alloc, input, &format, LIMIT)?;
     let mut years: u64 = 0;
-    for found in people {
-        let person = found?;
-        fprint_given(&mut output, &print, &person.with_given())?;
-        if let (_name, Some(age), _height) = person {
-            years = years.saturating_add(u64::from(age));
+    let mut unknown: u64 = 0;
+    for person in people {
+        let (_name, age, _height) = person?;
+        match age {
+            Some(age) => years = years.saturating_add(u64::from(age)),
+            None => unknown = unknown.saturating_add(1),
         }
     }
-    println!(rt; "{years} years")?;
+    println!(rt; "{years} years, {unknown} unknown")?;
     Ok(())
 }
