@@ -1,6 +1,4 @@
 //! Loops over rows some of whose values are missing.
-ghost use Rattle.std.specs.Prelude.{◌≤◌};
-
 use crate::answers::is;
 use sf_format::{Profile, ScanFormat};
 use sf_loops::{Lines, Records};
@@ -38,24 +36,38 @@ fn said<E: Display>(alloc: Global, answer: &Result<Option<Gaps>, E>) -> Result<S
 
 static RECORDS: [&str; 6] = ["1 2", "- 4", "5 -", "- -", "end", "end"];
 
-/// Each record ends with a `;`. (A conversion that may be missing passes over newlines, too.)
-fn records_in<const N: usize>(alloc: Global) -> Result<(), Fail>
-    requires { 1 ≤ N }
-{
-    let format = ScanFormat::parse(alloc, Profile::Three, b"%?d,%?d;")?;
-    let source = SliceSource::new(b"1,2;,4;5,;,;");
-    let mut records = Records::<Gaps, _, N>::new(alloc, source, &format, LIMIT)?;
+/// The answers of a loop over records, one after the other.
+fn records_in<const N: usize>(
+    alloc: Global,
+    records: &mut Records<'_, Gaps, SliceSource<'_>, N>,
+) -> Result<(), Fail> {
     for (place, wanted) in RECORDS.iter().enumerate() {
         is(&said(alloc, &records.next())?, wanted, place)?;
     }
     Ok(())
 }
 
+/// Each record ends with a `;`. (A conversion that may be missing passes over newlines, too.)
 #[test]
 fn records_with_gaps(rt: HostRuntime) -> Result<(), Fail> {
-    records_in::<1>(rt.alloc())?;
-    records_in::<3>(rt.alloc())?;
-    records_in::<4096>(rt.alloc())
+    let alloc = rt.alloc();
+    let format = ScanFormat::parse(alloc, Profile::Three, b"%?d,%?d;")?;
+    let text = b"1,2;,4;5,;,;";
+    let by_one = SliceSource::new(text);
+    records_in(
+        alloc,
+        &mut Records::<Gaps, _, 1>::new(alloc, by_one, &format, LIMIT)?,
+    )?;
+    let by_three = SliceSource::new(text);
+    records_in(
+        alloc,
+        &mut Records::<Gaps, _, 3>::new(alloc, by_three, &format, LIMIT)?,
+    )?;
+    let at_once = SliceSource::new(text);
+    records_in(
+        alloc,
+        &mut Records::<Gaps, _, 4096>::new(alloc, at_once, &format, LIMIT)?,
+    )
 }
 
 static LINES: [&str; 7] = [
@@ -68,12 +80,11 @@ static LINES: [&str; 7] = [
     "end",
 ];
 
-fn lines_in<const N: usize>(alloc: Global) -> Result<(), Fail>
-    requires { 1 ≤ N }
-{
-    let format = ScanFormat::parse(alloc, Profile::Three, b"%?d,%?d")?;
-    let source = SliceSource::new(b"1,2\n,4\n5,\n,\n7\n,-8");
-    let mut lines = Lines::<Gaps, _, N>::new(alloc, source, &format, LIMIT)?;
+/// The answers of a loop over lines, one after the other.
+fn lines_in<const N: usize>(
+    alloc: Global,
+    lines: &mut Lines<'_, Gaps, SliceSource<'_>, N>,
+) -> Result<(), Fail> {
     for (place, wanted) in LINES.iter().enumerate() {
         is(&said(alloc, &lines.next())?, wanted, place)?;
     }
@@ -82,9 +93,24 @@ fn lines_in<const N: usize>(alloc: Global) -> Result<(), Fail>
 
 #[test]
 fn lines_with_gaps(rt: HostRuntime) -> Result<(), Fail> {
-    lines_in::<1>(rt.alloc())?;
-    lines_in::<3>(rt.alloc())?;
-    lines_in::<4096>(rt.alloc())
+    let alloc = rt.alloc();
+    let format = ScanFormat::parse(alloc, Profile::Three, b"%?d,%?d")?;
+    let text = b"1,2\n,4\n5,\n,\n7\n,-8";
+    let by_one = SliceSource::new(text);
+    lines_in(
+        alloc,
+        &mut Lines::<Gaps, _, 1>::new(alloc, by_one, &format, LIMIT)?,
+    )?;
+    let by_three = SliceSource::new(text);
+    lines_in(
+        alloc,
+        &mut Lines::<Gaps, _, 3>::new(alloc, by_three, &format, LIMIT)?,
+    )?;
+    let at_once = SliceSource::new(text);
+    lines_in(
+        alloc,
+        &mut Lines::<Gaps, _, 4096>::new(alloc, at_once, &format, LIMIT)?,
+    )
 }
 
 /// Rows of numbers alone are refused before anything is read.
