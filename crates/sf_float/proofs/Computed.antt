@@ -1,5 +1,7 @@
 -- The text of a float is the one that is computed.
-use Rattle.std.proofs.Common.{◌≡◌, ℕ, zero, suc, ◌+◌, ◌-◌, ◌*◌, ◌/◌, ◌%◌, ◌^◌, ◌<◌, ◌≤◌, Bool, true, false, List, ◌∷◌, ◌++◌, max, nat_eq, nat_lt, nat_le, Option, Some, None, refl, sym, ap, ◌∙◌, subst, arith, eq-or-lt_of_le, inl, inr, pow-suc, pow_pos, mul-div_cancel, le_trans, mul-pos, div-add-mod', mul-le-mul_left, ◌⊎◌, unwrap_or, cond}
+use Rattle.std.proofs.Common.{◌≡◌, ℕ, zero, suc, ◌+◌, ◌-◌, ◌*◌, ◌/◌, ◌%◌, ◌^◌, ◌<◌, ◌≤◌, Bool, true, false, List, ◌∷◌, ◌++◌, max, nat_eq}
+use Rattle.std.proofs.Common.{nat_lt, nat_le, Option, Some, None, refl, sym, ap, ◌∙◌, subst, arith, eq-or-lt_of_le, inl, inr, pow-suc}
+use Rattle.std.proofs.Common.{pow_pos, mul-div_cancel, le_trans, mul-pos, div-add-mod', mul-le-mul_left, ◌⊎◌, unwrap_or, cond}
 use Rattle.std.proofs.lemmas.Bool.{true≢false, eqb-true, eq-eqb, ne_eqb, lt-ltb, le-ltb, le-leb, lt-leb, and_from, and_right}
 use Rattle.std.proofs.lemmas.Nat.{pow-add}
 use Rattle.std.proofs.Math.Nat.{pow-le-pow_right}
@@ -17,7 +19,9 @@ use Rattle.sf_float.specs.Texts.{fixed_digits, fixed_text, scientific, IsCount}
 use Rattle.sf_float.specs.General.{IsShortened, IsPlainPower, IsGeneralOf}
 use Rattle.sf_float.specs.Hexadecimal.{IsBinary, binary_power, IsBinaryExponent, IsHexNumeral, hex_text}
 use Rattle.sf_float.specs.Printed.{IsDigitsText, IsSizeText, in_case, field_text}
-use Rattle.sf_float.specs.Computed.{first_passing, least_passing, count_of, needed_of, kept_of, cut_to, is_zero_size, power_of, number_of, is_plain_power, fixed_of, general_of, units_of, two_power_of, binary_number_of, hex_numeral_of, binary_exponent_of, digits_text, size_text, float_text, HasOneText}
+use Rattle.sf_float.specs.Computed.{first_passing, least_passing, count_of, needed_of, kept_of, cut_to, is_zero_size, power_of, number_of}
+use Rattle.sf_float.specs.Computed.{is_plain_power, fixed_of, general_of, units_of, two_power_of, binary_number_of, hex_numeral_of}
+use Rattle.sf_float.specs.Computed.{binary_exponent_of, digits_text, size_text, float_text, HasOneText}
 use Rattle.sf_float.proofs.Closest.{closest_below}
 use Rattle.sf_float.proofs.Limbs.{power_pos}
 

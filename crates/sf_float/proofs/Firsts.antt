@@ -1,5 +1,6 @@
 -- The first digit of a float, and those decimals it.
-use Rattle.std.proofs.Common.{◌≡◌, ℕ, ◌+◌, ◌-◌, ◌*◌, ◌^◌, ◌<◌, ◌≤◌, Bool, refl, ap, ◌∙◌, subst, inl, inr, arith, eq-zero-or-pos, mul-le-mul_right, mul-pos, pow_mono}
+use Rattle.std.proofs.Common.{◌≡◌, ℕ, ◌+◌, ◌-◌, ◌*◌, ◌^◌, ◌<◌, ◌≤◌, Bool, refl, ap, ◌∙◌, subst, inl, inr, arith, eq-zero-or-pos}
+use Rattle.std.proofs.Common.{mul-le-mul_right, mul-pos, pow_mono}
 use Rattle.std.proofs.lemmas.Nat.{pow-add}
 use Rattle.std.proofs.Math.Nat.{pow-le-pow_right, lt_of_le_of_lt, le_trans, le_of_lt, mul-le-mul}
 use Rattle.std.specs.Float.Ieee.{Float, nan, inf, fin, up, down}

@@ -1,5 +1,6 @@
 -- What `%g` prints with 17 digits or more is read as the float.
-use Rattle.std.proofs.Common.{◌≡◌, ℕ, ◌+◌, ◌-◌, ◌*◌, ◌/◌, ◌%◌, ◌^◌, ◌<◌, ◌≤◌, Bool, true, ◌++◌, length, T, refl, sym, ap, ◌∙◌, subst, inl, inr, arith, append-nil, Some, lt_of_lt_of_le, leb, lt_of_mul-lt-mul_right}
+use Rattle.std.proofs.Common.{◌≡◌, ℕ, ◌+◌, ◌-◌, ◌*◌, ◌/◌, ◌%◌, ◌^◌, ◌<◌, ◌≤◌, Bool, true, ◌++◌, length, T, refl, sym, ap, ◌∙◌, subst, inl}
+use Rattle.std.proofs.Common.{inr, arith, append-nil, Some, lt_of_lt_of_le, leb, lt_of_mul-lt-mul_right}
 use Rattle.std.proofs.lemmas.Nat.{pow-add}
 use Rattle.std.proofs.Math.Nat.{pow-le-pow_right, le_trans, zero-mul}
 use native.Mathlib.Nat.{eq_of_mul-eq-mul_right}
@@ -21,7 +22,8 @@ use Rattle.sf_float.specs.General.{IsShortened}
 use Rattle.sf_float.specs.Laws.{GeneralReadsBack, GeneralZeroReadsBack}
 use Rattle.sf_float.proofs.Limbs.{power_pos}
 use Rattle.sf_float.proofs.ReadBack.{reads_back}
-use Rattle.sf_float.proofs.TextLaws.{finite_of, sign_is, enough, fixed_all, fixed_length, fixed_value, fixed_split, pointless, well_formed, worth, zero_round}
+use Rattle.sf_float.proofs.TextLaws.{finite_of, sign_is, enough, fixed_all, fixed_length, fixed_value, fixed_split, pointless, well_formed}
+use Rattle.sf_float.proofs.TextLaws.{worth, zero_round}
 use Rattle.sf_float.proofs.Values.{at_pattern}
 
 -- the parts stand for more than 2 ^ 53 steps of x, rounded

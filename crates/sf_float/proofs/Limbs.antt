@@ -1,5 +1,7 @@
 -- The number that limbs hold, limb by limb.
-use Rattle.std.proofs.Common.{◌≡◌, ℕ, zero, suc, ◌+◌, ◌-◌, ◌*◌, ◌/◌, ◌%◌, ◌^◌, ◌<◌, ◌≤◌, List, [], ◌∷◌, div-lt_iff_lt-mul, replicate, length, get_or, slice_index, set, refl, ap, ◌∙◌, inl, inr, arith, add-one, eq-zero-or-pos, mul-le-mul_right, mul-le-mul_left, mul-pos, lt_of_lt_of_le, pow-suc}
+use Rattle.std.proofs.Common.{◌≡◌, ℕ, zero, suc, ◌+◌, ◌-◌, ◌*◌, ◌/◌, ◌%◌, ◌^◌, ◌<◌, ◌≤◌, List, [], ◌∷◌, div-lt_iff_lt-mul, replicate}
+use Rattle.std.proofs.Common.{length, get_or, slice_index, set, refl, ap, ◌∙◌, inl, inr, arith, add-one, eq-zero-or-pos, mul-le-mul_right}
+use Rattle.std.proofs.Common.{mul-le-mul_left, mul-pos, lt_of_lt_of_le, pow-suc}
 use Rattle.std.proofs.Math.Nat.{pow-zero}
 use lib.Dec.{lit≤}
 use lib.Pow.{pow-add}

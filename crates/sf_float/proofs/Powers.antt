@@ -1,5 +1,7 @@
 -- The power of ten of a float's first digit.
-use Rattle.std.proofs.Common.{◌≡◌, ℕ, zero, suc, ◌+◌, ◌-◌, ◌*◌, ◌^◌, ◌<◌, ◌≤◌, Bool, true, sym, ap, ◌∙◌, subst, inl, inr, arith, eq-zero-or-pos, mul-le-mul_right, mul-le-mul_left, mul-pos, pow_pos, pow_mono, leb, ltb, T, ◌&&◌, lt_of_mul-lt-mul_right, le_of_mul-le-mul_right, mul-lt-mul_of_pos_right}
+use Rattle.std.proofs.Common.{◌≡◌, ℕ, zero, suc, ◌+◌, ◌-◌, ◌*◌, ◌^◌, ◌<◌, ◌≤◌, Bool, true, sym, ap, ◌∙◌, subst, inl, inr, arith}
+use Rattle.std.proofs.Common.{eq-zero-or-pos, mul-le-mul_right, mul-le-mul_left, mul-pos, pow_pos, pow_mono, leb, ltb, T, ◌&&◌}
+use Rattle.std.proofs.Common.{lt_of_mul-lt-mul_right, le_of_mul-le-mul_right, mul-lt-mul_of_pos_right}
 use Rattle.std.proofs.lemmas.Nat.{pow-add}
 use Rattle.std.proofs.Math.Nat.{lt_of_le_of_lt, lt_of_lt_of_le, le_of_lt, lt_of_not-le, not-le_of_lt}
 use Rattle.std.proofs.Math.Pow.{shl_lt}

@@ -1,5 +1,7 @@
 -- The digits of a fraction without zeros at its end.
-use Rattle.std.proofs.Common.{◌≡◌, ◌≢◌, ℕ, ◌+◌, ◌-◌, ◌*◌, ◌/◌, ◌%◌, ◌^◌, ◌<◌, ◌≤◌, Bool, true, false, ◌∷◌, ◌++◌, refl, sym, ap, ◌∙◌, arith, true≢false, nat_lt, if◌then◌else◌, pow-suc, append_assoc, lt_of_mul-lt-mul_right, le_of_mul-le-mul_right, eq-zero-or-pos, inl, inr, lt_of_lt_of_le, add-one, div-add-mod'}
+use Rattle.std.proofs.Common.{◌≡◌, ◌≢◌, ℕ, ◌+◌, ◌-◌, ◌*◌, ◌/◌, ◌%◌, ◌^◌, ◌<◌, ◌≤◌, Bool, true, false, ◌∷◌, ◌++◌, refl, sym, ap, ◌∙◌, arith}
+use Rattle.std.proofs.Common.{true≢false, nat_lt, if◌then◌else◌, pow-suc, append_assoc, lt_of_mul-lt-mul_right, le_of_mul-le-mul_right}
+use Rattle.std.proofs.Common.{eq-zero-or-pos, inl, inr, lt_of_lt_of_le, add-one, div-add-mod'}
 use Rattle.std.proofs.Math.Nat.{div-div-eq-div-mul, div-one, pow-zero, pow-le-pow_right, not-le_of_lt, lt_of_le_of_lt}
 use Rattle.std.proofs.lemmas.Nat.{pow-add}
 use lib.Dec.{lit<}

@@ -1,5 +1,8 @@
 -- What the digits of a text stand for, and what it is read as.
-use Rattle.std.proofs.Common.{◌≡◌, ℕ, zero, suc, ◌+◌, ◌-◌, ◌*◌, ◌/◌, ◌%◌, ◌^◌, ◌<◌, ◌≤◌, Bool, true, false, ◌||◌, List, [], ◌∷◌, ◌++◌, length, T, not, refl, sym, ap, ◌∙◌, subst, inl, inr, arith, eq-zero-or-pos, mod-lt, div-add-mod', length-append, pow-suc, append_assoc, append-nil, add-zero, true≢false, Some, lt_of_lt_of_le, nat_lt, if◌then◌else◌, lt-ltb, le-ltb, leb}
+use Rattle.std.proofs.Common.{◌≡◌, ℕ, zero, suc, ◌+◌, ◌-◌, ◌*◌, ◌/◌, ◌%◌, ◌^◌, ◌<◌, ◌≤◌, Bool, true, false, ◌||◌, List, [], ◌∷◌, ◌++◌}
+use Rattle.std.proofs.Common.{length, T, not, refl, sym, ap, ◌∙◌, subst, inl, inr, arith, eq-zero-or-pos, mod-lt, div-add-mod'}
+use Rattle.std.proofs.Common.{length-append, pow-suc, append_assoc, append-nil, add-zero, true≢false, Some, lt_of_lt_of_le, nat_lt}
+use Rattle.std.proofs.Common.{if◌then◌else◌, lt-ltb, le-ltb, leb}
 use Rattle.std.proofs.lemmas.Int.Digits.{digits_value_push}
 use Rattle.std.proofs.lemmas.Nat.{pow-add}
 use Rattle.std.proofs.Math.Nat.{div-div-eq-div-mul, pow-le-pow_right, add-suc, div-one, mul_comm, le_trans}

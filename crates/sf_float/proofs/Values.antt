@@ -1,5 +1,6 @@
 -- The value of a float as one fraction or another.
-use Rattle.std.proofs.Common.{◌≡◌, ℕ, suc, ◌+◌, ◌-◌, ◌*◌, ◌^◌, ◌<◌, ◌≤◌, Bool, false, sym, ap, ◌∙◌, arith, subst, ◌/◌, ◌%◌, div-add-mod', mod-lt, pow_pos, pow_mono, lt_of_lt_of_le}
+use Rattle.std.proofs.Common.{◌≡◌, ℕ, suc, ◌+◌, ◌-◌, ◌*◌, ◌^◌, ◌<◌, ◌≤◌, Bool, false, sym, ap, ◌∙◌, arith, subst, ◌/◌, ◌%◌, div-add-mod'}
+use Rattle.std.proofs.Common.{mod-lt, pow_pos, pow_mono, lt_of_lt_of_le}
 use Rattle.std.proofs.lemmas.Nat.{pow-add}
 use Rattle.std.proofs.Math.Nat.{pow-le-pow_right, mul-le-mul, le_of_lt, lt_of_le_of_lt}
 use Rattle.std.proofs.Math.Pow.{shl_lt}

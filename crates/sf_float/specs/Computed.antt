@@ -1,5 +1,6 @@
 -- The text of a float by a conversion, computed. What specs/Printed says of a text, this text meets, and no other.
-use Rattle.std.specs.Prelude.{◌≡◌, ℕ, zero, suc, ◌+◌, ◌-◌, ◌*◌, ◌/◌, ◌%◌, ◌^◌, Bool, true, false, ◌&&◌, List, ◌∷◌, ◌++◌, max, nat_eq, nat_lt, nat_le, if◌then◌else◌, codes, Option, Some, None, unwrap_or}
+use Rattle.std.specs.Prelude.{◌≡◌, ℕ, zero, suc, ◌+◌, ◌-◌, ◌*◌, ◌/◌, ◌%◌, ◌^◌, Bool, true, false, ◌&&◌, List, ◌∷◌, ◌++◌, max, nat_eq}
+use Rattle.std.specs.Prelude.{nat_lt, nat_le, if◌then◌else◌, codes, Option, Some, None, unwrap_or}
 use Rattle.std.specs.Float.Ieee.{Float, nan, inf, fin, up, down}
 use Rattle.std.specs.Float.Ieee.Nearest.{closest}
 use Rattle.ryu.specs.Plain.{text_with}

@@ -1,5 +1,6 @@
 -- The text that a conversion of a print format makes of a float (C11 7.21.6.1, paragraphs 4 to 8).
-use Rattle.std.specs.Prelude.{◌≡◌, ℕ, ◌+◌, ◌-◌, Bool, true, false, ◌&&◌, not, List, [], ◌∷◌, ◌++◌, length, map, replicate, max, if◌then◌else◌, codes, Option, unwrap_or}
+use Rattle.std.specs.Prelude.{◌≡◌, ℕ, ◌+◌, ◌-◌, Bool, true, false, ◌&&◌, not, List, [], ◌∷◌, ◌++◌, length, map, replicate, max}
+use Rattle.std.specs.Prelude.{if◌then◌else◌, codes, Option, unwrap_or}
 use Rattle.std.specs.Char.{to_ascii_uppercase}
 use Rattle.std.specs.Float.{is_sign_negative, float_is_finite}
 use Rattle.std.specs.Float.Ieee.{Float, nan, inf, fin}

@@ -1,10 +1,12 @@
 //! The text of a float in the style of `%a`, without its `0x`.
-ghost use Rattle.std.specs.Prelude.{◌≡◌, ◌≢◌, ℕ, ◌+◌, ◌-◌, ◌*◌, ◌/◌, ◌%◌, ◌^◌, ◌<◌, ◌≤◌, ◌++◌, List, false, from_bits, replicate, take, Some, None, IsTrue};
+ghost use Rattle.std.specs.Prelude.{◌≡◌, ◌≢◌, ℕ, ◌+◌, ◌-◌, ◌*◌, ◌/◌, ◌%◌, ◌^◌, ◌<◌, ◌≤◌, ◌++◌, List, false, from_bits};
+ghost use Rattle.std.specs.Prelude.{replicate, take, Some, None, IsTrue};
 ghost use Rattle.std.specs.Float.{float_is_finite, binary64};
 ghost use Rattle.std.specs.Float.Ieee.Exact.{HasValue};
 ghost use Rattle.std.specs.Float.Ieee.Nearest.{closest};
 ghost use Rattle.sf_float.specs.General.{IsShortened};
-ghost use Rattle.sf_float.specs.Hexadecimal.{hex_digit, hex_digits, hex_point, hex_text, binary_power, IsBinaryExponent, IsHexNumeral, IsHexadecimalText};
+ghost use Rattle.sf_float.specs.Hexadecimal.{hex_digit, hex_digits, hex_point, hex_text, binary_power};
+ghost use Rattle.sf_float.specs.Hexadecimal.{IsBinaryExponent, IsHexNumeral, IsHexadecimalText};
 
 use crate::finite::{HIDDEN, sign_and_bits};
 use crate::fixed::whole_count;

@@ -1,5 +1,6 @@
 //! A natural number in a room of fixed size: limbs of nine decimal digits, the lowest first.
-ghost use Rattle.std.specs.Prelude.{◌≡◌, ℕ, ◌+◌, ◌-◌, ◌*◌, ◌/◌, ◌%◌, ◌^◌, ◌<◌, ◌≤◌, slice_index, IsTrue, IsFalse, IfSome};
+ghost use Rattle.std.specs.Prelude.{◌≡◌, ℕ, ◌+◌, ◌-◌, ◌*◌, ◌/◌, ◌%◌, ◌^◌, ◌<◌, ◌≤◌, slice_index, IsTrue, IsFalse};
+ghost use Rattle.std.specs.Prelude.{IfSome};
 ghost use Rattle.sf_float.specs.Limbs.{value_below, limb_weight, AreZeroFrom, AreNines};
 ghost use Rattle.sf_float.specs.Quotient.{IsQuotient};
 

@@ -1,9 +1,11 @@
 //! The text of a float in the style d.ddde+dd.
-ghost use Rattle.std.specs.Prelude.{◌≡◌, ℕ, ◌+◌, ◌-◌, ◌*◌, ◌/◌, ◌^◌, ◌<◌, ◌≤◌, ◌++◌, ◌∷◌, [], length, take, true, IsTrue};
+ghost use Rattle.std.specs.Prelude.{◌≡◌, ℕ, ◌+◌, ◌-◌, ◌*◌, ◌/◌, ◌^◌, ◌<◌, ◌≤◌, ◌++◌, ◌∷◌, [], length, take, true};
+ghost use Rattle.std.specs.Prelude.{IsTrue};
 ghost use Rattle.std.specs.Float.{float_is_finite};
 ghost use Rattle.ryu.specs.Plain.{text_with};
 ghost use Rattle.sf_float.specs.Scaled.{IsScientific};
-ghost use Rattle.sf_float.specs.Texts.{fixed_digits, exponent_digits, exponent_size, scientific, exponent_text, point_text};
+ghost use Rattle.sf_float.specs.Texts.{fixed_digits, exponent_digits, exponent_size, scientific, exponent_text};
+ghost use Rattle.sf_float.specs.Texts.{point_text};
 
 use crate::leading::significant;
 use crate::natural::Natural;

@@ -1,9 +1,12 @@
 //! The text of any float by a conversion, in parts: sign, mark, zeros and digits, between blanks.
-ghost use Rattle.std.specs.Prelude.{◌≡◌, ℕ, ◌+◌, ◌≤◌, ◌<◌, ◌^◌, ◌&&◌, ◌++◌, List, length, take, map, replicate, IsTrue, if◌then◌else◌};
+ghost use Rattle.std.specs.Prelude.{◌≡◌, ℕ, ◌+◌, ◌≤◌, ◌<◌, ◌^◌, ◌&&◌, ◌++◌, List, length, take, map, replicate, IsTrue};
+ghost use Rattle.std.specs.Prelude.{if◌then◌else◌};
 ghost use Rattle.std.specs.Char.{to_ascii_uppercase};
 ghost use Rattle.std.specs.Float.{float_is_finite, is_sign_negative};
 ghost use Rattle.sf_float.specs.Computed.{float_text};
-ghost use Rattle.sf_float.specs.Printed.{IsDigitsText, IsSizeText, IsSize, IsFloatText, in_case, sign, mark, is_hexadecimal, pads_with_zeros, bare_len, left_blanks, inner_zeros, right_blanks, field_text};
+ghost use Rattle.sf_float.specs.Printed.{IsDigitsText, IsSizeText, IsSize, IsFloatText, in_case, sign, mark};
+ghost use Rattle.sf_float.specs.Printed.{is_hexadecimal, pads_with_zeros, bare_len, left_blanks, inner_zeros};
+ghost use Rattle.sf_float.specs.Printed.{right_blanks, field_text};
 
 use crate::fixed::write_fixed;
 use crate::general::write_general;

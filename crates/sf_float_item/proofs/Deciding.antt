@@ -1,5 +1,6 @@
 -- The tests say what the definitions say.
-use Rattle.std.proofs.Common.{◌≡◌, ℕ, ◌+◌, ◌<◌, length, take, get_or, true, false, List, [], ◌∷◌, ◌++◌, refl, sym, ap, ◌∙◌, subst, true≢false, Some, None, append_assoc, append-nil}
+use Rattle.std.proofs.Common.{◌≡◌, ℕ, ◌+◌, ◌<◌, length, take, get_or, true, false, List, [], ◌∷◌, ◌++◌, refl, sym, ap, ◌∙◌, subst}
+use Rattle.std.proofs.Common.{true≢false, Some, None, append_assoc, append-nil}
 use Rattle.std.specs.Prelude.{Option, is_some}
 use Rattle.sf_float_item.specs.declared.reached.Reached.{Reached}
 use Rattle.sf_float_item.specs.declared.reached.Reached.TheVariants as at

@@ -5,8 +5,10 @@ use Rattle.std.specs.Char.{is_ascii_alphanumeric}
 use Rattle.std.specs.List.{AllByRecursion}
 use Rattle.sf_float_item.specs.declared.reached.Radix.{Radix}
 use Rattle.sf_float_item.specs.declared.reached.Radix.TheVariants.{Ten, Sixteen}
-use Rattle.sf_float_item.specs.Sequences.{is_digit, is_sign, AllDecimal, IsDecimal, IsSignedDecimal, IsExponentPart, IsFraction, IsWhole, IsNumber, Spells, Begins, IsPayload, IsNanTail, IsInfinityTail, IsZeroTail, IsUnsigned, IsFloat}
-use Rattle.sf_float_item.specs.Parts.{AreDigits, IsSign, IsExponent, IsNumeral, IsHexadecimal, IsInfinity, IsCharSequence, IsNan, IsFloatInParts, PartsAreSequences}
+use Rattle.sf_float_item.specs.Sequences.{is_digit, is_sign, AllDecimal, IsDecimal, IsSignedDecimal, IsExponentPart, IsFraction, IsWhole}
+use Rattle.sf_float_item.specs.Sequences.{IsNumber, Spells, Begins, IsPayload, IsNanTail, IsInfinityTail, IsZeroTail, IsUnsigned, IsFloat}
+use Rattle.sf_float_item.specs.Parts.{AreDigits, IsSign, IsExponent, IsNumeral, IsHexadecimal, IsInfinity, IsCharSequence, IsNan}
+use Rattle.sf_float_item.specs.Parts.{IsFloatInParts, PartsAreSequences}
 use Rattle.sf_float_item.proofs.Apart.{either}
 
 -- ---- from the left to parts

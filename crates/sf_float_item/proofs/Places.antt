@@ -1,5 +1,6 @@
 -- What a byte does to what was read, by the table of places.
-use Rattle.std.proofs.Common.{◌≡◌, ℕ, ◌<◌, ◌≤◌, Bool, true, false, ◌||◌, List, [], ◌∷◌, refl, sym, ap, ◌∙◌, subst, inl, inr, arith, true≢false, Some, None, cond, length}
+use Rattle.std.proofs.Common.{◌≡◌, ℕ, ◌<◌, ◌≤◌, Bool, true, false, ◌||◌, List, [], ◌∷◌, refl, sym, ap, ◌∙◌, subst, inl, inr, arith}
+use Rattle.std.proofs.Common.{true≢false, Some, None, cond, length}
 use lib.Dec.{lit<}
 use Rattle.std.specs.Prelude.{Option, ◌==◌}
 use Rattle.std.specs.Char.{is_ascii_digit, is_ascii_alphanumeric, to_ascii_lowercase}
@@ -9,7 +10,9 @@ use Rattle.sf_float_item.specs.declared.reached.Radix.{Radix}
 use Rattle.sf_float_item.specs.declared.reached.Radix.TheVariants.{Ten, Sixteen}
 use Rattle.sf_float_item.specs.declared.reached.Reached.{Reached}
 use Rattle.sf_float_item.specs.declared.reached.Reached.TheVariants as at
-use Rattle.sf_float_item.specs.Sequences.{is_digit, opens_exponent, is_sign, AllDecimal, IsSignedDecimal, IsExponentPart, IsSomeFraction, IsFraction, IsWhole, IsNumber, Spells, IsPayload, IsNanTail, IsInfinityTail, IsZeroTail, IsUnsigned}
+use Rattle.sf_float_item.specs.Sequences.{is_digit, opens_exponent, is_sign, AllDecimal, IsSignedDecimal, IsExponentPart, IsSomeFraction}
+use Rattle.sf_float_item.specs.Sequences.{IsFraction, IsWhole, IsNumber, Spells, IsPayload, IsNanTail, IsInfinityTail, IsZeroTail}
+use Rattle.sf_float_item.specs.Sequences.{IsUnsigned}
 use Rattle.sf_float_item.specs.Steps.{Completes, Goes}
 use Rattle.sf_float_item.specs.Tests as tests
 use Rattle.sf_float_item.proofs.Apart.{point_apart, exponent_apart, either, goes_as}

@@ -2,7 +2,8 @@
 use Rattle.std.specs.Prelude.{◌≡◌, ℕ, ◌<◌, List, [], ◌∷◌, ◌++◌, ⊤, Option, Some, None}
 use Rattle.sf_float_item.specs.declared.reached.Reached.{Reached}
 use Rattle.sf_float_item.specs.declared.reached.Reached.TheVariants as at
-use Rattle.sf_float_item.specs.Sequences.{IsDecimal, AllDecimal, IsSignedDecimal, IsFraction, IsSomeFraction, IsWhole, IsNumber, Spells, Begins, IsPayload, IsNanTail, IsInfinityTail, IsZeroTail, IsUnsigned, IsFloat}
+use Rattle.sf_float_item.specs.Sequences.{IsDecimal, AllDecimal, IsSignedDecimal, IsFraction, IsSomeFraction, IsWhole, IsNumber, Spells}
+use Rattle.sf_float_item.specs.Sequences.{Begins, IsPayload, IsNanTail, IsInfinityTail, IsZeroTail, IsUnsigned, IsFloat}
 use Rattle.sf_float_item.specs.declared.reached.Radix.TheVariants.{Sixteen}
 
 abbrev pub AllBytes : List ℕ → Type 0

@@ -3,7 +3,9 @@ ghost use Rattle.std.specs.Prelude.{◌≡◌, ◌↔◌, ◌<◌, ℕ, true, Is
 ghost use Rattle.std.specs.Char.{is_ascii_digit};
 ghost use Rattle.sf_float_item.specs.Sequences.{is_digit, opens_exponent, is_sign};
 ghost use Rattle.sf_float_item.specs.Steps.{Completes, Goes};
-ghost use Rattle.sf_float_item.specs.Tests.{after_exponent, after_letter, letter_of_exponent, after_point, after_fraction, after_digits, first_of_number, after_zero, first, in_parentheses, letter, next, is_whole};
+ghost use Rattle.sf_float_item.specs.Tests.{after_exponent, after_letter, letter_of_exponent, after_point};
+ghost use Rattle.sf_float_item.specs.Tests.{after_fraction, after_digits, first_of_number, after_zero, first};
+ghost use Rattle.sf_float_item.specs.Tests.{in_parentheses, letter, next, is_whole};
 
 /// In which radix the digits of the number are.
 #[derive(Clone, Copy, Debug, PartialEq, Eq)]

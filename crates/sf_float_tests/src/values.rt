@@ -1,6 +1,6 @@
 //! Values of matching sequences, as glibc's strtod and strtof read them, and input items.
-use sf_float_item::{FloatScan, is_float};
-use sf_float_value::{value_f32, value_f64};
+use sf_float_item::{FloatScan, is_float, numeral_within};
+use sf_float_value::{decimal_value_f32, decimal_value_f64, value_f32, value_f64};
 use std::test::Fail;
 
 /// A matching sequence and its patterns; none where it is out of range.
@@ -189,6 +189,87 @@ fn items_are_the_longest_fronts() -> Result<(), Fail> {
         }
         if taken != row.1 || scan.is_match() != row.2 {
             return Err(Fail::new(format_args!("{:?}", row.0)));
+        }
+    }
+    Ok(())
+}
+
+/// A piece that begins with a decimal numeral, how many bytes that has, and its patterns, as strtod and strtof read it.
+type Numeral = (&'static [u8], usize, u64, u32);
+
+static NUMERALS: [Numeral; 12] = [
+    (b"123.456000,", 10, 0x405e_dd2f_1a9f_be77, 0x42f6_e979),
+    (b"-7.125;", 6, 0xc01c_8000_0000_0000, 0xc0e4_0000),
+    (b"0.1 ", 3, 0x3fb9_9999_9999_999a, 0x3dcc_cccd),
+    (b"00.30\n", 5, 0x3fd3_3333_3333_3333, 0x3e99_999a),
+    (b"5.,", 2, 0x4014_0000_0000_0000, 0x40a0_0000),
+    (b"-0.0x", 4, 0x8000_0000_0000_0000, 0x8000_0000),
+    (
+        b"1234567890123.456789;",
+        20,
+        0x4271_f71f_b04c_b74f,
+        0x538f_b8fe,
+    ),
+    (b"16777217.0000001,", 16, 0x4170_0000_1000_001b, 0x4b80_0001),
+    (
+        b"9007199254740.993 ",
+        17,
+        0x42a0_624d_d2f1_a9fc,
+        0x5503_126f,
+    ),
+    (
+        b"123456789012345678.9,",
+        20,
+        0x437b_69b4_ba63_0f35,
+        0x5bdb_4da6,
+    ),
+    (
+        b"1234567890123456789.,",
+        20,
+        0x43b1_2210_f47d_e981,
+        0x5d89_1088,
+    ),
+    (
+        b"-999.99999999999989,",
+        19,
+        0xc08f_3fff_ffff_ffff,
+        0xc47a_0000,
+    ),
+];
+
+/// Pieces of which it isn't seen at once: no byte follows, an exponent does, there is no point, no digit before it, a
+/// plus, or more than nineteen digits.
+static OTHERS: [&[u8]; 10] = [
+    b"1.5",
+    b"1.5e3,",
+    b"1.5E3,",
+    b".5,",
+    b"+1.5,",
+    b"15,",
+    b"x",
+    b"-.5,",
+    b"12345678901234567890.,",
+    b"1234567890123456789.0,",
+];
+
+#[test]
+fn decimal_numerals_are_read_at_once() -> Result<(), Fail> {
+    for row in &NUMERALS {
+        let right = match numeral_within(row.0) {
+            Some(it) => {
+                it.bytes == row.1
+                    && decimal_value_f64(it.negative, it.digits, it.places) == Some(row.2)
+                    && decimal_value_f32(it.negative, it.digits, it.places) == Some(row.3)
+            }
+            None => false,
+        };
+        if !right {
+            return Err(Fail::new(format_args!("{:?}", row.0)));
+        }
+    }
+    for piece in &OTHERS {
+        if numeral_within(piece).is_some() {
+            return Err(Fail::new(format_args!("{:?}", piece)));
         }
     }
     Ok(())

@@ -1,5 +1,6 @@
 -- A number of which some binary digits are cut off, rounded to those that are left.
-use Rattle.std.proofs.Common.{◌≡◌, ℕ, suc, ◌+◌, ◌-◌, ◌*◌, ◌/◌, ◌%◌, ◌^◌, ◌<◌, ◌≤◌, Bool, true, false, sym, ap, ◌∙◌, arith, pow-suc, mul-le-mul_right, mul-lt-mul_of_pos_right, pow_pos, div-add-mod', mod-lt}
+use Rattle.std.proofs.Common.{◌≡◌, ℕ, suc, ◌+◌, ◌-◌, ◌*◌, ◌/◌, ◌%◌, ◌^◌, ◌<◌, ◌≤◌, Bool, true, false, sym, ap, ◌∙◌, arith, pow-suc}
+use Rattle.std.proofs.Common.{mul-le-mul_right, mul-lt-mul_of_pos_right, pow_pos, div-add-mod', mod-lt}
 use Rattle.std.specs.Float.Ieee.Nearest.{closest}
 use Rattle.sf_float.specs.Quotient.{IsQuotient}
 use Rattle.sf_float.proofs.Closest.{closest_below, closest_tie, closest_above}

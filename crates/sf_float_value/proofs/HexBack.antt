@@ -1,5 +1,8 @@
 -- What `%a` prints is a hexadecimal numeral with the value of the float.
-use Rattle.std.proofs.Common.{◌≡◌, ◌⊎◌, ℕ, zero, suc, ◌+◌, ◌-◌, ◌*◌, ◌/◌, ◌%◌, ◌^◌, ◌<◌, ◌≤◌, Bool, true, false, cond, ◌||◌, List, [], ◌∷◌, ◌++◌, length, Option, Some, None, T, refl, sym, ap, ◌∙◌, subst, inl, inr, arith, eq-zero-or-pos, nat_lt, lt-ltb, le-ltb, if◌then◌else◌, pow-suc, append_assoc, append-nil, length-append, mod-lt, div-add-mod', mul-lt-mul_of_pos_right, pow_pos, pow_mono, lt_of_lt_of_le, true≢false, add-zero, eqb, ◌&&◌}
+use Rattle.std.proofs.Common.{◌≡◌, ◌⊎◌, ℕ, zero, suc, ◌+◌, ◌-◌, ◌*◌, ◌/◌, ◌%◌, ◌^◌, ◌<◌, ◌≤◌, Bool, true, false, cond, ◌||◌, List, [], ◌∷◌}
+use Rattle.std.proofs.Common.{◌++◌, length, Option, Some, None, T, refl, sym, ap, ◌∙◌, subst, inl, inr, arith, eq-zero-or-pos, nat_lt}
+use Rattle.std.proofs.Common.{lt-ltb, le-ltb, if◌then◌else◌, pow-suc, append_assoc, append-nil, length-append, mod-lt, div-add-mod'}
+use Rattle.std.proofs.Common.{mul-lt-mul_of_pos_right, pow_pos, pow_mono, lt_of_lt_of_le, true≢false, add-zero, eqb, ◌&&◌}
 use Rattle.std.proofs.Math.Nat.{div-div-eq-div-mul, div-one, mul_comm, add-suc}
 use Rattle.std.proofs.Math.Pow.{shl_lt}
 use Rattle.std.proofs.lemmas.Nat.{pow-add}

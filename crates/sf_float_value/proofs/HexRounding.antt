@@ -1,5 +1,6 @@
 -- The digits of a hexadecimal numeral and its exponent, rounded.
-use Rattle.std.proofs.Common.{◌≡◌, ℕ, ◌+◌, ◌-◌, ◌*◌, ◌^◌, ◌<◌, ◌≤◌, Bool, true, false, refl, sym, ap, ◌∙◌, subst, inl, inr, arith, pow_pos, pow_mono, eq-zero-or-pos, lt_of_lt_of_le}
+use Rattle.std.proofs.Common.{◌≡◌, ℕ, ◌+◌, ◌-◌, ◌*◌, ◌^◌, ◌<◌, ◌≤◌, Bool, true, false, refl, sym, ap, ◌∙◌, subst, inl, inr, arith, pow_pos}
+use Rattle.std.proofs.Common.{pow_mono, eq-zero-or-pos, lt_of_lt_of_le}
 use Rattle.std.proofs.Math.Nat.{lt_of_not-le, not-le_of_lt}
 use Rattle.std.proofs.lemmas.Nat.{pow-add}
 use lib.Ieee.{Format, prec, low, hid, ones, size}

@@ -1,4 +1,5 @@
 pub mod Cutting
+pub mod Decimals
 pub mod FormsApart
 pub mod Fronts
 mod HexBack

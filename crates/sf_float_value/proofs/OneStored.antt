@@ -1,17 +1,17 @@
 -- One thing is stored of a matching sequence: its first bytes tell its sign and its form.
-use Rattle.std.proofs.Common.{◌≡◌, ◌≢◌, ◌⊎◌, ℕ, zero, suc, ◌<◌, Bool, true, false, cond, ◌||◌, List, [], ◌∷◌, ◌++◌, length, eqb, slice_index, Option, Some, None, refl, sym, ap, ◌∙◌, subst, inl, inr, arith, lt-ltb}
+use Rattle.std.proofs.Common.{◌≡◌, ◌≢◌, ◌⊎◌, ℕ, ◌<◌, Bool, true, false, cond, List, [], ◌∷◌, ◌++◌, eqb, slice_index, Option, Some, refl}
+use Rattle.std.proofs.Common.{sym, ap, ◌∙◌, subst, inl, inr, arith}
 use Rattle.std.specs.Char.{is_ascii_digit, to_ascii_lowercase}
 use Rattle.std.specs.Float.Ieee.{Float, Format}
 use Rattle.std.specs.Float.Parse.{parse_float}
 use Rattle.std.proofs.lemmas.Bool.{ne_eqb}
-use Rattle.sf_float_item.specs.declared.reached.Radix.TheVariants.{Ten, Sixteen}
+use Rattle.sf_float_item.specs.declared.reached.Radix.TheVariants.{Ten}
 use Rattle.sf_float_item.specs.Sequences.{IsWhole, IsSomeFraction, IsNumber, Spells}
-use Rattle.sf_float_item.specs.Parts.{IsSign, IsNumeral, IsInfinity, IsNan}
-use Rattle.sf_float_item.proofs.Apart.{either}
+use Rattle.sf_float_item.specs.Parts.{IsSign, IsInfinity, IsNan}
 use Rattle.sf_float_item.proofs.Joined.{number_of}
-use Rattle.sf_float_value.specs.Values.{is_minus, stored, IsHexValue, IsStoredSize, IsStored}
+use Rattle.sf_float_value.specs.Values.{is_minus, stored, IsHexValue, IsStoredSize}
 use Rattle.sf_float_value.specs.Laws.{OneStored}
-use Rattle.sf_float_value.proofs.FormsApart.{lower, digit_lower, no_number, number_first}
+use Rattle.sf_float_value.proofs.FormsApart.{lower, digit_lower, no_number}
 use Rattle.sf_float_value.proofs.HexBack.{one_hex_value}
 
 -- ---- which form the first bytes tell

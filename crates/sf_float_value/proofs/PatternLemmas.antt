@@ -1,5 +1,6 @@
 -- The patterns of floats: of those that are no finite number, and of a minus.
-use Rattle.std.proofs.Common.{◌≡◌, ℕ, ◌+◌, ◌-◌, ◌*◌, ◌/◌, ◌%◌, ◌^◌, ◌<◌, Bool, true, false, not, cond, List, refl, sym, ap, ◌∙◌, subst, arith, true≢false, Some, None, T, div-add-mod', mod-lt, div-lt_iff_lt-mul}
+use Rattle.std.proofs.Common.{◌≡◌, ℕ, ◌+◌, ◌-◌, ◌*◌, ◌/◌, ◌%◌, ◌^◌, ◌<◌, Bool, true, false, not, cond, List, refl, sym, ap, ◌∙◌, subst}
+use Rattle.std.proofs.Common.{arith, true≢false, Some, None, T, div-add-mod', mod-lt, div-lt_iff_lt-mul}
 use lib.Ieee.{Float, Format, nan, inf, fin, up, down, is_nan, neg, size, prec, low, to_bits, of_bits, ones, hid, top}
 use lib.Ieee.Bits.{to_bits-of_bits}
 use lib.Ieee.Exact.{HasValue}

@@ -1,5 +1,7 @@
 -- From the whole number that is kept to the pattern of the nearest float.
-use Rattle.std.proofs.Common.{◌≡◌, ℕ, suc, ◌+◌, ◌-◌, ◌*◌, ◌/◌, ◌^◌, ◌<◌, ◌≤◌, Bool, true, false, sym, ap, ◌∙◌, subst, inl, inr, arith, pow-suc, mul-le-mul_right, mul-lt-mul_of_pos_right, mul-pos, pow_pos, pow_mono, eq-zero-or-pos, lt_of_lt_of_le, div-lt_iff_lt-mul, le-div_iff_mul-le}
+use Rattle.std.proofs.Common.{◌≡◌, ℕ, suc, ◌+◌, ◌-◌, ◌*◌, ◌/◌, ◌^◌, ◌<◌, ◌≤◌, Bool, true, false, sym, ap, ◌∙◌, subst, inl, inr, arith}
+use Rattle.std.proofs.Common.{pow-suc, mul-le-mul_right, mul-lt-mul_of_pos_right, mul-pos, pow_pos, pow_mono, eq-zero-or-pos}
+use Rattle.std.proofs.Common.{lt_of_lt_of_le, div-lt_iff_lt-mul, le-div_iff_mul-le}
 use Rattle.std.proofs.Math.Nat.{lt_of_not-le, not-le_of_lt, le_of_lt}
 use Rattle.std.proofs.lemmas.Nat.{pow-add}
 use lib.Ieee.{Format, prec, low, hid, size, units, round}

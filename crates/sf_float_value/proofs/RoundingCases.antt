@@ -1,5 +1,6 @@
 -- The two cases of a rounding: the lowest digit that is kept is above the least number, or is it.
-use Rattle.std.proofs.Common.{◌≡◌, ℕ, ◌+◌, ◌-◌, ◌*◌, ◌/◌, ◌^◌, ◌<◌, ◌≤◌, Bool, true, false, refl, sym, ap, ◌∙◌, subst, arith, pow_pos, pow_mono, lt_of_lt_of_le, mul-le-mul_right, div-lt_iff_lt-mul}
+use Rattle.std.proofs.Common.{◌≡◌, ℕ, ◌+◌, ◌-◌, ◌*◌, ◌/◌, ◌^◌, ◌<◌, ◌≤◌, Bool, true, false, refl, sym, ap, ◌∙◌, subst, arith, pow_pos}
+use Rattle.std.proofs.Common.{pow_mono, lt_of_lt_of_le, mul-le-mul_right, div-lt_iff_lt-mul}
 use Rattle.std.proofs.Math.Nat.{lt_of_le_of_lt, lt_of_not-le, not-le_of_lt}
 use Rattle.std.proofs.Math.Pow.{shl_lt}
 use Rattle.std.proofs.lemmas.Nat.{pow-add}

@@ -1,13 +1,14 @@
 -- A pattern that is stored is that of a float of the format.
-use Rattle.std.proofs.Common.{◌≡◌, ℕ, ◌+◌, ◌*◌, ◌^◌, ◌<◌, Bool, true, false, cond, List, [], ◌∷◌, length, drop, slice_index, if◌then◌else◌, Option, Some, None, option_map, option_and_then, refl, sym, ap, ◌∙◌, subst, inl, inr, T, to_bits, codes}
+use Rattle.std.proofs.Common.{◌≡◌, ℕ, ◌+◌, ◌*◌, ◌^◌, ◌<◌, Bool, true, false, List, length, drop, slice_index, if◌then◌else◌, Option, Some}
+use Rattle.std.proofs.Common.{None, option_map, option_and_then, refl, sym, subst, inl, inr, T, to_bits, codes}
 use Rattle.std.specs.Prelude.{◌==◌}
 use Rattle.std.specs.Float.{float_is_infinite}
-use Rattle.std.specs.Float.Ieee.{Float, Format, nan, inf, round, fits, binary32, binary64, top}
+use Rattle.std.specs.Float.Ieee.{Float, Format, nan, inf, fits, binary32, binary64, top}
 use Rattle.std.specs.Float.Numeral.{scan_numeral, has_digits, nearest_float}
 use Rattle.std.specs.Float.Parse.{parse_float, read_float, read_unsigned, read_word, begins_with, sign_len}
 use lib.Ieee.Bits.{to_bits-lt}
 use lib.Ieee.Fits.{round-fits, nan-fits, inf-fits}
-use Rattle.sf_float_value.specs.Values.{is_minus, stored, IsStoredSize, IsStored}
+use Rattle.sf_float_value.specs.Values.{is_minus, stored, IsStoredSize}
 use Rattle.sf_float_value.specs.Laws.{width, StoredBits}
 
 -- ---- what `parse` gives is a float of the format

@@ -1,21 +1,22 @@
 -- What is stored of a matching sequence is what the function computes of it.
-use Rattle.std.proofs.Common.{◌≡◌, ◌⊎◌, ℕ, ◌+◌, ◌*◌, ◌^◌, ◌<◌, Bool, true, false, cond, ◌&&◌, ◌||◌, List, [], ◌∷◌, ◌++◌, length, drop, slice_index, if◌then◌else◌, Option, Some, None, is_some, option_and_then, refl, sym, ap, ◌∙◌, subst, inl, inr, arith, true≢false, to_bits}
+use Rattle.std.proofs.Common.{◌≡◌, ◌⊎◌, ℕ, ◌+◌, ◌*◌, ◌^◌, Bool, true, false, ◌&&◌, ◌||◌, List, [], ◌∷◌, ◌++◌, length, drop, slice_index}
+use Rattle.std.proofs.Common.{if◌then◌else◌, Option, Some, None, is_some, option_and_then, refl, sym, ap, ◌∙◌, subst, inl, inr, arith}
+use Rattle.std.proofs.Common.{true≢false, to_bits}
 use Rattle.std.specs.Prelude.{◌==◌}
 use Rattle.std.specs.Char.{to_ascii_lowercase}
 use Rattle.std.specs.Str.Parse.{digits_value}
-use Rattle.std.specs.Float.Ieee.{Float, Format, nan, inf, round}
+use Rattle.std.specs.Float.Ieee.{Format, nan, inf, round}
 use Rattle.std.specs.Float.Parse.{parse_float, is_float_text}
 use Rattle.std.proofs.lemmas.Bool.{eqb-true, eqb-false, eq-eqb}
 use Rattle.std.proofs.lemmas.Float.Parse.{is_some-parse_float}
 use Rattle.sf_float_item.specs.declared.reached.Radix.TheVariants.{Ten, Sixteen}
-use Rattle.sf_float_item.specs.Sequences.{is_sign, IsNumber, IsUnsigned, IsFloat}
-use Rattle.sf_float_item.specs.Parts.{IsSign, IsNumeral, IsFloatInParts}
+use Rattle.sf_float_item.specs.Sequences.{IsNumber, IsUnsigned, IsFloat}
+use Rattle.sf_float_item.specs.Parts.{IsSign, IsFloatInParts}
 use Rattle.sf_float_item.proofs.Apart.{either}
 use Rattle.sf_float_item.proofs.Joined.{numeral_of, parts_are_sequences}
 use Rattle.sf_float_item.proofs.Parses.{number_parses, unsigned_opens}
 use Rattle.sf_float_value.specs.Values.{is_minus, stored, IsHexValue, IsStoredSize, IsStored}
-use Rattle.sf_float_value.specs.Hexadecimals.{digits_read, exponent_read, sign_len}
-use Rattle.sf_float_value.specs.Computed.{ups, downs, read_as, hexadecimal_number, has_letter, stored_size, stored_in}
+use Rattle.sf_float_value.specs.Computed.{read_as, hexadecimal_number, has_letter, stored_size, stored_in}
 use Rattle.sf_float_value.specs.Laws.{StoredIsComputed}
 use Rattle.sf_float_value.proofs.FormsApart.{infinity_at, nan_at, prefix_first, decimal_alone, decimal_first}
 use Rattle.sf_float_value.proofs.HexParts.{read_parts, up_by, down_by}

@@ -1,6 +1,7 @@
 -- What a conversion stores of a matching sequence (C11 7.21.6.2p10, 7.22.1.3p3 to p5): the nearest number of the format, rounded once, as a
 -- pattern.
-use Rattle.std.specs.Prelude.{◌≡◌, ◌⊎◌, ℕ, ◌+◌, ◌*◌, ◌^◌, Bool, ◌==◌, List, [], ◌∷◌, ◌++◌, length, slice_index, if◌then◌else◌, Option, Some, None, to_bits}
+use Rattle.std.specs.Prelude.{◌≡◌, ◌⊎◌, ℕ, ◌+◌, ◌*◌, ◌^◌, Bool, ◌==◌, List, [], ◌∷◌, ◌++◌, length, slice_index, if◌then◌else◌, Option, Some}
+use Rattle.std.specs.Prelude.{None, to_bits}
 use Rattle.std.proofs.Common.{inl, inr}
 use Rattle.std.specs.Str.Parse.{digits_value}
 use Rattle.std.specs.Float.{float_is_infinite}

@@ -9,4 +9,4 @@ pub mod laws;
 mod nearest;
 mod value;
 
-pub use value::{value_f32, value_f64};
+pub use value::{decimal_value_f32, decimal_value_f64, value_f32, value_f64};

@@ -1,8 +1,9 @@
 //! What is stored of a matching sequence: the pattern of the nearest float, a tie to the even one.
-ghost use Rattle.std.specs.Prelude.{◌≡◌, ◌+◌, ◌≤◌, ◌++◌, List, true, Some, to_bits, IsTrue, length};
+ghost use Rattle.std.specs.Prelude.{◌≡◌, ◌^◌, ℕ, List, true, Some, to_bits};
 ghost use Rattle.std.specs.Float.{binary32, binary64};
-ghost use Rattle.std.specs.Float.Ieee.{Float, inf, nan};
+ghost use Rattle.std.specs.Float.Ieee.{Float, inf, nan, round};
 ghost use Rattle.std.specs.Float.Parse.{parse_float, is_float_text};
+ghost use Rattle.sf_float_item.specs.Decimals.{IsDecimal};
 ghost use Rattle.sf_float_item.specs.Sequences.{IsFloat, IsNumber};
 ghost use Rattle.sf_float_item.specs.declared.reached.Radix.TheVariants.{Sixteen};
 ghost use Rattle.sf_float_value.specs.Values.{IsHexValue, IsStored, stored};
@@ -10,6 +11,7 @@ ghost use Rattle.sf_float_value.specs.Values.{IsHexValue, IsStored, stored};
 use crate::form::{Form, form_of, split};
 use crate::hexadecimal::hexadecimal;
 use crate::nearest::FloatKind;
+use fast_float::from_parts;
 
 /// The pattern of the one NaN of binary64.
 const NAN_F64: u64 = 0x7ff8_0000_0000_0000;
@@ -143,4 +145,37 @@ pub fn value_f32(item: &[u8]) -> Option<u32>
         Form::Infinity => Some(infinity_f32(negative)),
         Form::Nan => Some(NAN_F32),
     }
+}
+
+/// The `f64` nearest to the number over so many powers of ten, with the sign.
+#[inline(always)]
+fn quotient_f64(negative: bool, number: u64, tens: u32) -> f64
+    ensures { result ≡ round binary64 negative number (10 ^ tens) }
+{
+    let exponent = 0 - tens as i64;
+    from_parts(negative, number, exponent)
+}
+
+#[inline(always)]
+fn quotient_f32(negative: bool, number: u64, tens: u32) -> f32
+    ensures { result ≡ round binary32 negative number (10 ^ tens) }
+{
+    let exponent = 0 - tens as i64;
+    from_parts(negative, number, exponent)
+}
+
+/// As `value_f64`, of a decimal numeral of which the number of its digits is known, and how many stand after the point.
+#[inline(always)]
+pub fn decimal_value_f64(negative: bool, digits: u64, places: u32) -> Option<u64>
+    ensures { (item : List ℕ) → IsDecimal item negative digits places → IsStored binary64 item result }
+{
+    stored_f64(quotient_f64(negative, digits, places))
+}
+
+/// As `value_f32`, of such a numeral.
+#[inline(always)]
+pub fn decimal_value_f32(negative: bool, digits: u64, places: u32) -> Option<u32>
+    ensures { (item : List ℕ) → IsDecimal item negative digits places → IsStored binary32 item result }
+{
+    stored_f32(quotient_f32(negative, digits, places))
 }

@@ -1,5 +1,7 @@
 -- What lies between two numbers that are read as a float is read as it.
-use Rattle.std.proofs.Common.{◌≡◌, ℕ, zero, suc, ◌+◌, ◌-◌, ◌*◌, ◌/◌, ◌^◌, ◌<◌, ◌≤◌, Bool, true, false, cond, T, pos, negsuc, refl, sym, ap, ◌∙◌, subst, inl, inr, arith, mul-pos, pow_pos, pow-suc, lt_of_lt_of_le, leb, ltb, eqb, ◌&&◌, ◌||◌, ◌⊎◌, ◌%◌, lt_of_mul-lt-mul_right, mul-lt-mul_of_pos_right, lt_of_not-le, not-le_of_lt, pow_mono}
+use Rattle.std.proofs.Common.{◌≡◌, ℕ, zero, suc, ◌+◌, ◌-◌, ◌*◌, ◌/◌, ◌^◌, ◌<◌, ◌≤◌, Bool, true, false, cond, T, pos, negsuc, refl, sym, ap}
+use Rattle.std.proofs.Common.{◌∙◌, subst, inl, inr, arith, mul-pos, pow_pos, pow-suc, lt_of_lt_of_le, leb, ltb, eqb, ◌&&◌, ◌||◌, ◌⊎◌, ◌%◌}
+use Rattle.std.proofs.Common.{lt_of_mul-lt-mul_right, mul-lt-mul_of_pos_right, lt_of_not-le, not-le_of_lt, pow_mono}
 use Rattle.std.proofs.lemmas.Nat.{pow-add}
 use Rattle.std.proofs.Math.Nat.{le_antisymm}
 use Rattle.std.proofs.Math.Dec.{leb→le, ltb→lt, eqb→eq}

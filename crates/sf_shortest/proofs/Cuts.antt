@@ -1,5 +1,6 @@
 -- The decimals on both sides of a float, by the digits that are kept of it.
-use Rattle.std.proofs.Common.{◌≡◌, ◌⊎◌, ℕ, suc, ◌+◌, ◌-◌, ◌*◌, ◌/◌, ◌%◌, ◌^◌, ◌<◌, ◌≤◌, Bool, true, false, refl, sym, ap, ◌∙◌, inl, inr, arith, mul-pos, mul-le-mul_right, true≢false}
+use Rattle.std.proofs.Common.{◌≡◌, ◌⊎◌, ℕ, suc, ◌+◌, ◌-◌, ◌*◌, ◌/◌, ◌%◌, ◌^◌, ◌<◌, ◌≤◌, Bool, true, false, refl, sym, ap, ◌∙◌, inl, inr}
+use Rattle.std.proofs.Common.{arith, mul-pos, mul-le-mul_right, true≢false}
 use Rattle.std.proofs.lemmas.Nat.{pow-add}
 use Rattle.std.proofs.Math.Nat.{div-eq_of_lt-le}
 use Rattle.std.proofs.lemmas.Bool.{eq-eqb, ne_eqb}
@@ -55,7 +56,7 @@ module _ (a c first k : ℕ) (C : 0 < c) (K : k ≤ 16) (F : k ≤ first) where
       sym (pow-add 10 (416 - first) (last - 400)) ∙ ap (λ t. 10 ^ t) e ∙ pow-add 10 (16 - k) (400 - last + (first - 416))
       ∙ ap (λ t. half * t) (pow-add 10 (400 - last) (first - 416))
 
-  same : a * 10 ^ (400 - last) * (half * step) ≡ size * (c * 10 ^ (last - 400))
+  pub same : a * 10 ^ (400 - last) * (half * step) ≡ size * (c * 10 ^ (last - 400))
   same = omega (arith, ap (λ t. a * c * t) tens)
 
   pub near_is : closest (a * 10 ^ (400 - last)) (c * 10 ^ (last - 400)) ≡ closest size (half * step)

@@ -1,5 +1,7 @@
 -- No decimal with fewer digits is read as the float.
-use Rattle.std.proofs.Common.{◌≡◌, ◌⊎◌, ℕ, zero, suc, ◌+◌, ◌-◌, ◌*◌, ◌/◌, ◌%◌, ◌^◌, ◌<◌, ◌≤◌, Bool, true, false, nat_eq, if◌then◌else◌, Option, Some, None, T, pos, refl, sym, ap, ◌∙◌, subst, inl, inr, arith, eq-zero-or-pos, eq-or-lt_of_le, true≢false, mul-pos, mul-le-mul_right, pow_mono, lt_of_lt_of_le, pow-suc, min}
+use Rattle.std.proofs.Common.{◌≡◌, ◌⊎◌, ℕ, zero, suc, ◌+◌, ◌-◌, ◌*◌, ◌/◌, ◌%◌, ◌^◌, ◌<◌, ◌≤◌, Bool, true, false, nat_eq, if◌then◌else◌}
+use Rattle.std.proofs.Common.{Option, Some, None, T, pos, refl, sym, ap, ◌∙◌, subst, inl, inr, arith, eq-zero-or-pos, eq-or-lt_of_le}
+use Rattle.std.proofs.Common.{true≢false, mul-pos, mul-le-mul_right, pow_mono, lt_of_lt_of_le, pow-suc, min}
 use Rattle.std.proofs.lemmas.Bool.{eqb-false, eq-eqb}
 use Rattle.std.proofs.lemmas.Nat.{pow-add}
 use Rattle.std.proofs.lemmas.Option.{same_Some, none-some}
@@ -16,7 +18,8 @@ use Rattle.sf_float.specs.Scaled.{is_nonzero}
 use Rattle.sf_float.proofs.Limbs.{power_pos}
 use Rattle.sf_float.proofs.Powers.{closest_ge, closest_le}
 use Rattle.sf_float.proofs.ReadBack.{scaled_of_value}
-use Rattle.sf_shortest.specs.Digits.{format_of, number_of, most_decimals, cut, near, other, read_as, reads_back, first_power, tried, or_else, searched, trimmed, shortest}
+use Rattle.sf_shortest.specs.Digits.{format_of, number_of, most_decimals, cut, near, other, read_as, reads_back, first_power, tried}
+use Rattle.sf_shortest.specs.Digits.{or_else, searched, trimmed, shortest}
 use Rattle.sf_shortest.specs.Laws.{NoneShorter}
 use Rattle.sf_shortest.proofs.Between.{parts_fit, reads_itself, between, unsigned, resigned}
 use Rattle.sf_shortest.proofs.Cuts.{cut_of_value, other_above, other_below}
@@ -70,7 +73,7 @@ module _ (r : real.Real) (s : Bool) (m : ℕ) (e : _) (is : number_of r ≡ fin 
   abbrev d : ℕ
   d = down e
 
-  abbrev reads : ℕ → ℕ → Type 0
+  abbrev pub reads : ℕ → ℕ → Type 0
   reads n last = round f false (n * 10 ^ (last - 400)) (10 ^ (400 - last)) ≡ fin false m e
 
   bare : T (fits f (fin false m e))
@@ -92,7 +95,7 @@ module _ (r : real.Real) (s : Bool) (m : ℕ) (e : _) (is : number_of r ≡ fin 
       let t : 2 ^ 1024 ≤ 10 ^ 600 = le_of_lt (lit< tt) in
       lt_of_lt_of_le (parts_fit f s m e M F).2 (le_trans (mul-le-mul_right d (top_few f)) (mul-le-mul_right d t))
 
-  forth : (n last : ℕ) → read_as r n last ≡ number_of r → reads n last
+  pub forth : (n last : ℕ) → read_as r n last ≡ number_of r → reads n last
   forth n last h =
       unsigned f s m _ _ e (ap (λ b. round f b (n * 10 ^ (last - 400)) (10 ^ (400 - last)))
       (sym (ap is_sign_negative is ∙ finite_sign s m e)) ∙ h ∙ is)
@@ -138,6 +141,9 @@ module _ (r : real.Real) (s : Bool) (m : ℕ) (e : _) (is : number_of r ≡ fin 
 
     short : below < 10 ^ (k + 1)
     short = rw below_is ((div-lt_iff_lt-mul step).1 (no_longer x s a d (down_pos e) A few (refl, refl) k K big))
+
+    pub size_short : a * 10 ^ i < 10 ^ (k + 1) * (d * 10 ^ j)
+    size_short = omega (arith, to, mul-le-mul_right (d * 10 ^ j) short)
 
     -- a decimal that is no more than the one below, and one that is no less than the one above
     if_less : (n q : ℕ) → n * 10 ^ (q - 400) * 10 ^ i ≤ below * 10 ^ j * 10 ^ (400 - q) → reads n q → reads below last
@@ -246,12 +252,21 @@ module _ (r : real.Real) (s : Bool) (m : ℕ) (e : _) (is : number_of r ≡ fin 
     other_few : other x last ≤ 10 ^ (k + 1)
     other_few = elim other_is [ inl q ↦ omega (arith, q.1, short) | inr q ↦ omega (arith, q.1, short) ]
 
-    tried_few : (n : ℕ) → tried r last ≡ Some n → n ≤ 10 ^ (k + 1)
+    pub tried_few : (n : ℕ) → tried r last ≡ Some n → n ≤ 10 ^ (k + 1)
     tried_few n h = by (reads_back r (near x last) last) (reads_back r (other x last) last) (sym (as_x is) ∙ h)
       where
         by : (b c : Bool) → (if b then Some (near x last) else (if c then Some (other x last) else None)) ≡ Some n → n ≤ 10 ^ (k + 1)
         by true c q = subst (λ t. t ≤ 10 ^ (k + 1)) (same_Some _ _ q) near_few
         by false true q = subst (λ t. t ≤ 10 ^ (k + 1)) (same_Some _ _ q) other_few
+        by false false q = absurd (none-some n q)
+
+    pub tried_is : (n : ℕ) → tried r last ≡ Some n → (n ≡ below) ⊎ (n ≡ below + 1)
+    tried_is n h = by (reads_back r (near x last) last) (reads_back r (other x last) last) (sym (as_x is) ∙ h)
+      where
+        by : (b c : Bool) → (if b then Some (near x last) else (if c then Some (other x last) else None)) ≡ Some n
+            → (n ≡ below) ⊎ (n ≡ below + 1)
+        by true c q = elim near_is [ inl e ↦ inl (sym (same_Some _ _ q) ∙ e) | inr e ↦ inr (sym (same_Some _ _ q) ∙ e) ]
+        by false true q = elim other_is [ inl e ↦ inr (sym (same_Some _ _ q) ∙ e.1) | inr e ↦ inl (sym (same_Some _ _ q) ∙ e.1) ]
         by false false q = absurd (none-some n q)
 
   -- ---- where none of so many digits reads back, none of fewer does
@@ -295,7 +310,7 @@ module _ (r : real.Real) (s : Bool) (m : ℕ) (e : _) (is : number_of r ≡ fin 
             | inr more ↦ rest (omega (arith, more))
           ]
 
-  some_digit : (n last : ℕ) → reads n last → 0 < n
+  pub some_digit : (n last : ℕ) → reads n last → 0 < n
   some_digit n last h =
       elim (eq-zero-or-pos n) [
         | inr g ↦ g

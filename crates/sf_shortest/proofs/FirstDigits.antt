@@ -1,5 +1,8 @@
 -- Searches for the least number that passes a test: how many digits there are, and where the first stands.
-use Rattle.std.proofs.Common.{◌≡◌, ℕ, zero, suc, ◌+◌, ◌-◌, ◌*◌, ◌/◌, ◌^◌, ◌<◌, ◌≤◌, Bool, true, false, nat_lt, refl, sym, ap, ◌∙◌, subst, inl, inr, arith, eq-zero-or-pos, eq-or-lt_of_le, true≢false, lt-ltb, le-ltb, ltb-true, ltb-false, pow-suc, mul-pos, mul-le-mul_right, le_of_mul-le-mul_right, lt_of_mul-lt-mul_right, mul-lt-mul_of_pos_right, div-lt_iff_lt-mul}
+use Rattle.std.proofs.Common.{◌≡◌, ℕ, zero, suc, ◌+◌, ◌-◌, ◌*◌, ◌/◌, ◌^◌, ◌<◌, ◌≤◌, Bool, true, false, nat_lt, refl, sym, ap, ◌∙◌, subst}
+use Rattle.std.proofs.Common.{inl, inr, arith, eq-zero-or-pos, eq-or-lt_of_le, true≢false, lt-ltb, le-ltb, ltb-true, ltb-false, pow-suc}
+use Rattle.std.proofs.Common.{mul-pos, mul-le-mul_right, le_of_mul-le-mul_right, lt_of_mul-lt-mul_right, mul-lt-mul_of_pos_right}
+use Rattle.std.proofs.Common.{div-lt_iff_lt-mul}
 use Rattle.std.proofs.lemmas.Nat.{pow-add}
 use Rattle.std.proofs.Math.Nat.{pow-le-pow_right, le-div_iff_mul-le, le_of_lt}
 use lib.Dec.{lit<}

@@ -1,5 +1,8 @@
 -- The power of ten of a float's first digit.
-use Rattle.std.proofs.Common.{◌≡◌, ℕ, zero, suc, ◌+◌, ◌-◌, ◌*◌, ◌/◌, ◌^◌, ◌<◌, ◌≤◌, Bool, true, false, nat_lt, refl, sym, ap, ◌∙◌, subst, inl, inr, arith, eq-zero-or-pos, eq-or-lt_of_le, mul-pos, mul-le-mul_right, mul-le-mul_left, true≢false, lt-ltb, le-ltb, div-lt_iff_lt-mul, le_of_mul-le-mul_right, lt_of_not-le, not-le_of_lt, lt_of_lt_of_le, pow_pos, pow_mono, not}
+use Rattle.std.proofs.Common.{◌≡◌, ℕ, zero, suc, ◌+◌, ◌-◌, ◌*◌, ◌/◌, ◌^◌, ◌<◌, ◌≤◌, Bool, true, false, nat_lt, refl, sym, ap, ◌∙◌, subst}
+use Rattle.std.proofs.Common.{inl, inr, arith, eq-zero-or-pos, eq-or-lt_of_le, mul-pos, mul-le-mul_right, mul-le-mul_left, true≢false}
+use Rattle.std.proofs.Common.{lt-ltb, le-ltb, div-lt_iff_lt-mul, le_of_mul-le-mul_right, lt_of_not-le, not-le_of_lt, lt_of_lt_of_le}
+use Rattle.std.proofs.Common.{pow_pos, pow_mono, not}
 use Rattle.std.proofs.lemmas.Nat.{pow-add}
 use Rattle.std.proofs.Math.Nat.{pow-le-pow_right, le_trans, le-div_iff_mul-le, mul-le-mul}
 use Rattle.std.specs.Float.Ieee.{Float, Format, nan, inf, fin, neg, of_bits}

@@ -1,5 +1,7 @@
 -- Digits that are laid out are read as their decimal.
-use Rattle.std.proofs.Common.{◌≡◌, ℕ, ◌+◌, ◌-◌, ◌*◌, ◌/◌, ◌^◌, ◌<◌, ◌≤◌, Bool, true, false, ◌||◌, List, [], ◌∷◌, ◌++◌, length, max, nat_lt, if◌then◌else◌, Some, refl, sym, ap, ◌∙◌, inl, inr, arith, eq-zero-or-pos, append-nil, lt-ltb, le-ltb, mul-lt-mul_of_pos_right, lt_of_lt_of_le}
+use Rattle.std.proofs.Common.{◌≡◌, ℕ, ◌+◌, ◌-◌, ◌*◌, ◌/◌, ◌^◌, ◌<◌, ◌≤◌, Bool, true, false, ◌||◌, List, [], ◌∷◌, ◌++◌, length, max, nat_lt}
+use Rattle.std.proofs.Common.{if◌then◌else◌, Some, refl, sym, ap, ◌∙◌, inl, inr, arith, eq-zero-or-pos, append-nil, lt-ltb, le-ltb}
+use Rattle.std.proofs.Common.{mul-lt-mul_of_pos_right, lt_of_lt_of_le}
 use Rattle.std.proofs.lemmas.Nat.{pow-add}
 use Rattle.std.proofs.Math.Nat.{pow-le-pow_right}
 use lib.Dec.{lit<}

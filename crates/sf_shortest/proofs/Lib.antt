@@ -1,6 +1,7 @@
 mod Between
 mod Cuts
 mod Firsts
+mod Full
 mod Fewest
 mod FirstDigits
 mod LaidBack

@@ -1,5 +1,6 @@
 -- Quotients that are cut, and that know whether anything was cut off.
-use Rattle.std.proofs.Common.{◌≡◌, ℕ, suc, ◌+◌, ◌-◌, ◌*◌, ◌/◌, ◌%◌, ◌^◌, ◌<◌, Bool, true, false, not, ◌||◌, nat_eq, refl, sym, ap, inl, inr, arith, eq-zero-or-pos, mod-lt, div-add-mod', pow-suc, mul-pos, mul-lt-mul_of_pos_right}
+use Rattle.std.proofs.Common.{◌≡◌, ℕ, suc, ◌+◌, ◌-◌, ◌*◌, ◌/◌, ◌%◌, ◌^◌, ◌<◌, Bool, true, false, not, ◌||◌, nat_eq, refl, sym, ap, inl, inr}
+use Rattle.std.proofs.Common.{arith, eq-zero-or-pos, mod-lt, div-add-mod', pow-suc, mul-pos, mul-lt-mul_of_pos_right}
 use Rattle.std.proofs.lemmas.Bool.{eqb-true, eqb-false}
 use lib.Dec.{lit<}
 use Rattle.sf_float.specs.Quotient.{IsQuotient}

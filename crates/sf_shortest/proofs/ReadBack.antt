@@ -1,5 +1,7 @@
 -- What is written of a float is read as that float.
-use Rattle.std.proofs.Common.{◌≡◌, ℕ, zero, suc, ◌+◌, ◌-◌, ◌*◌, ◌/◌, ◌%◌, ◌^◌, ◌<◌, ◌≤◌, Bool, true, false, nat_eq, ◌++◌, codes, Option, Some, None, T, pos, leb, refl, sym, ap, ◌∙◌, subst, inl, inr, arith, eq-zero-or-pos, div-add-mod', mod-lt, div-lt_iff_lt-mul, lt_of_lt_of_le, pow_mono, pow_pos, cond, if◌then◌else◌, mul-pos}
+use Rattle.std.proofs.Common.{◌≡◌, ℕ, zero, suc, ◌+◌, ◌-◌, ◌*◌, ◌/◌, ◌%◌, ◌^◌, ◌<◌, ◌≤◌, Bool, true, false, nat_eq, ◌++◌, codes, Option}
+use Rattle.std.proofs.Common.{Some, None, T, pos, leb, refl, sym, ap, ◌∙◌, subst, inl, inr, arith, eq-zero-or-pos, div-add-mod', mod-lt}
+use Rattle.std.proofs.Common.{div-lt_iff_lt-mul, lt_of_lt_of_le, pow_mono, pow_pos, cond, if◌then◌else◌, mul-pos}
 use Rattle.std.proofs.lemmas.Bool.{eqb-true, eqb-false}
 use Rattle.std.proofs.lemmas.Nat.{pow-add}
 use Rattle.std.proofs.lemmas.Option.{same_Some, none-some}
@@ -9,7 +11,8 @@ use lib.Ieee.Bits.{of_bits-to_bits, to_bits-lt, of_bits-fits}
 use lib.Ieee.Fits.{round-fits, down_pos, up_pos}
 use lib.Ieee.Scale.{round_same}
 use Rattle.std.specs.Float.{is_sign_negative, float_is_finite}
-use Rattle.std.specs.Float.Ieee.{Float, Format, nan, inf, fin, neg, size, round, up, down, prec, low, hid, ones, top, of_bits, to_bits, fits, binary32, binary64}
+use Rattle.std.specs.Float.Ieee.{Float, Format, nan, inf, fin, neg, size, round, up, down, prec, low, hid, ones, top, of_bits, to_bits}
+use Rattle.std.specs.Float.Ieee.{fits, binary32, binary64}
 use Rattle.std.specs.Float.Ieee.Exact.{HasValue}
 use Rattle.std.specs.Float.Numeral.{scan_numeral}
 use Rattle.std.specs.Float.Parse.{parse_float, read_float}
@@ -22,7 +25,8 @@ use Rattle.sf_base.specs.declared.real.Real.TheVariants as reals
 use Rattle.sf_float.proofs.Limbs.{power_pos}
 use Rattle.sf_float.proofs.ReadBack.{reads_back}
 use Rattle.sf_float.proofs.TextLaws.{sign_is}
-use Rattle.sf_shortest.specs.Digits.{format_of, number_of, most_decimals, near, other, read_as, first_power, tried, searched, trimmed, shortest}
+use Rattle.sf_shortest.specs.Digits.{format_of, number_of, most_decimals, near, other, read_as, first_power, tried, searched, trimmed}
+use Rattle.sf_shortest.specs.Digits.{shortest}
 use Rattle.sf_shortest.specs.Laid.{size_text, laid_out, shortest_text}
 use Rattle.sf_shortest.specs.Laws.{ReadsBack, OneFloat}
 use Rattle.sf_shortest.specs.Digits as digits

@@ -1,5 +1,6 @@
 -- The bytes of a text: digits, `-`, `.` and small letters.
-use Rattle.std.proofs.Common.{ℕ, zero, suc, ◌+◌, ◌-◌, ◌*◌, ◌/◌, ◌%◌, ◌^◌, ◌<◌, ◌≤◌, Bool, true, false, ◌||◌, [], ◌∷◌, ◌++◌, nat_lt, nat_eq, max, codes, refl, inl, inr, arith, mod-lt, if◌then◌else◌}
+use Rattle.std.proofs.Common.{ℕ, zero, suc, ◌+◌, ◌-◌, ◌*◌, ◌/◌, ◌%◌, ◌^◌, ◌<◌, ◌≤◌, Bool, true, false, ◌||◌, [], ◌∷◌, ◌++◌, nat_lt, nat_eq}
+use Rattle.std.proofs.Common.{max, codes, refl, inl, inr, arith, mod-lt, if◌then◌else◌}
 use Rattle.std.proofs.lemmas.List.Elements.{All-append, All-cons, All-nil}
 use lib.Dec.{lit<}
 use Rattle.std.specs.List.{All}

@@ -1,5 +1,6 @@
 -- The digits of a text, and its room.
-use Rattle.std.proofs.Common.{◌≡◌, ℕ, ◌+◌, ◌-◌, ◌*◌, ◌^◌, ◌<◌, ◌≤◌, Bool, true, refl, sym, ap, ◌∙◌, arith, mul-lt-mul_of_pos_right, lt_of_lt_of_le, mul-pos, ◌++◌, codes, true≢false, inl, inr, eq-zero-or-pos}
+use Rattle.std.proofs.Common.{◌≡◌, ℕ, ◌+◌, ◌-◌, ◌*◌, ◌^◌, ◌<◌, ◌≤◌, Bool, true, refl, sym, ap, ◌∙◌, arith, mul-lt-mul_of_pos_right}
+use Rattle.std.proofs.Common.{lt_of_lt_of_le, mul-pos, ◌++◌, codes, true≢false, inl, inr, eq-zero-or-pos}
 use Rattle.std.proofs.lemmas.Bool.{ne_eqb}
 use Rattle.std.proofs.lemmas.Nat.{pow-add}
 use Rattle.std.proofs.Math.Nat.{pow-le-pow_right}

@@ -1,5 +1,6 @@
 -- The shortest decimal digits that are read as a float of its kind, found by trial. A decimal is n * 10 ^ (last - 400).
-use Rattle.std.specs.Prelude.{ℕ, zero, suc, ◌+◌, ◌-◌, ◌*◌, ◌/◌, ◌%◌, ◌^◌, Bool, ◌==◌, nat_lt, if◌then◌else◌, Option, Some, None, from_bits, to_bits}
+use Rattle.std.specs.Prelude.{ℕ, zero, suc, ◌+◌, ◌-◌, ◌*◌, ◌/◌, ◌%◌, ◌^◌, Bool, ◌==◌, nat_lt, if◌then◌else◌, Option, Some, None, from_bits}
+use Rattle.std.specs.Prelude.{to_bits}
 use Rattle.std.specs.Float.{is_sign_negative}
 use Rattle.std.specs.Float.Ieee.{Float, Format, nan, inf, fin, up, down, round, binary32, binary64}
 use Rattle.sf_base.specs.declared.real.Real as real

@@ -1,5 +1,6 @@
 -- The text of a float: its shortest digits, laid out.
-use Rattle.std.specs.Prelude.{ℕ, ◌+◌, ◌-◌, ◌*◌, ◌/◌, ◌^◌, Bool, false, ◌&&◌, List, ◌∷◌, ◌++◌, codes, max, nat_eq, nat_lt, nat_le, if◌then◌else◌}
+use Rattle.std.specs.Prelude.{ℕ, ◌+◌, ◌-◌, ◌*◌, ◌/◌, ◌^◌, Bool, false, ◌&&◌, List, ◌∷◌, ◌++◌, codes, max, nat_eq, nat_lt, nat_le}
+use Rattle.std.specs.Prelude.{if◌then◌else◌}
 use Rattle.std.specs.Float.{is_sign_negative}
 use Rattle.std.specs.Float.Ieee.{Float, nan, inf, fin}
 use Rattle.std.specs.Fmt.{sign_text}

@@ -1,4 +1,5 @@
 pub mod Cut
 pub mod Digits
+pub mod Full
 pub mod Laid
 pub mod Laws

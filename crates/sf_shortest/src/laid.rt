@@ -1,11 +1,12 @@
 //! Digits laid out as text.
-ghost use Rattle.std.specs.Prelude.{◌≡◌, ℕ, ◌+◌, ◌-◌, ◌*◌, ◌/◌, ◌%◌, ◌^◌, ◌<◌, ◌≤◌, ◌++◌, ◌∷◌, [], take, IsTrue, IsFalse, nat_lt};
+ghost use Rattle.std.specs.Prelude.{◌≡◌, ℕ, ◌+◌, ◌-◌, ◌*◌, ◌/◌, ◌%◌, ◌^◌, ◌<◌, ◌≤◌, ◌++◌, ◌∷◌, [], take, IsTrue};
+ghost use Rattle.std.specs.Prelude.{IsFalse, nat_lt};
 ghost use Rattle.std.specs.Fmt.{sign_text};
 ghost use Rattle.sf_float.specs.Texts.{fixed_digits, exponent_size, IsCount};
 ghost use Rattle.sf_float.specs.Computed.{count_of};
 ghost use Rattle.sf_shortest.specs.Laid.{is_plain, plain_text, raised_text, laid_out};
 
-use sf_base::Real;
+use sf_base::{Real, pair_of};
 use sf_float::ten_to;
 
 /// Room for a text: a sign, `0.00000`, and 19 digits.
@@ -41,7 +42,7 @@ fn without(n: u64, places: u32) -> u64
     n / ten_to(places)
 }
 
-/// Writes the last digits of a number, so many.
+/// Writes the last digits of a number, so many: two at a time, from the end.
 fn put_last(n: u64, count: u32, out: &mut [u8; ROOM], at: usize) -> usize
     requires { at + count ≤ 32 }
     ensures end { result ≡ at + count }
@@ -50,10 +51,15 @@ fn put_last(n: u64, count: u32, out: &mut [u8; ROOM], at: usize) -> usize
     let end = at + count as usize;
     let mut left = n;
     let mut k = end;
-    while k > at {
-        k -= 1;
-        out[k] = b'0' + (left % 10) as u8;
-        left /= 10;
+    while k >= at + 2 {
+        let (tens, ones) = pair_of(left % 100);
+        out[k - 1] = ones;
+        out[k - 2] = tens;
+        k -= 2;
+        left /= 100;
+    }
+    if k > at {
+        out[at] = b'0' + (left % 10) as u8;
     }
     end
 }
@@ -71,8 +77,10 @@ fn put_digits(n: u64, from: u32, to: u32, out: &mut [u8; ROOM], at: usize) -> us
 fn least_count(n: u64) -> u32
     ensures { (0 < result) × (result ≤ 20) × (1 < result → 10 ^ (result - 1) ≤ n) }
 {
-    if n < 100_000_000 {
+    if n < 10_000 {
         1
+    } else if n < 100_000_000 {
+        5
     } else if n < 1_000_000_000_000_000 {
         9
     } else {

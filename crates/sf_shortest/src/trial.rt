@@ -1,14 +1,17 @@
 //! The shortest digits that are read as a float, found by trial.
-ghost use Rattle.std.specs.Prelude.{◌≡◌, ◌⊎◌, ◌+◌, ◌-◌, ◌*◌, ◌%◌, ◌^◌, ◌<◌, ◌≤◌, true, false, IsTrue, IsFalse, IfSome};
+ghost use Rattle.std.specs.Prelude.{◌≡◌, ◌⊎◌, ℕ, ◌+◌, ◌-◌, ◌*◌, ◌%◌, ◌^◌, ◌<◌, ◌≤◌, true, false, IsTrue, IsFalse};
+ghost use Rattle.std.specs.Prelude.{IfSome};
 ghost use Rattle.std.specs.Float.{float_is_finite};
 ghost use Rattle.std.specs.Float.Ieee.{Float};
 ghost use Rattle.sf_shortest.specs.Cut.{IsCut};
-ghost use Rattle.sf_shortest.specs.Digits.{number_of, most_decimals, near, other, reads_back, tried, searched, trimmed, shortest};
+ghost use Rattle.sf_shortest.specs.Full.{IsFullDouble};
+ghost use Rattle.sf_shortest.specs.Digits.{number_of, most_decimals, near, other, reads_back, tried, searched, trimmed};
+ghost use Rattle.sf_shortest.specs.Digits.{shortest};
 
 use crate::cut::Cut;
 use fast_float::from_parts;
 use sf_base::Real;
-use sf_float::ten_to;
+use sf_float::{Size, sign_and_bits, size_of, ten_to};
 use std::num::{
     f32_from_bits_with_nan, f32_to_bits_with_nan, f64_from_bits_with_nan, f64_to_bits_with_nan,
 };
@@ -34,6 +37,7 @@ fn most_decimals(real: Real) -> u32
 }
 
 /// Whether n * 10^(last - 400) is read as the float.
+#[inline(always)]
 fn reads_back(real: Real, n: u64, last: u32) -> bool
     requires finite { IsTrue (float_is_finite (number_of real)) }
     requires few { last ≤ 1000 }
@@ -81,6 +85,7 @@ fn sides(cut: Cut, decimals: u32) -> (u64, u64)
 }
 
 /// Which of them reads back, the nearest first.
+#[inline(always)]
 fn tried(real: Real, cut: Cut, decimals: u32) -> Option<u64>
     requires finite { IsTrue (float_is_finite (number_of real)) }
     requires few { (decimals ≤ 16) × (decimals ≤ cut.first) × (cut.first ≤ 900) }
@@ -131,6 +136,7 @@ fn guessed(real: Real, cut: Cut) -> u32
 }
 
 /// The fewest digits of which one reads back, and where the last stands, with so many after the first or more.
+#[inline(never)]
 fn searched_from(real: Real, cut: Cut, from: u32) -> (u64, u32)
     requires finite { IsTrue (float_is_finite (number_of real)) }
     requires few { (16 ≤ cut.first) × (cut.first ≤ 900) }
@@ -152,6 +158,8 @@ fn searched_from(real: Real, cut: Cut, from: u32) -> (u64, u32)
 
 /// The fewest digits of which one reads back, and where the last stands. Where none of so many does, none of fewer
 /// does, so the search begins at a guess.
+#[cold]
+#[inline(never)]
 fn searched(real: Real, cut: Cut) -> (u64, u32)
     requires finite { IsTrue (float_is_finite (number_of real)) }
     requires few { (16 ≤ cut.first) × (cut.first ≤ 900) }
@@ -169,19 +177,128 @@ fn searched(real: Real, cut: Cut) -> (u64, u32)
     searched_from(real, cut, 0)
 }
 
-/// Without the zeros at the end.
+/// Without so many zeros at the end, where there are as many; so many were taken off before.
+#[inline(always)]
+fn without(n: u64, zeros: u32, tens: u64, more: u32) -> (u64, u32)
+    requires tens { tens ≡ 10 ^ more }
+    requires few { zeros + more ≤ 17 }
+    ensures same { (last : ℕ) → trimmed (17 - zeros) n (last + zeros)
+        ≡ trimmed (17 - result.1) result.0 (last + result.1) }
+    ensures few { (result.0 ≤ n) × (result.1 ≤ zeros + more) }
+{
+    if n % tens == 0 {
+        (n / tens, zeros + more)
+    } else {
+        (n, zeros)
+    }
+}
+
+/// Without the zeros at the end. Eight are taken off at once, and then four and two.
 fn trimmed(n: u64, last: u32) -> (u64, u32)
     requires { last ≤ 900 }
     ensures value { result ≡ trimmed 17 n last }
     ensures few { (result.0 ≤ n) × (result.1 ≤ last + 17) }
 {
-    let mut value = n;
-    let mut zeros = 0;
+    let (value, zeros) = without(n, 0, 100_000_000, 8);
+    let (value, zeros) = without(value, zeros, 10_000, 4);
+    let (mut value, mut zeros) = without(value, zeros, 100, 2);
     while zeros < 17 && value % 10 == 0 {
         value /= 10;
         zeros += 1;
     }
     (value, last + zeros)
+}
+
+/// Whether the size has 53 binary digits and no power of two above 0; the greatest such number is left out.
+#[inline(always)]
+fn is_full_size(size: Size) -> bool
+    ensures up { IsTrue result → size.up ≡ 0 }
+    ensures least { IsTrue result → 2 ^ 52 ≤ size.m }
+    ensures most { IsTrue result → size.m + 1 < 2 ^ 53 }
+{
+    size.up == 0 && size.m >= 0x10_0000_0000_0000 && size.m < 0x1f_ffff_ffff_ffff
+}
+
+/// The binary digits of a double that has 53 of them and is no more than 2^53: no two decimals with fifteen digits are
+/// read as such a one.
+#[inline(always)]
+fn full_digits(real: Real) -> Option<u64>
+    requires { IsTrue (float_is_finite (number_of real)) }
+    ensures { IfSome result (IsFullDouble real) }
+{
+    match real {
+        Real::F32(_) => None,
+        Real::F64(bits) => {
+            let (_, pattern) = sign_and_bits(f64_from_bits_with_nan(bits));
+            let size = size_of(pattern);
+            if is_full_size(size) {
+                Some(size.m)
+            } else {
+                None
+            }
+        },
+    }
+}
+
+/// Whether both decimals with fifteen digits beside a double with the binary digits m are further from it than the next
+/// double. Twice the double over m is twice that gap; of the 200 parts from one decimal to the next, `rest` lie below
+/// the double, and one more may begin.
+#[inline(always)]
+fn is_far(twice: u64, m: u64) -> bool
+    requires { m < 2 ^ 53 }
+    ensures low { IsTrue result → twice < m * (twice % 200) }
+    ensures high { IsTrue result → twice < m * (199 - twice % 200) }
+{
+    let rest = twice % 200;
+    m * rest > twice && m * (199 - rest) > twice
+}
+
+/// As `tried` with fifteen digits, of a double with these binary digits.
+#[inline(always)]
+fn tried_short(real: Real, cut: Cut, m: u64) -> Option<u64>
+    requires finite { IsTrue (float_is_finite (number_of real)) }
+    requires few { (16 ≤ cut.first) × (cut.first ≤ 900) }
+    requires cut { IsCut (number_of real) cut.first cut.twice cut.lost }
+    requires full { IsFullDouble real m }
+    ensures value { result ≡ tried real (cut.first - 14) }
+    ensures few { IfSome result (λ n. n ≤ 10 ^ 17) }
+{
+    if is_far(cut.twice, m) {
+        return None;
+    }
+    tried(real, cut, 14)
+}
+
+/// As `searched`, of a double with these binary digits: where a decimal with fifteen digits is read as it, that has the
+/// digits. Without the zeros at their end they are the same.
+#[inline(always)]
+fn searched_full(real: Real, cut: Cut, m: u64) -> (u64, u32)
+    requires finite { IsTrue (float_is_finite (number_of real)) }
+    requires few { (16 ≤ cut.first) × (cut.first ≤ 900) }
+    requires cut { IsCut (number_of real) cut.first cut.twice cut.lost }
+    requires full { IsFullDouble real m }
+    ensures same { trimmed 17 result.0 result.1 ≡ shortest real }
+    ensures few { (result.0 ≤ 10 ^ 17) × (result.1 ≤ 900) }
+{
+    if let Some(n) = tried_short(real, cut, m) {
+        return (n, cut.first - 14);
+    }
+    searched_from(real, cut, 15)
+}
+
+/// Digits that are the shortest ones without the zeros at their end, and where the last stands.
+#[inline(always)]
+fn found(real: Real, cut: Cut) -> (u64, u32)
+    requires finite { IsTrue (float_is_finite (number_of real)) }
+    requires few { (16 ≤ cut.first) × (cut.first ≤ 900) }
+    requires cut { IsCut (number_of real) cut.first cut.twice cut.lost }
+    ensures same { trimmed 17 result.0 result.1 ≡ shortest real }
+    ensures few { (result.0 ≤ 10 ^ 17) × (result.1 ≤ 900) }
+{
+    match full_digits(real) {
+        Some(m) => searched_full(real, cut, m),
+        None => searched(real, cut),
+    }
 }
 
 /// The shortest digits, and the power of ten of the last, plus 400.
@@ -192,6 +309,6 @@ pub(crate) fn shortest(real: Real, cut: Cut) -> (u64, u32)
     ensures value { result ≡ shortest real }
     ensures few { (result.0 ≤ 10 ^ 17) × (result.1 ≤ 1000) }
 {
-    let (n, last) = searched(real, cut);
+    let (n, last) = found(real, cut);
     trimmed(n, last)
 }

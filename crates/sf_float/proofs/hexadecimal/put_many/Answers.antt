@@ -1,4 +1,5 @@
-use Rattle.std.proofs.Common.{◌≡◌, ◌-◌, ◌+◌, ◌*◌, ◌/◌, ◌%◌, ◌^◌, ◌++◌, [], ◌∷◌, ◌||◌, if◌then◌else◌, take, replicate, sym, ap, ◌∙◌, arith, lt-ltb}
+use Rattle.std.proofs.Common.{◌≡◌, ◌-◌, ◌+◌, ◌*◌, ◌/◌, ◌%◌, ◌^◌, ◌++◌, [], ◌∷◌, ◌||◌, if◌then◌else◌, take, replicate, sym, ap, ◌∙◌, arith}
+use Rattle.std.proofs.Common.{lt-ltb}
 use Rattle.std.proofs.Math.Nat.{div-one, le_of_lt}
 use Rattle.std.specs.Float.Ieee.Nearest.{closest}
 use Rattle.sf_float.specs.Hexadecimal.{hex_digit, hex_digits}

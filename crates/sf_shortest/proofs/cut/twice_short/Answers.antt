@@ -1,4 +1,5 @@
-use Rattle.std.proofs.Common.{◌≡◌, ◌+◌, ◌-◌, ◌*◌, ◌/◌, ◌%◌, ◌^◌, ◌<◌, ◌≤◌, nat_eq, not, ℕ, sym, ap, ◌∙◌, subst, arith, pow_pos, lt_of_le_of_lt}
+use Rattle.std.proofs.Common.{◌≡◌, ◌+◌, ◌-◌, ◌*◌, ◌/◌, ◌%◌, ◌^◌, ◌<◌, ◌≤◌, nat_eq, not, ℕ, sym, ap, ◌∙◌, subst, arith, pow_pos}
+use Rattle.std.proofs.Common.{lt_of_le_of_lt}
 use Rattle.std.proofs.lemmas.Nat.{mul-pow, pow-add}
 use Rattle.std.proofs.Math.Nat.{pow-le-pow_right, mod-eq_of_lt, mul-le-mul, le_of_lt, div-mul-le_self}
 use lib.Dec.{lit<}
