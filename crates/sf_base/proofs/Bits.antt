@@ -1,11 +1,14 @@
 -- Bits of the words of a set.
-use Rattle.std.proofs.Common.{◌≡◌, ◌<◌, ◌≤◌, ◌/◌, ◌%◌, ◌*◌, ◌^◌, ◌+◌, ◌-◌, ◌==◌, ◌||◌, ◌&&◌, ℕ, true, false, List, replicate, length, get_or, set, refl, ap, sym, ◌∙◌, arith, inl, inr, bit_or, bit_and, not, min, max, nat_le, eq-eqb, lit<, zero, suc}
+use Rattle.std.proofs.Common.{◌≡◌, ◌<◌, ◌≤◌, ◌/◌, ◌%◌, ◌*◌, ◌^◌, ◌+◌, ◌-◌, ◌==◌, ◌||◌, ◌&&◌, ℕ, true, false, List, replicate, length}
+use Rattle.std.proofs.Common.{get_or, set, refl, ap, sym, ◌∙◌, arith, inl, inr, bit_or, bit_and, not, min, max, nat_le, eq-eqb, lit<, zero}
+use Rattle.std.proofs.Common.{suc}
 use Rattle.std.proofs.Math.Nat.{mod-eq_of_lt, pow-le-pow_right}
 use Rattle.std.proofs.lemmas.Bool.{cases_eq, cases_lt, ne_eqb, eqb-true}
 use Rattle.std.proofs.lemmas.Bool.Decides.{nat_tests}
 use Rattle.std.proofs.lemmas.Nat.{and_le_l}
 use Rattle.std.proofs.lemmas.List.{get_or-set_same, get_or-set_other, get_or-replicate}
-use Rattle.std.proofs.lemmas.Nat.Bits.{bit_at_set_same, bit_at_set_other, bit_at_not, bit_at-lt, bit_at_and, bit_at_or, bit_at_ones, bit_at_ones_above, bit_at-zero, bit_at-trailing_zeros}
+use Rattle.std.proofs.lemmas.Nat.Bits.{bit_at_set_same, bit_at_set_other, bit_at_not, bit_at-lt, bit_at_and, bit_at_or, bit_at_ones}
+use Rattle.std.proofs.lemmas.Nat.Bits.{bit_at_ones_above, bit_at-zero, bit_at-trailing_zeros}
 use Rattle.std.specs.Int.{bit_at, bit_not, w64, trailing_zeros}
 use Rattle.sf_base.specs.Sets.{word_has}
 

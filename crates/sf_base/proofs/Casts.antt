@@ -1,15 +1,14 @@
 -- Numbers of a kind, and the value of a type that a cast of one gives.
 use Rattle.std.proofs.lemmas.Grind.{common_steps}
-use Rattle.std.proofs.Common.{◌≡◌, Bool, true, false, ℕ, ℤ, Option, Some, None, IsSome, IfSome, sym, ap, ◌∙◌, arith, rules}
+use Rattle.std.proofs.Common.{◌≡◌, Bool, true, false, ℕ, ℤ, Option, Some, None, sym, ap, ◌∙◌, arith}
 use Rattle.std.specs.Option.{option_map}
 use Rattle.num_traits.specs.Laws.{Checks}
 use Rattle.sf_base.specs.declared.number.Number as number
 use Rattle.sf_base.specs.declared.values.Kind.{Kind}
 use Rattle.sf_base.specs.declared.values.Kind.TheVariants.{I8, I16, I32, I64, U8, U16, U32, U64, Text, F32, F64}
-use Rattle.sf_base.specs.Kinds.{bounds_of, is_held, with_sign}
-use Rattle.sf_base.specs.Data.{Datum, IsIn, datum_of_number, kind_of, number_in}
-use Rattle.sf_base.specs.Data.Datum.{Number, Bytes, Real}
-use Rattle.sf_base.specs.declared.real.Real.TheVariants as reals
+use Rattle.sf_base.specs.Kinds.{is_held, with_sign}
+use Rattle.sf_base.specs.Data.{IsIn, datum_of_number}
+use Rattle.sf_base.specs.Data.Datum.{Number}
 
 -- the number with a sign and a magnitude that the kind holds is one of the kind
 pub held_is_in : (k : Kind) (s : Bool) (m : ℕ) → is_held k s m ≡ true → IsIn k (with_sign s m)
@@ -44,25 +43,3 @@ pub cast_is : {T : Type 0} (integer value : T → ℤ) (fits : ℤ → Type 0) (
     → Checks value fits z r → option_map integer r ≡ Some z
 cast_is integer value fits z None same has checks = absurd (checks has)
 cast_is integer value fits z (Some x) same has checks = ap Some (sym (same x) ∙ checks.1)
-
--- a value of a kind with a number is that number of the kind
-pub datum_is : (k : Kind) (d : Datum) (z : ℤ) → kind_of d ≡ k → number_in d ≡ Some z → d ≡ Number k z
-datum_is k (Number j n) z same e = cc
-datum_is k (Bytes text) z same e = absurd cc
-datum_is k (Real r) z same e = absurd cc
-
-pub typed_some : {T : Type 0} (integer : T → ℤ) (r : Option T) (z : ℤ) → option_map integer r ≡ Some z → IsSome r
-typed_some integer None z e = absurd cc
-typed_some integer (Some x) z e = search rules
-
-pub typed_is : {T : Type 0} (integer : T → ℤ) (k : Kind) (r : Option T) (z : ℤ) (d : Datum) → option_map integer r ≡ Some z → d ≡ Number k z
-    → IfSome r (λ n. Number k (integer n) ≡ d)
-typed_is integer k None z d e is = absurd cc
-typed_is integer k (Some x) z d e is = cc
-
--- what has no number is of a kind without bounds
-pub no_number : (k : Kind) (d : Datum) → kind_of d ≡ k → None ≡ number_in d → bounds_of k ≡ None
-no_number k (Number j n) same e = absurd cc
-no_number k (Bytes text) same e = ap bounds_of (sym same)
-no_number k (Real (reals.F32 bits)) same e = ap bounds_of (sym same)
-no_number k (Real (reals.F64 bits)) same e = ap bounds_of (sym same)

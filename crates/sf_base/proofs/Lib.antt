@@ -5,3 +5,4 @@ pub mod Bits
 pub mod Lanes
 pub mod Fronts
 pub mod Casts
+pub mod TwoDigits

@@ -1,5 +1,6 @@
 -- What follows for sets of bytes: how many members there are, and which bytes the bits of the words stand for.
-use Rattle.std.specs.Prelude.{◌≡◌, ◌+◌, ◌<◌, ◌≤◌, ◌==◌, ℕ, zero, suc, Bool, true, false, not, Option, Some, None, IfSome, List, [], ◌∷◌, length, get_or, if◌then◌else◌, refl}
+use Rattle.std.specs.Prelude.{◌≡◌, ◌+◌, ◌<◌, ◌≤◌, ◌==◌, ℕ, zero, suc, Bool, true, false, not, Option, Some, None, IfSome, List, [], ◌∷◌}
+use Rattle.std.specs.Prelude.{length, get_or, if◌then◌else◌, refl}
 use Rattle.std.proofs.Common.{arith, add-one, ap, ap₂, cond, sym, ◌∙◌, Fits, w8}
 use Rattle.std.proofs.lemmas.List.Sums.{prefix_len_is}
 use Rattle.std.specs.List.{prefix_len}

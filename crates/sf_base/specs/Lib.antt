@@ -7,3 +7,4 @@ pub mod Kept
 pub mod Buffers
 pub mod Entries
 pub mod Rules
+pub mod Counting

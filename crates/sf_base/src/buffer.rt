@@ -50,21 +50,16 @@ fn move_sixteen(bytes: &mut [u8], at: usize, piece: &[u8])
     u8x16::from_slice(piece).copy_to_slice(&mut bytes[at..]);
 }
 
-/// How many bytes may be moved to the place: those for which there is room, or, where the block grows anyway, as many
-/// as are moved at once.
-#[inline(always)]
-fn room_at(place: usize, end: usize, capacity: usize) -> usize
-    requires { place ≤ end }
-    ensures { end ≤ capacity → place + result ≤ capacity }
-{
-    if end <= capacity {
-        capacity - place
-    } else {
-        MOVED
-    }
-}
-
 impl Buffer {
+    /// No bytes, and no room.
+    #[inline(always)]
+    pub(crate) fn empty(alloc: Global) -> Buffer
+        ensures { result.bytes ≡ [] }
+    {
+        let block = Vec::new(alloc);
+        Buffer { block, len: 0 }
+    }
+
     /// No bytes, and room for so many.
     pub(crate) fn with_capacity(alloc: Global, capacity: usize) -> Result<Buffer, AllocError>
         ensures bytes { IfOk result (λ b. b.bytes ≡ []) }
@@ -123,6 +118,21 @@ impl Buffer {
         Ok(())
     }
 
+    /// Makes room for so many more bytes. A block that has to grow gets room for as many as are moved at once, so that
+    /// a short text is moved over others from then on. Where memory is refused nothing has changed.
+    fn make_room(&mut self, count: usize) -> Result<(), AllocError>
+        ensures bytes { self.new.bytes ≡ self.old.bytes }
+        ensures room { OnOk result (length self.old.bytes + count ≤ self.new.capacity) }
+        ensures capacity { self.old.capacity ≤ self.new.capacity }
+        ensures full { OnErr result (self.old.capacity < length self.old.bytes + count) }
+    {
+        if self.block.capacity() - self.len < count {
+            self.block.truncate(self.len);
+            self.block.reserve(count.max(MOVED))?;
+        }
+        Ok(())
+    }
+
     /// As `append`, of more bytes, or where there are no others to move them over.
     #[inline(never)]
     fn append_apart(&mut self, piece: &[u8], count: usize) -> Result<(), AllocError>
@@ -132,8 +142,9 @@ impl Buffer {
         ensures capacity { self.old.capacity ≤ self.new.capacity }
         ensures full { OnErr result (self.old.capacity < length self.old.bytes + count) }
     {
+        self.make_room(count)?;
         let end = self.len + count;
-        let room = room_at(self.len, end, self.block.capacity());
+        let room = self.block.capacity() - self.len;
         let moved = room.min(piece.len()).min(MOVED).max(count);
         if moved <= self.block.len() - self.len {
             move_over(&mut self.block, self.len, &piece[..moved]);

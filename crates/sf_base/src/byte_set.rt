@@ -1,5 +1,6 @@
 //! Sets of bytes.
-ghost use Rattle.std.specs.Prelude.{◌≡◌, ◌↔◌, ◌||◌, ◌&&◌, ◌==◌, ◌<◌, ◌≤◌, ◌^◌, ◌-◌, nat_le, not, ℕ, List, Bool, true, false, IsTrue, length, IfSome};
+ghost use Rattle.std.specs.Prelude.{◌≡◌, ◌↔◌, ◌||◌, ◌&&◌, ◌==◌, ◌<◌, ◌≤◌, ◌^◌, ◌-◌, nat_le, not, ℕ, List, Bool, true};
+ghost use Rattle.std.specs.Prelude.{false, IsTrue, length, IfSome};
 ghost use Rattle.std.specs.List.{prefix_len};
 ghost use Rattle.sf_base.specs.Bytes.{IsLongestFront};
 ghost use Rattle.sf_base.specs.Sets.{has_byte, word_has, marks_of, count_below, LacksOnly};

@@ -127,15 +127,18 @@ impl<const CAP: usize, const SLOTS: usize> Store for FixedStore<CAP, SLOTS> {
         self.bytes.remaining_capacity()
     }
 
+    #[inline(always)]
     fn value(&self, slot: u8) -> Option<Value<'_>> {
         Some(self.shown(slot)?.value())
     }
 
+    #[inline(always)]
     fn set_number(&mut self, slot: u8, number: Number) {
         let cell = Cell::Number(number);
         self.entries.push(Entry { slot, cell });
     }
 
+    #[inline(always)]
     fn shown(&self, slot: u8) -> Option<Shown<'_>> {
         let bytes = self.bytes.as_slice();
         find_shown(self.entries.as_slice(), slot, &bytes[..self.closed])

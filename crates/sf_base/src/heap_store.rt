@@ -1,5 +1,5 @@
 //! A store that grows.
-ghost use Rattle.std.specs.Prelude.{◌≡◌, ◌+◌, ◌<◌, ◌≤◌, ◌++◌, length, take, IfOk, OnErr, is_ok, if◌then◌else◌};
+ghost use Rattle.std.specs.Prelude.{◌≡◌, ◌+◌, ◌<◌, ◌≤◌, ◌++◌, [], length, take, IfOk, OnErr, is_ok, if◌then◌else◌};
 ghost use Rattle.sf_base.specs.Kept.{buffer_of, nothing_kept};
 
 use crate::buffer::{Buffer, MOVED};
@@ -36,14 +36,26 @@ impl Model for HeapStore {
         × HasRoom 32 (length s.bytes.bytes) s.sure s.bytes.capacity (vec_capacity s.entries) };
 }
 
+/// Room for texts of so many bytes, and for what is moved with the last of them. Where there are none it is seen here
+/// that no memory is asked for.
+#[inline(always)]
+fn room_for(alloc: Global, reserve: u32) -> Result<Buffer, AllocError>
+    ensures bytes { IfOk result (λ b. b.bytes ≡ []) }
+    ensures capacity { IfOk result (λ b. reserve ≤ b.capacity) }
+{
+    if reserve == 0 {
+        return Ok(Buffer::empty(alloc));
+    }
+    Buffer::with_capacity(alloc, reserve as usize + MOVED)
+}
+
 impl HeapStore {
     /// An empty store whose texts have room for at least `reserve` bytes.
     pub fn new(alloc: Global, reserve: u32) -> Result<HeapStore, AllocError>
         ensures { IfOk result (λ s. s ≡ nothing_kept reserve) }
     {
         let entries = Vec::with_capacity(alloc, 32)?;
-        let behind = if reserve == 0 { 0 } else { MOVED };
-        let bytes = Buffer::with_capacity(alloc, reserve as usize + behind)?;
+        let bytes = room_for(alloc, reserve)?;
         Ok(HeapStore {
             entries,
             bytes,

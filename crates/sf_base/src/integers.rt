@@ -6,7 +6,7 @@ ghost use Rattle.sf_base.specs.declared.values.Kind.TheVariants.{Text};
 ghost use Rattle.sf_base.specs.Kinds.{bounds_of};
 ghost use Rattle.sf_base.specs.Data.{IsIn, Number as NumberOf, datum_of, kind_of, value_of, with_sign};
 
-use crate::{Kind, Number, Value};
+use crate::{Kind, Value};
 use num_traits::{PrimInt, cast};
 
 // The number of a sign (true: a minus) and a magnitude.
@@ -28,6 +28,11 @@ pub trait ScanInt: PrimInt {
     /// The integer as a value of a destination.
     fn value(self) -> Value<'static>
         ensures { datum_of result ≡ NumberOf own_kind (integer self) };
+
+    /// The integer that a destination was given. None where the value is of another kind.
+    fn from_value(value: Value<'_>) -> Option<Self>
+        ensures exactly { IsSome result ↔ (kind_of (datum_of value.entry) ≡ own_kind) }
+        ensures value { IfSome result (λ n. NumberOf own_kind (integer n) ≡ datum_of value.entry) };
 
     // The kind is no text, and no float. The integer is the one that the casts speak of, and the type has each number
     // of its kind.
@@ -59,28 +64,6 @@ pub trait ScanInt: PrimInt {
         let number = Self::kind().number(negative, magnitude)?;
         cast(whole(number.negative, number.magnitude))
     }
-
-    /// The integer that a destination was given. None where the value is of another kind.
-    #[inline(always)]
-    final fn from_value(value: Value<'_>) -> Option<Self>
-        ensures exactly { IsSome result ↔ (kind_of (datum_of value.entry) ≡ own_kind) }
-        ensures value { IfSome result (λ n. NumberOf own_kind (integer n) ≡ datum_of value.entry) }
-    {
-        if value.kind() != Self::kind() {
-            return None;
-        }
-        let (negative, magnitude) = value.sign_and_magnitude()?;
-        cast(whole(negative, magnitude))
-    }
-}
-
-/// The value of the type that is a number of its kind.
-#[inline(always)]
-pub(crate) fn held_as<T: ScanInt>(number: Number) -> Option<T>
-    requires { number.kind ≡ T.own_kind }
-    ensures { option_map T.integer result ≡ Some (with_sign number.negative number.magnitude) }
-{
-    cast(whole(number.negative, number.magnitude))
 }
 
 impl ScanInt for i8 {
@@ -103,6 +86,14 @@ impl ScanInt for i8 {
     #[inline(always)]
     fn value(self) -> Value<'static> {
         Value::I8(self)
+    }
+
+    #[inline(always)]
+    fn from_value(value: Value<'_>) -> Option<i8> {
+        match value {
+            Value::I8(number) => Some(number),
+            _ => None,
+        }
     }
 }
 
@@ -127,6 +118,14 @@ impl ScanInt for i16 {
     fn value(self) -> Value<'static> {
         Value::I16(self)
     }
+
+    #[inline(always)]
+    fn from_value(value: Value<'_>) -> Option<i16> {
+        match value {
+            Value::I16(number) => Some(number),
+            _ => None,
+        }
+    }
 }
 
 impl ScanInt for i32 {
@@ -149,6 +148,14 @@ impl ScanInt for i32 {
     #[inline(always)]
     fn value(self) -> Value<'static> {
         Value::I32(self)
+    }
+
+    #[inline(always)]
+    fn from_value(value: Value<'_>) -> Option<i32> {
+        match value {
+            Value::I32(number) => Some(number),
+            _ => None,
+        }
     }
 }
 
@@ -173,6 +180,14 @@ impl ScanInt for i64 {
     fn value(self) -> Value<'static> {
         Value::I64(self)
     }
+
+    #[inline(always)]
+    fn from_value(value: Value<'_>) -> Option<i64> {
+        match value {
+            Value::I64(number) => Some(number),
+            _ => None,
+        }
+    }
 }
 
 impl ScanInt for u8 {
@@ -195,6 +210,14 @@ impl ScanInt for u8 {
     #[inline(always)]
     fn value(self) -> Value<'static> {
         Value::U8(self)
+    }
+
+    #[inline(always)]
+    fn from_value(value: Value<'_>) -> Option<u8> {
+        match value {
+            Value::U8(number) => Some(number),
+            _ => None,
+        }
     }
 }
 
@@ -219,6 +242,14 @@ impl ScanInt for u16 {
     fn value(self) -> Value<'static> {
         Value::U16(self)
     }
+
+    #[inline(always)]
+    fn from_value(value: Value<'_>) -> Option<u16> {
+        match value {
+            Value::U16(number) => Some(number),
+            _ => None,
+        }
+    }
 }
 
 impl ScanInt for u32 {
@@ -242,6 +273,14 @@ impl ScanInt for u32 {
     fn value(self) -> Value<'static> {
         Value::U32(self)
     }
+
+    #[inline(always)]
+    fn from_value(value: Value<'_>) -> Option<u32> {
+        match value {
+            Value::U32(number) => Some(number),
+            _ => None,
+        }
+    }
 }
 
 impl ScanInt for u64 {
@@ -264,5 +303,13 @@ impl ScanInt for u64 {
     #[inline(always)]
     fn value(self) -> Value<'static> {
         Value::U64(self)
+    }
+
+    #[inline(always)]
+    fn from_value(value: Value<'_>) -> Option<u64> {
+        match value {
+            Value::U64(number) => Some(number),
+            _ => None,
+        }
     }
 }

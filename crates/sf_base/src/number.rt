@@ -1,9 +1,8 @@
 //! Numbers of a kind.
 ghost use Rattle.std.specs.Prelude.{◌≡◌, IsTrue};
-ghost use Rattle.sf_base.specs.Kinds.{is_held, with_sign};
+ghost use Rattle.sf_base.specs.Kinds.{is_held, is_signed, with_sign};
 
-use crate::integers::held_as;
-use crate::{Kind, ScanInt, Value};
+use crate::{Kind, Value};
 
 /// A number of a kind, by its sign and its magnitude.
 #[derive(Clone, Copy, Debug, PartialEq, Eq)]
@@ -17,15 +16,16 @@ pub struct Number {
     pub ghost held: { IsTrue (is_held kind negative magnitude) },
 }
 
-/// The value of a type that holds the number, by a checked conversion.
+/// The number, which has at most 63 bits beside its sign: without arithmetic of more bits.
 #[inline(always)]
-fn value_in<T: ScanInt>(number: Number) -> T
-    requires { T.own_kind ≡ number.kind }
-    ensures { T.integer result ≡ with_sign number.negative number.magnitude }
+fn signed(number: Number) -> i64
+    requires { IsTrue (is_signed 63 number.negative number.magnitude) }
+    ensures { result ≡ with_sign number.negative number.magnitude }
 {
-    match held_as::<T>(number) {
-        Some(value) => value,
-        None => unreachable!(),
+    if number.negative {
+        -((number.magnitude - 1) as i64) - 1
+    } else {
+        number.magnitude as i64
     }
 }
 
@@ -40,14 +40,14 @@ impl Number {
         ensures number { is_number result ≡ true }
     {
         match self.kind {
-            Kind::I8 => Value::I8(value_in(self)),
-            Kind::I16 => Value::I16(value_in(self)),
-            Kind::I32 => Value::I32(value_in(self)),
-            Kind::I64 => Value::I64(value_in(self)),
-            Kind::U8 => Value::U8(value_in(self)),
-            Kind::U16 => Value::U16(value_in(self)),
-            Kind::U32 => Value::U32(value_in(self)),
-            Kind::U64 => Value::U64(value_in(self)),
+            Kind::I8 => Value::I8(signed(self) as i8),
+            Kind::I16 => Value::I16(signed(self) as i16),
+            Kind::I32 => Value::I32(signed(self) as i32),
+            Kind::I64 => Value::I64(signed(self)),
+            Kind::U8 => Value::U8(self.magnitude as u8),
+            Kind::U16 => Value::U16(self.magnitude as u16),
+            Kind::U32 => Value::U32(self.magnitude as u32),
+            Kind::U64 => Value::U64(self.magnitude),
             Kind::Text | Kind::F32 | Kind::F64 => unreachable!(),
         }
     }

@@ -1,8 +1,10 @@
 //! What values and texts are kept in.
-ghost use Rattle.std.specs.Prelude.{◌≡◌, ◌+◌, ◌<◌, ◌≤◌, ℕ, [], ◌∷◌, length, take, true, false, None, IsSome, OnOk, OnErr};
+ghost use Rattle.std.specs.Prelude.{◌≡◌, ◌+◌, ◌<◌, ◌≤◌, ℕ, [], ◌∷◌, length, take, true, false, None, IsSome, OnOk};
+ghost use Rattle.std.specs.Prelude.{OnErr};
 ghost use Rattle.std.specs.Option.{option_map};
 ghost use Rattle.sf_base.specs.Data.{Real as RealOf, datum_of, datum_of_number, datum_of_shown, datum_at, is_number};
-ghost use Rattle.sf_base.specs.Kept.{Kept, is_opened, with_value, with_opened, with_bytes, with_closed, with_dropped, with_text, text_of};
+ghost use Rattle.sf_base.specs.Kept.{Kept, is_opened, with_value, with_opened, with_bytes, with_closed, with_dropped};
+ghost use Rattle.sf_base.specs.Kept.{with_text, text_of};
 
 use crate::{Number, Real, Shown, Value};
 use thiserror::Error;

@@ -5,26 +5,27 @@ ghost use Rattle.sf_base.specs.Data.{Datum, datum_of, kind_of};
 
 use crate::{ScanInt, Value};
 
-/// A type that a value can be taken as: one of the eight integers, or a text of bytes, which is lent.
+/// A type that a value can be taken as: one of the eight integers, `f32` or `f64`, or a text of bytes, which is lent.
 pub trait Taken<'a>: Sized {
     // The kind of the destinations that are given such.
     ghost kind: { Kind };
 
-    // What a destination was given, as a value without its Rust type.
-    ghost datum: { Self → Datum };
+    // A destination that was given this was given such a value.
+    ghost is_of: { Self → Datum → Type 0 };
 
     /// The value as this type. None where it is of another kind.
     fn taken(value: Value<'a>) -> Option<Self>
         ensures exactly { IsSome result ↔ (kind_of (datum_of value.entry) ≡ kind) }
-        ensures value { IfSome result (λ taken. datum taken ≡ datum_of value.entry) };
+        ensures value { IfSome result (λ taken. is_of taken (datum_of value.entry)) };
 }
 
 impl<T: ScanInt> Taken<'_> for T {
+    ghost use Rattle.std.specs.Prelude.{◌≡◌};
     ghost use Rattle.sf_base.specs.Data.Datum.{Number};
 
     ghost kind = { T.own_kind };
 
-    ghost datum = { λ n. Number T.own_kind (T.integer n) };
+    ghost is_of = { λ n d. Number T.own_kind (T.integer n) ≡ d };
 
     fn taken(value: Value<'_>) -> Option<T> {
         T::from_value(value)
@@ -32,17 +33,48 @@ impl<T: ScanInt> Taken<'_> for T {
 }
 
 impl<'a> Taken<'a> for &'a [u8] {
+    ghost use Rattle.std.specs.Prelude.{◌≡◌};
     ghost use Rattle.sf_base.specs.declared.values.Kind.TheVariants.{Text};
     ghost use Rattle.sf_base.specs.Data.Datum.{Bytes};
 
     ghost kind = { Text };
 
-    ghost datum = { λ text. Bytes text.now };
+    ghost is_of = { λ text d. Bytes text.now ≡ d };
 
     fn taken(value: Value<'a>) -> Option<&'a [u8]> {
         match value {
             Value::Text(text) => Some(text),
             _ => None,
         }
+    }
+}
+
+/// The float of the pattern, as `Value::f32` gives it.
+impl Taken<'_> for f32 {
+    ghost use Rattle.std.specs.Prelude.{◌≡◌, Some};
+    ghost use Rattle.sf_base.specs.declared.values.Kind.TheVariants.{F32};
+    ghost use Rattle.sf_base.specs.Data.{f32_in};
+
+    ghost kind = { F32 };
+
+    ghost is_of = { λ x d. f32_in d ≡ Some x };
+
+    fn taken(value: Value<'_>) -> Option<f32> {
+        value.f32()
+    }
+}
+
+/// The float of the pattern, as `Value::f64` gives it.
+impl Taken<'_> for f64 {
+    ghost use Rattle.std.specs.Prelude.{◌≡◌, Some};
+    ghost use Rattle.sf_base.specs.declared.values.Kind.TheVariants.{F64};
+    ghost use Rattle.sf_base.specs.Data.{f64_in};
+
+    ghost kind = { F64 };
+
+    ghost is_of = { λ x d. f64_in d ≡ Some x };
+
+    fn taken(value: Value<'_>) -> Option<f64> {
+        value.f64()
     }
 }

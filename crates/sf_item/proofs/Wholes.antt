@@ -1,5 +1,7 @@
 -- Items that end within a piece.
-use Rattle.std.proofs.Common.{◌^◌, ◌≡◌, ◌≢◌, ℕ, zero, suc, ◌+◌, ◌-◌, ◌*◌, ◌<◌, ◌≤◌, ◌⊎◌, inl, inr, Bool, true, false, ◌&&◌, append_assoc, append-nil, cond, eq-zero-or-pos, List, [], ◌∷◌, ◌++◌, length, take, get_or, slice_index_or, nat_lt, nat_le, Option, Some, None, is_some, unwrap_or, refl, sym, ap, ◌∙◌, subst, arith}
+use Rattle.std.proofs.Common.{◌^◌, ◌≡◌, ◌≢◌, ℕ, zero, suc, ◌+◌, ◌-◌, ◌*◌, ◌<◌, ◌≤◌, ◌⊎◌, inl, inr, Bool, true, false, ◌&&◌, append_assoc}
+use Rattle.std.proofs.Common.{append-nil, cond, eq-zero-or-pos, List, [], ◌∷◌, ◌++◌, length, take, get_or, slice_index_or, nat_lt, nat_le}
+use Rattle.std.proofs.Common.{Option, Some, None, is_some, unwrap_or, refl, sym, ap, ◌∙◌, subst, arith}
 use Rattle.std.proofs.lemmas.Bool.Decides.{nat_tests}
 use Rattle.std.proofs.Math.Nat.{pow-succ'}
 use Rattle.std.proofs.Math.Seq.{take-add}
@@ -22,7 +24,8 @@ use Rattle.sf_item.specs.Progress.{Progress, Start, Zero, Prefix, Digits, intege
 use Rattle.sf_item.specs.Radices.{first_radix}
 use Rattle.sf_item.specs.Scan.{FitsLeft, HoldsNumber, Shows, ShowsNext}
 use Rattle.sf_item.specs.Tests.{read, integer_in, integer_at, is_within, shape_begins, shape_matches, can_take, has_item}
-use Rattle.sf_item.specs.Wholes.{EndsWithin, NoneEndsWithin, ItemWithin, NoItemWithin, ReadsIn, DigitsOf, LongDigits, signed_as, SignOf, HasPrefixAt, HexOpening}
+use Rattle.sf_item.specs.Wholes.{EndsWithin, NoneEndsWithin, ItemWithin, NoItemWithin, ReadsIn, DigitsOf, LongDigits, signed_as, SignOf}
+use Rattle.sf_item.specs.Wholes.{HasPrefixAt, HexOpening}
 use Rattle.sf_item.proofs.Integers.{by_lt, by_eq, by_sign, by_prefix, plain_zero}
 use Rattle.sf_item.proofs.Deciding.{integer_at_is, integer_from_at, tests_matches}
 use Rattle.sf_item.proofs.Fronts.{read_more, one_more}

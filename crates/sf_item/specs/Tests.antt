@@ -1,6 +1,7 @@
 -- What matches and what begins a matching sequence, as tests that compute. proofs/Deciding shows that they are those of
 -- Matching.
-use Rattle.std.specs.Prelude.{ℕ, Bool, true, false, ◌&&◌, nat_eq, nat_lt, nat_le, List, [], ◌∷◌, length, Option, Some, None, is_some, unwrap_or}
+use Rattle.std.specs.Prelude.{ℕ, Bool, true, false, ◌&&◌, nat_eq, nat_lt, nat_le, List, [], ◌∷◌, length, Option, Some, None, is_some}
+use Rattle.std.specs.Prelude.{unwrap_or}
 use Rattle.std.specs.List.{list_all}
 pub use Rattle.sf_base.specs.Bytes.{is_ink}
 use Rattle.sf_base.specs.Sets.{has_byte}

@@ -1,6 +1,7 @@
 //! Integers, read byte by byte: sign, prefix, digits (C11 7.21.6.2p12, 7.22.1.4p3).
 ghost use Rattle.std.specs.Char.{digit_value};
-ghost use Rattle.std.specs.Prelude.{◌≡◌, false, ◌+◌, ◌*◌, ◌<◌, ◌≤◌, ◌↔◌, ◌⊎◌, if◌then◌else◌, ℕ, List, [], ◌∷◌, ◌++◌, length, slice_index, take, Some, None};
+ghost use Rattle.std.specs.Prelude.{◌≡◌, false, ◌+◌, ◌*◌, ◌<◌, ◌≤◌, ◌↔◌, ◌⊎◌, if◌then◌else◌, ℕ, List, [], ◌∷◌, ◌++◌};
+ghost use Rattle.std.specs.Prelude.{length, slice_index, take, Some, None};
 ghost use Rattle.sf_item.specs.Progress.{Progress, Start, Zero, advance, with_digit, with_first_digit};
 ghost use Rattle.sf_item.specs.Tests.{read};
 ghost use Rattle.sf_item.specs.Scan.{HoldsNumber, Shows, ShowsNext, HasDigits, ReadsDecimal};

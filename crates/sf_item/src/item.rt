@@ -1,5 +1,6 @@
 //! The input item of one conversion, byte by byte (C11 7.21.6.2p9).
-ghost use Rattle.std.specs.Prelude.{◌≡◌, ◌≢◌, ◌<◌, ◌≤◌, ◌+◌, ◌↔◌, if◌then◌else◌, true, ℕ, List, [], ◌∷◌, ◌++◌, length, take, IsTrue, Option, Some};
+ghost use Rattle.std.specs.Prelude.{◌≡◌, ◌≢◌, ◌<◌, ◌≤◌, ◌+◌, ◌↔◌, if◌then◌else◌, true, ℕ, List, [], ◌∷◌, ◌++◌, length};
+ghost use Rattle.std.specs.Prelude.{take, IsTrue, Option, Some};
 ghost use Rattle.sf_format.specs.Layout.{most_of};
 ghost use Rattle.sf_format.specs.Proper.{IsProperShape};
 ghost use Rattle.sf_float_item.specs.Tests.{is_whole};

@@ -1,5 +1,6 @@
 //! Laws of the definitions.
-ghost use Rattle.sf_item.specs.Laws.{EachHasOneItem, EndedItemsStay, FrontsCanBeTaken, IntegersGoOn, ReadingsGoOn, WidthsCutItems};
+ghost use Rattle.sf_item.specs.Laws.{EachHasOneItem, EndedItemsStay, FrontsCanBeTaken, IntegersGoOn, ReadingsGoOn};
+ghost use Rattle.sf_item.specs.Laws.{WidthsCutItems};
 
 /// Each input has an item of each proper conversion, and no other.
 pub fn one_item()

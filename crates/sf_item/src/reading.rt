@@ -1,5 +1,6 @@
 //! How an item is read, by the shape of its conversion.
-ghost use Rattle.std.specs.Prelude.{◌≡◌, ◌↔◌, ◌<◌, ◌≤◌, ◌+◌, true, false, IsTrue, if◌then◌else◌, ℕ, List, [], ◌∷◌, ◌++◌, length, take, Some, None};
+ghost use Rattle.std.specs.Prelude.{◌≡◌, ◌↔◌, ◌<◌, ◌≤◌, ◌+◌, true, false, IsTrue, if◌then◌else◌, ℕ, List, [], ◌∷◌};
+ghost use Rattle.std.specs.Prelude.{◌++◌, length, take, Some, None};
 ghost use Rattle.sf_item.specs.Tests.{has_item};
 ghost use Rattle.sf_item.specs.Scan.{shape_of, HasRead, ReadsNext, EndsReading};
 

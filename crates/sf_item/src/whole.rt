@@ -1,5 +1,6 @@
 //! Items that begin and end within a piece of the input, read in one go.
-ghost use Rattle.std.specs.Prelude.{◌≡◌, ◌≢◌, ◌<◌, ◌≤◌, ◌^◌, ◌↔◌, ◌⊎◌, false, ℕ, get_or, length, slice_index, take, IfSome, IsNone, IsSome, IsTrue, MatchOption, Option};
+ghost use Rattle.std.specs.Prelude.{◌≡◌, ◌≢◌, ◌<◌, ◌≤◌, ◌^◌, ◌↔◌, ◌⊎◌, false, ℕ, get_or, length, slice_index, take};
+ghost use Rattle.std.specs.Prelude.{IfSome, IsNone, IsSome, IsTrue, MatchOption, Option};
 ghost use Rattle.std.specs.Char.{digit_value};
 ghost use Rattle.std.specs.List.{prefix_len};
 ghost use Rattle.sf_base.specs.Bytes.{is_ink};
@@ -7,7 +8,8 @@ ghost use Rattle.sf_format.specs.declared.directive.Base.TheVariants.{Dec, Hex};
 ghost use Rattle.sf_format.specs.declared.directive.Shape.TheVariants.{Chars, Set, Text};
 ghost use Rattle.sf_format.specs.Layout.{most_of};
 ghost use Rattle.sf_item.specs.Radices.{first_radix};
-ghost use Rattle.sf_item.specs.Wholes.{DigitsOf, EndsWithin, HasPrefixAt, HexOpening, IsCutBy, ItemWithin, LongDigits, NoItemWithin, NoneEndsWithin, ReadsIn, SignOf, ZeroFirst};
+ghost use Rattle.sf_item.specs.Wholes.{DigitsOf, EndsWithin, HasPrefixAt, HexOpening, IsCutBy, ItemWithin, LongDigits};
+ghost use Rattle.sf_item.specs.Wholes.{NoItemWithin, NoneEndsWithin, ReadsIn, SignOf, ZeroFirst};
 
 use crate::digits::{FIRST_HEX, first_hex_digits, value_of};
 use crate::eight::{LANES, first_digits};

@@ -1,5 +1,6 @@
 -- What the runs of a format give its slots.
-use Rattle.std.proofs.Common.{◌≡◌, ◌≢◌, ℕ, zero, suc, ◌+◌, inl, inr, Bool, true, false, cond, ◌&&◌, ◌||◌, map, nat_eq, List, [], ◌∷◌, drop, take, Option, Some, None, refl, sym, ap, subst, ◌∙◌, arith}
+use Rattle.std.proofs.Common.{◌≡◌, ◌≢◌, ℕ, zero, suc, ◌+◌, inl, inr, Bool, true, false, cond, ◌&&◌, ◌||◌, map, nat_eq, List, [], ◌∷◌, drop}
+use Rattle.std.proofs.Common.{take, Option, Some, None, refl, sym, ap, subst, ◌∙◌, arith}
 use Rattle.std.proofs.lemmas.Bool.Decides.{nat_tests}
 use Rattle.std.specs.Prelude.{find, ℤ}
 use Rattle.std.specs.List.{AllByRecursion}
@@ -14,7 +15,8 @@ use Rattle.sf_format.specs.declared.directive.Shape.TheVariants.{Int, Text, Set,
 use Rattle.sf_format.specs.declared.directive.Conversion.{Conversion}
 use Rattle.sf_format.specs.declared.directive.Directive.{Directive}
 use Rattle.sf_format.specs.declared.directive.Directive.TheVariants.{Space, Byte, Percent, Conv}
-use Rattle.sf_format.specs.Proper.{AreKinded, HasItsKind, IsKinded, destination_of, destinations_of, has_optional, has_slot, is_optional, is_optional_for, kind_at, may_miss}
+use Rattle.sf_format.specs.Proper.{AreKinded, HasItsKind, IsKinded, destination_of, destinations_of, has_optional, has_slot, is_optional}
+use Rattle.sf_format.specs.Proper.{is_optional_for, kind_at, may_miss}
 use Rattle.sf_format.specs.Slots.{AreDistinct, AreSlots, Slotted, kind_with}
 use Rattle.sf_format.proofs.Outcomes.{by_test}
 use Rattle.sf_report.specs.declared.outcome.Ending.{Ending}
@@ -23,7 +25,8 @@ use Rattle.sf_report.specs.declared.outcome.Status.TheVariants.{Done, InputFailu
 use Rattle.sf_report.specs.Limits.{RunTold}
 use Rattle.sf_report.specs.Rows.{Suits, kind_of}
 use Rattle.sf_report.specs.Runs.{GoesOn, Ran, RunReport, Steps, is_shape_converted, status_of, values}
-use Rattle.sf_report.specs.Steps.{ByteStep, ConversionStep, CountStep, EmptyItem, Fails, IsReal, ItemEnds, ItemPasses, ItemStep, ItemStored, Misses, NumberStored, Passes, RealStored, Step, StepEnd, Stores}
+use Rattle.sf_report.specs.Steps.{ByteStep, ConversionStep, CountStep, EmptyItem, Fails, IsReal, ItemEnds, ItemPasses, ItemStep, ItemStored}
+use Rattle.sf_report.specs.Steps.{Misses, NumberStored, Passes, RealStored, Step, StepEnd, Stores}
 
 -- ---- what a step gives its slot
 

@@ -1,5 +1,6 @@
 -- The bytes that a conversion takes one by one are its item.
-use Rattle.std.proofs.Common.{◌≡◌, ℕ, zero, suc, ◌≤◌, Bool, true, false, cond, List, [], ◌∷◌, ◌++◌, length, take, refl, sym, ap, ◌∙◌, arith, append_assoc, append-nil, true≢false}
+use Rattle.std.proofs.Common.{◌≡◌, ℕ, zero, suc, ◌≤◌, Bool, true, false, cond, List, [], ◌∷◌, ◌++◌, length, take, refl, sym, ap, ◌∙◌, arith}
+use Rattle.std.proofs.Common.{append_assoc, append-nil, true≢false}
 use Rattle.std.proofs.lemmas.List.{length-take-le}
 use Rattle.sf_base.specs.Greatest.{IsGreatest}
 use Rattle.sf_format.specs.declared.directive.Conversion.{Conversion}

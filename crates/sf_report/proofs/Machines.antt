@@ -1,7 +1,9 @@
 -- Laws of the directives' machines that the run rests on.
 use Rattle.std.proofs.lemmas.Bool.{and_from, and_parts, not-false}
 use Rattle.std.proofs.lemmas.Grind.{common_steps}
-use Rattle.std.proofs.Common.{◌≡◌, ℕ, zero, suc, ◌+◌, ◌<◌, ◌≤◌, Bool, true, false, not, cond, ◌&&◌, nat_eq, List, [], ◌∷◌, ◌++◌, length, Option, Some, None, is_some, refl, sym, ap, subst, ◌∙◌, arith, lit<, true≢false, nat_le, unwrap_or, length-append}
+use Rattle.std.proofs.Common.{◌≡◌, ℕ, zero, suc, ◌+◌, ◌<◌, ◌≤◌, Bool, true, false, not, cond, ◌&&◌, nat_eq, List, [], ◌∷◌, ◌++◌, length}
+use Rattle.std.proofs.Common.{Option, Some, None, is_some, refl, sym, ap, subst, ◌∙◌, arith, lit<, true≢false, nat_le, unwrap_or}
+use Rattle.std.proofs.Common.{length-append}
 use Rattle.std.specs.List.{list_all}
 use Rattle.sf_base.specs.Bytes.{is_white}
 use Rattle.sf_format.specs.declared.directive.Shape.{Shape}
@@ -18,7 +20,8 @@ use Rattle.sf_item.proofs.Deciding.{tests_same}
 use Rattle.sf_report.proofs.FloatBytes.{float_byte}
 use Rattle.sf_report.specs.declared.outcome.Status.TheVariants.{TooLong}
 use Rattle.sf_report.specs.Steps.{StepEnd, Fails}
-use Rattle.sf_report.specs.Machine.{Stage, Skipping, Taken, Item, shape_skips, item_stepped, stepped, some_below, is_full, finished, conversion_finished}
+use Rattle.sf_report.specs.Machine.{Stage, Skipping, Taken, Item, shape_skips, item_stepped, stepped, some_below, is_full, finished}
+use Rattle.sf_report.specs.Machine.{conversion_finished}
 use Rattle.sf_report.specs.Residual.{Part, choose, one_from}
 
 pub some_is : {A : Type 0} (a b : A) → Some a ≡ Some b → a ≡ b

@@ -1,6 +1,7 @@
 -- Each directive's machine makes its step.
 use Rattle.std.proofs.lemmas.Grind.{common_steps}
-use Rattle.std.proofs.Common.{◌≡◌, ℕ, suc, ◌+◌, Bool, true, false, cond, ◌&&◌, List, [], ◌∷◌, ◌++◌, take, drop, Some, None, refl, sym, ap, ap₂, ◌∙◌, arith, append_assoc, append-nil}
+use Rattle.std.proofs.Common.{◌≡◌, ℕ, suc, ◌+◌, Bool, true, false, cond, ◌&&◌, List, [], ◌∷◌, ◌++◌, take, drop, Some, None, refl, sym, ap}
+use Rattle.std.proofs.Common.{ap₂, ◌∙◌, arith, append_assoc, append-nil}
 use Rattle.sf_base.specs.Bytes.{is_white}
 use Rattle.sf_format.specs.declared.directive.Shape.{Shape}
 use Rattle.sf_format.specs.declared.directive.Shape.TheVariants.{Count}
@@ -9,9 +10,11 @@ use Rattle.sf_format.specs.declared.directive.Directive.{Directive}
 use Rattle.sf_format.specs.declared.directive.Directive.TheVariants.{Space, Byte, Percent, Conv}
 use Rattle.sf_item.specs.Tests.{can_take}
 use Rattle.sf_report.specs.Steps.{StepEnd, Passes}
-use Rattle.sf_report.specs.Machine.{Stage, Skipping, Taken, Item, shape_skips, stepped, finished, item_finished, count_end, item_end, nothing_end}
+use Rattle.sf_report.specs.Machine.{Stage, Skipping, Taken, Item, shape_skips, stepped, finished, item_finished, count_end, item_end}
+use Rattle.sf_report.specs.Machine.{nothing_end}
 use Rattle.sf_report.specs.Residual.{choose, one_from}
-use Rattle.sf_report.specs.Computed.{skip, len, byte_choice, byte_step, item_ended, item_part, conversion_step, percent_step, step_of, part_of}
+use Rattle.sf_report.specs.Computed.{skip, len, byte_choice, byte_step, item_ended, item_part, conversion_step, percent_step, step_of}
+use Rattle.sf_report.specs.Computed.{part_of}
 
 -- ---- white space
 

@@ -1,5 +1,6 @@
 -- Either some byte would be consumed next, or nothing that follows changes the run.
-use Rattle.std.proofs.Common.{◌≡◌, ℕ, ◌+◌, ◌<◌, ◌≤◌, ◌⊎◌, inl, inr, Bool, true, false, cond, List, [], ◌∷◌, ◌++◌, length, Option, Some, None, refl, ap, subst, ◌∙◌, arith}
+use Rattle.std.proofs.Common.{◌≡◌, ℕ, ◌+◌, ◌<◌, ◌≤◌, ◌⊎◌, inl, inr, Bool, true, false, cond, List, [], ◌∷◌, ◌++◌, length, Option, Some}
+use Rattle.std.proofs.Common.{None, refl, ap, subst, ◌∙◌, arith}
 use Rattle.std.proofs.lemmas.List.{append-nil}
 use Rattle.sf_format.specs.declared.directive.Directive.{Directive}
 use Rattle.sf_format.specs.Proper.{IsProper, AreProper}
@@ -8,7 +9,8 @@ use Rattle.sf_report.specs.declared.outcome.Status.TheVariants.{TooLong}
 use Rattle.sf_report.specs.Steps.{StepEnd, Passes, Stores, Misses, Fails}
 use Rattle.sf_report.specs.Runs.{RunReport}
 use Rattle.sf_report.specs.Machine.{Stage, Skipping, stepped, is_full, finished}
-use Rattle.sf_report.specs.Residual.{stepped_all, Tally, Part, choose, one_from, with_used, counted, out_of, by_end, is_over, or_zero, then_on, run_of, run_from}
+use Rattle.sf_report.specs.Residual.{stepped_all, Tally, Part, choose, one_from, with_used, counted, out_of, by_end, is_over, or_zero}
+use Rattle.sf_report.specs.Residual.{then_on, run_of, run_from}
 use Rattle.sf_report.proofs.Joined.{one_from-all}
 use Rattle.sf_report.proofs.Machines.{can_take_one, full_refuses, never_too_long, grows, keeps_all}
 

@@ -1,5 +1,6 @@
 -- Worked examples: what each format makes of an input, computed, is its one report.
-use Rattle.std.proofs.Common.{◌≡◌, ℕ, zero, suc, ◌+◌, Bool, false, ◌&&◌, ◌||◌, nat_eq, nat_le, List, [], ◌∷◌, Option, Some, None, pos, negsuc, refl, ◌∙◌, subst, lit<, lit≤}
+use Rattle.std.proofs.Common.{◌≡◌, ℕ, zero, suc, ◌+◌, Bool, false, ◌&&◌, ◌||◌, nat_eq, nat_le, List, [], ◌∷◌, Option, Some, None, pos}
+use Rattle.std.proofs.Common.{negsuc, refl, ◌∙◌, subst, lit<, lit≤}
 use Rattle.sf_base.specs.Data.{Datum, Number, Bytes, Assigned}
 use Rattle.sf_base.specs.declared.values.Kind.{Kind}
 use Rattle.sf_base.specs.declared.values.Kind.TheVariants as kind

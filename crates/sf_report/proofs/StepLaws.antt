@@ -1,5 +1,6 @@
 -- Each directive makes exactly one step.
-use Rattle.std.proofs.Common.{◌≡◌, ℕ, zero, suc, ◌≤◌, Bool, true, false, cond, List, [], ◌∷◌, length, take, Option, Some, None, refl, sym, ap, ◌∙◌, subst, inl, inr, arith, ℤ, length-drop}
+use Rattle.std.proofs.Common.{◌≡◌, ℕ, zero, suc, ◌≤◌, Bool, true, false, cond, List, [], ◌∷◌, length, take, Option, Some, None, refl, sym}
+use Rattle.std.proofs.Common.{ap, ◌∙◌, subst, inl, inr, arith, ℤ, length-drop}
 use Rattle.std.specs.Option.{option_map}
 use Rattle.std.specs.Float.Ieee.{binary32, binary64}
 use Rattle.sf_base.specs.Data.{value_of}
@@ -21,7 +22,8 @@ use Rattle.sf_item.specs.Matching.{ShapeMatches, Matches}
 use Rattle.sf_item.specs.Tests.{matches}
 use Rattle.sf_item.proofs.Deciding.{integer_at_is, tests_matches}
 use Rattle.sf_report.specs.declared.outcome.Status.TheVariants.{MatchingFailure}
-use Rattle.sf_report.specs.Steps.{StepEnd, Fails, NumberStored, CountStep, IsReal, RealStored, ItemStored, ItemPasses, EmptyItem, ItemEnds, IsSkipBefore, ConversionStep, Step}
+use Rattle.sf_report.specs.Steps.{StepEnd, Fails, NumberStored, CountStep, IsReal, RealStored, ItemStored, ItemPasses, EmptyItem, ItemEnds}
+use Rattle.sf_report.specs.Steps.{IsSkipBefore, ConversionStep, Step}
 use Rattle.sf_report.specs.Machine.{number_end, count_end, integer_end, real_in, real_at, real_end, stored_end, passed_end, empty_end}
 use Rattle.sf_report.specs.Computed.{skip, has_more, byte_step, skip_before, item_ended, item_step, conversion_step, percent_step, step_of}
 use Rattle.sf_report.proofs.Skips.{skip_is, skip_only, skip-le}

@@ -1,6 +1,8 @@
 -- The running totals tell what the list of steps tells.
 use Rattle.std.proofs.lemmas.Grind.{common_steps}
-use Rattle.std.proofs.Common.{◌≡◌, ℕ, zero, suc, ◌+◌, ◌<◌, ◌≤◌, ◌⊎◌, inl, inr, Bool, true, false, cond, ◌&&◌, nat_eq, nat_le, List, [], ◌∷◌, ◌++◌, length, drop, Option, Some, None, is_some, refl, sym, ap, ap₂, ◌∙◌, subst, arith, append-nil, zero-add, add-zero}
+use Rattle.std.proofs.Common.{◌≡◌, ℕ, zero, suc, ◌+◌, ◌<◌, ◌≤◌, ◌⊎◌, inl, inr, Bool, true, false, cond, ◌&&◌, nat_eq, nat_le, List, [], ◌∷◌}
+use Rattle.std.proofs.Common.{◌++◌, length, drop, Option, Some, None, is_some, refl, sym, ap, ap₂, ◌∙◌, subst, arith, append-nil, zero-add}
+use Rattle.std.proofs.Common.{add-zero}
 use Rattle.std.specs.Prelude.{SomeIff}
 use Rattle.std.specs.List.{list_any}
 use Rattle.std.proofs.lemmas.Bool.{cases_lt, cond-true, cond-false, lt-ltb, le-ltb}

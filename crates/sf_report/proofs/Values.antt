@@ -1,5 +1,6 @@
 -- What the runs of a format store are values: numbers that their kinds hold, and bytes.
-use Rattle.std.proofs.Common.{◌≡◌, ℕ, zero, suc, ◌+◌, ◌^◌, ◌<◌, inl, inr, Bool, true, false, cond, nat_eq, List, [], ◌∷◌, drop, take, Option, Some, None, refl, sym, ap, subst, arith}
+use Rattle.std.proofs.Common.{◌≡◌, ℕ, zero, suc, ◌+◌, ◌^◌, ◌<◌, inl, inr, Bool, true, false, cond, nat_eq, List, [], ◌∷◌, drop, take}
+use Rattle.std.proofs.Common.{Option, Some, None, refl, sym, ap, subst, arith}
 use Rattle.std.proofs.lemmas.Bool.Decides.{nat_tests}
 use Rattle.std.proofs.lemmas.Int.{ints}
 use Rattle.std.proofs.lemmas.Nat.{pow_pos}
@@ -14,7 +15,8 @@ use Rattle.sf_float_value.specs.Values.{IsStored}
 use Rattle.sf_float_value.proofs.StoredBits.{stored_bits}
 use Rattle.sf_base.specs.declared.values.Kind.{Kind}
 use Rattle.sf_base.specs.declared.values.Kind.TheVariants as kinds
-use Rattle.sf_base.specs.Data.{Datum, Number, Bytes, Real, Assigned, IsIn, IsSigned, IsUnsigned, datum_at, signed_value, unsigned_value, value_of}
+use Rattle.sf_base.specs.Data.{Datum, Number, Bytes, Real, Assigned, IsIn, IsSigned, IsUnsigned, datum_at, signed_value, unsigned_value}
+use Rattle.sf_base.specs.Data.{value_of}
 use Rattle.sf_format.specs.declared.directive.Shape.{Shape}
 use Rattle.sf_format.specs.declared.directive.Shape.TheVariants.{Int, Text, Set, Chars, Float, Count}
 use Rattle.sf_format.specs.declared.directive.Conversion.{Conversion}
@@ -26,7 +28,8 @@ use Rattle.sf_report.specs.declared.outcome.Status.TheVariants.{Done, TooLong, N
 use Rattle.sf_report.specs.Limits.{RunTold}
 use Rattle.sf_report.specs.Rows.{IsPattern, IsReadable, IsValue}
 use Rattle.sf_report.specs.Runs.{GoesOn, Ran, RunReport, Steps, values}
-use Rattle.sf_report.specs.Steps.{ByteStep, ConversionStep, CountStep, EmptyItem, Fails, IsReal, ItemEnds, ItemPasses, ItemStep, ItemStored, Misses, NumberStored, Passes, RealStored, Step, StepEnd, Stores}
+use Rattle.sf_report.specs.Steps.{ByteStep, ConversionStep, CountStep, EmptyItem, Fails, IsReal, ItemEnds, ItemPasses, ItemStep, ItemStored}
+use Rattle.sf_report.specs.Steps.{Misses, NumberStored, Passes, RealStored, Step, StepEnd, Stores}
 
 -- ---- the numbers of a kind
 

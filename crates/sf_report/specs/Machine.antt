@@ -1,5 +1,6 @@
 -- Each directive as a machine that is handed bytes. proofs/Ones shows that it makes the directive's step.
-use Rattle.std.specs.Prelude.{ℕ, zero, suc, Bool, true, false, not, ◌&&◌, nat_eq, if◌then◌else◌, List, [], ◌∷◌, ◌++◌, Option, Some, None, is_some, ℤ}
+use Rattle.std.specs.Prelude.{ℕ, zero, suc, Bool, true, false, not, ◌&&◌, nat_eq, if◌then◌else◌, List, [], ◌∷◌, ◌++◌, Option, Some, None}
+use Rattle.std.specs.Prelude.{is_some, ℤ}
 use Rattle.sf_base.specs.Bytes.{is_white}
 use Rattle.std.specs.Option.{option_map}
 use Rattle.std.specs.Float.Ieee.{binary32, binary64}

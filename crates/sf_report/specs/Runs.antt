@@ -1,5 +1,6 @@
 -- Whole runs and their reports (C11 7.21.6.2p4, p16).
-use Rattle.std.specs.Prelude.{◌≡◌, ℕ, ◌+◌, ◌<◌, Bool, true, false, if◌then◌else◌, List, [], ◌∷◌, ◌++◌, length, drop, Option, Some, None, SomeIff, is_some, ℤ, pos, negsuc}
+use Rattle.std.specs.Prelude.{◌≡◌, ℕ, ◌+◌, ◌<◌, Bool, true, false, if◌then◌else◌, List, [], ◌∷◌, ◌++◌, length, drop, Option, Some, None}
+use Rattle.std.specs.Prelude.{SomeIff, is_some, ℤ, pos, negsuc}
 use Rattle.std.specs.Prelude.{◌&&◌, nat_eq}
 use Rattle.std.specs.List.{sum_by, count_by, filter_map, list_any}
 use Rattle.sf_base.specs.Data.{Assigned}

@@ -1,5 +1,5 @@
 //! What a run came to, with its values.
-ghost use Rattle.std.specs.Prelude.{◌≡◌, ◌↔◌, IsSome, IfSome, Some};
+ghost use Rattle.std.specs.Prelude.{◌≡◌, ◌↔◌, IsSome, IsSomeAnd, IfSome, Some};
 ghost use Rattle.std.specs.Option.{option_map};
 ghost use Rattle.sf_base.specs.Data.{datum_of, datum_of_shown, datum_at, kind_of};
 ghost use Rattle.sf_report.specs.Runs.{c_return};
@@ -129,10 +129,12 @@ impl<'r, S: Store> Report<'r, S> {
         self.store.shown(slot)
     }
 
-    /// What the slot was given as `T`, where that is something of its kind: `report.get::<i32>(1)`.
+    /// What the slot was given as `T`, where that is something of its kind: `report.get::<i32>(1)`,
+    /// `report.get::<f64>(2)`.
+    #[inline(always)]
     pub fn get<T: Taken<'r>>(&self, slot: u8) -> Option<T>
         ensures exactly { IsSome result ↔ (option_map kind_of (datum_at slot self.now.values) ≡ Some T.kind) }
-        ensures value { IfSome result (λ taken. datum_at slot self.now.values ≡ Some (T.datum taken)) }
+        ensures value { IfSome result (λ taken. IsSomeAnd (datum_at slot self.now.values) (T.is_of taken)) }
     {
         T::taken(self.value(slot)?)
     }

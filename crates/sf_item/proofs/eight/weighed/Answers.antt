@@ -1,6 +1,7 @@
 use Rattle.std.proofs.Common.{◌≡◌, ℕ, ◌<◌, ◌+◌, ◌*◌, ◌-◌, ◌%◌, ◌^◌, List, get_or, refl, subst, arith}
 use Rattle.sf_item.specs.declared.eight.TheConstants.{WORTHS}
-use Rattle.sf_item.proofs.EightDigits.{Weighed, at_most_eight, weighed_more, weighed_small, weighed_all, value_at, product_small, eight_small}
+use Rattle.sf_item.proofs.EightDigits.{Weighed, at_most_eight, weighed_more, weighed_small, weighed_all, value_at, product_small}
+use Rattle.sf_item.proofs.EightDigits.{eight_small}
 use Rattle.sf_item.proofs.eight.weighed.Goals as goal
 
 module _ (c : goal.After-number-in-loop-i-1) where

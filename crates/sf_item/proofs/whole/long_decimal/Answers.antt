@@ -1,7 +1,8 @@
 use Rattle.std.proofs.Common.{ℕ, List, subst, rules}
 use Rattle.sf_item.specs.Wholes.{DigitsOf}
 use Rattle.sf_item.proofs.Zeros.{behind_zeros}
-use Rattle.sf_item.proofs.whole.long_decimal.Goals.{else-count-eq-SURE_DECIMAL-via-then-count-eq-SURE_DECIMAL+else-is_digit_at, else-count-eq-SURE_DECIMAL-via-else-count-eq-SURE_DECIMAL}
+use Rattle.sf_item.proofs.whole.long_decimal.Goals.{else-count-eq-SURE_DECIMAL-via-then-count-eq-SURE_DECIMAL+else-is_digit_at}
+use Rattle.sf_item.proofs.whole.long_decimal.Goals.{else-count-eq-SURE_DECIMAL-via-else-count-eq-SURE_DECIMAL}
 use Rattle.sf_item.proofs.whole.long_decimal.Goals as goal
 
 pub returns : goal.returns

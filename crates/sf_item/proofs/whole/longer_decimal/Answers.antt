@@ -1,7 +1,8 @@
 use Rattle.std.proofs.Common.{◌≤◌, ℕ, List, subst, sym, arith}
 use Rattle.std.specs.Char.{digit_value}
 use Rattle.sf_item.proofs.Zeros.{front_at, front_digits}
-use Rattle.sf_item.proofs.whole.longer_decimal.Goals.{else-count-eq-SURE_DECIMAL-via-then-count-eq-SURE_DECIMAL+else-is_digit_at, else-count-eq-SURE_DECIMAL-via-else-count-eq-SURE_DECIMAL}
+use Rattle.sf_item.proofs.whole.longer_decimal.Goals.{else-count-eq-SURE_DECIMAL-via-then-count-eq-SURE_DECIMAL+else-is_digit_at}
+use Rattle.sf_item.proofs.whole.longer_decimal.Goals.{else-count-eq-SURE_DECIMAL-via-else-count-eq-SURE_DECIMAL}
 use Rattle.sf_item.proofs.whole.longer_decimal.Goals as goal
 
 pub returns : goal.returns
