@@ -14,7 +14,8 @@ use Rattle.sf_format.specs.Letters.{kind_of}
 use Rattle.sf_format.specs.Digits.{IsOptionalNumber}
 use Rattle.sf_format.specs.Pieces.{Opening, Piece, Ordinary, Plain, Bracket, Percents}
 use Rattle.sf_format.specs.Grammar.{IsScanPiece, shape_of, width_of, Means, Spells, SpellsPrint}
-use Rattle.sf_format.specs.Proper.{HasItsKind, IsKinded, HasItsWidth, IsSized, IsProperShape, IsProperWidth, IsProper, AreProper, AreSized, AreKinded, IsAccepted}
+use Rattle.sf_format.specs.Proper.{HasItsKind, IsKinded, HasItsWidth, IsSized, IsProperShape, IsProperWidth, IsProper, AreProper, AreSized}
+use Rattle.sf_format.specs.Proper.{AreKinded, IsAccepted}
 use Rattle.sf_format.proofs.Suits.{text_kinded, float_kinded}
 use Rattle.sf_format.proofs.Meanings.{scan_slots, mean_each, print_slots}
 use Rattle.sf_format.proofs.PartSlots.{all_short, format_few, slots_good, slots_count}

@@ -1,5 +1,6 @@
 -- What the parts of a format stand for: each one directive, or one unit.
-use Rattle.std.proofs.Common.{◌≡◌, ℕ, ◌+◌, List, [], ◌∷◌, ◌++◌, length, Option, refl, arith, length-append, Some, None, ◌≢◌, ◌<◌, Bool, false, map, sym, ◌∙◌, ap}
+use Rattle.std.proofs.Common.{◌≡◌, ℕ, ◌+◌, List, [], ◌∷◌, ◌++◌, length, Option, refl, arith, length-append, Some, None, ◌≢◌, ◌<◌, Bool}
+use Rattle.std.proofs.Common.{false, map, sym, ◌∙◌, ap}
 use Rattle.std.specs.Prelude.{IsSome}
 use Rattle.std.specs.List.{AllByRecursion, range_with_len}
 use Rattle.std.specs.Option.{option_map}

@@ -1,12 +1,14 @@
 -- The part that a format without a fault there begins with, and the text of a part.
-use Rattle.std.proofs.Common.{is_none, None, Some, Option, ◌≡◌, ◌≢◌, ℕ, Bool, true, false, cond, nat_eq, List, [], ◌∷◌, ◌++◌, refl, append-nil, arith, ◌+◌, ◌<◌, length, sym, ap, ◌∙◌, subst, append_assoc}
+use Rattle.std.proofs.Common.{is_none, None, Some, Option, ◌≡◌, ◌≢◌, ℕ, Bool, true, false, cond, nat_eq, List, [], ◌∷◌, ◌++◌, refl}
+use Rattle.std.proofs.Common.{append-nil, arith, ◌+◌, ◌<◌, length, sym, ap, ◌∙◌, subst, append_assoc}
 use Rattle.std.proofs.lemmas.Bool.Decides.{nat_tests}
 use Rattle.sf_base.specs.Bytes.{is_white, AreBytes}
 use Rattle.sf_format.specs.Language.{Language, Scan, Print}
 use Rattle.sf_format.specs.Pieces.{Opening, Piece, WhiteSpace, piece_text, Ordinary, Percents, Plain, Bracket, opening_text}
 use Rattle.sf_format.specs.Cut.{Part, conversion_at, specification_at, Cut, cut, letter_at, part_at}
 use Rattle.sf_format.specs.Grammar.{IsPiece, AreAlike, destinations, assigned_opening}
-use Rattle.sf_format.specs.Faults.{percent_rules, part_rules, conversion_rules, opening_rules, letter_rules, bracket_rules, scanlist_rules, ending_rules, rest_rules}
+use Rattle.sf_format.specs.Faults.{percent_rules, part_rules, conversion_rules, opening_rules, letter_rules, bracket_rules, scanlist_rules}
+use Rattle.sf_format.specs.Faults.{ending_rules, rest_rules}
 use Rattle.sf_format.specs.Passing.{IsIn}
 use Rattle.sf_format.specs.Lists.{begins, front, behind}
 use Rattle.sf_format.proofs.Prefixes.{Stops, front_behind, front_passes, behind_stops, front_of, behind_of}
@@ -18,7 +20,8 @@ use Rattle.sf_format.specs.Scanlist.{Scanlist, scanlist_text}
 use Rattle.sf_format.specs.Rules.{slot_rules}
 use Rattle.sf_format.specs.declared.letter.Letter.TheVariants.{Set}
 use Rattle.sf_format.proofs.Scanlists.{listed, marked, bracket_of, quiet_list}
-use Rattle.sf_format.proofs.Suits.{letter_is, suits_from, suits_parts, opening_quiet, letter_quiet, print_letter_is, suits_print_from, print_opening_quiet, print_letter_quiet, flags_quiet, suits_print_parts}
+use Rattle.sf_format.proofs.Suits.{letter_is, suits_from, suits_parts, opening_quiet, letter_quiet, print_letter_is, suits_print_from}
+use Rattle.sf_format.proofs.Suits.{print_opening_quiet, print_letter_quiet, flags_quiet, suits_print_parts}
 use Rattle.sf_format.proofs.Destinations.{assigned_alike, slot_quiet}
 use Rattle.sf_format.specs.PrintLetters.{print_letter_of}
 use Rattle.sf_format.specs.PrintRules.{print_letter_rules, flag_rules}

@@ -23,8 +23,10 @@ use Rattle.sf_format.specs.PrintLetters.{print_letters, print_letter_of}
 use Rattle.sf_format.specs.Pieces.{Opening, Piece, Ordinary, Percents, Plain, Bracket}
 use Rattle.sf_format.specs.PrintGrammar.{IsPrintPiece, Prints}
 use Rattle.sf_format.specs.Grammar.{Suits, IsScanPiece, IsPiece, IsConversion, shape_of, destinations, Means, MeanAll, SpellsAs}
-use Rattle.sf_format.specs.Profiles.{shape_with, directive_with, base_in_two, base_in_one, DirectiveHas, IsNotBin, IsOfOne, IsNoFloat, IsOfTwo, IsNotBinary, IsNotFloat, UnitHas}
-use Rattle.sf_format.specs.Laws.{TwoSpellsOne, OneSpellsTwo, OneHasOldBases, TwoPrintsOne, OnePrintsTwo, ThreeSpellsTwo, TwoSpellsThree, ThreePrintsTwo, TwoPrintsThree}
+use Rattle.sf_format.specs.Profiles.{shape_with, directive_with, base_in_two, base_in_one, DirectiveHas, IsNotBin, IsOfOne, IsNoFloat}
+use Rattle.sf_format.specs.Profiles.{IsOfTwo, IsNotBinary, IsNotFloat, UnitHas}
+use Rattle.sf_format.specs.Laws.{TwoSpellsOne, OneSpellsTwo, OneHasOldBases, TwoPrintsOne, OnePrintsTwo, ThreeSpellsTwo, TwoSpellsThree}
+use Rattle.sf_format.specs.Laws.{ThreePrintsTwo, TwoPrintsThree}
 use Rattle.sf_format.proofs.Suits.{found, printed}
 use Rattle.sf_format.proofs.Meanings.{mean_each}
 

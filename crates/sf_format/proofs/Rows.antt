@@ -1,5 +1,6 @@
 -- Formats and faults, computed.
-use Rattle.std.proofs.Common.{◌≡◌, ◌≢◌, ℕ, zero, suc, ◌+◌, Bool, true, false, List, [], ◌∷◌, ◌++◌, map, Option, Some, None, Result, Ok, Err, refl, inl, inr, lit<, lit≤, arith}
+use Rattle.std.proofs.Common.{◌≡◌, ◌≢◌, ℕ, zero, suc, ◌+◌, Bool, true, false, List, [], ◌∷◌, ◌++◌, map, Option, Some, None, Result, Ok, Err}
+use Rattle.std.proofs.Common.{refl, inl, inr, lit<, lit≤, arith}
 use Rattle.std.specs.Prelude.{codes, replicate, if◌then◌else◌}
 use Rattle.sf_base.specs.declared.values.Kind.TheVariants.{I32}
 use Rattle.sf_format.specs.declared.directive.Profile.TheVariants.{One, Two}
@@ -12,7 +13,9 @@ use Rattle.sf_format.specs.declared.letter.Letter.TheVariants.{Signed}
 use Rattle.sf_format.specs.declared.letter.Length.{Length}
 use Rattle.sf_format.specs.declared.letter.Length.TheVariants.{NoLength, HH, H, L, LL}
 use Rattle.sf_format.specs.declared.fault.FormatWhy.{FormatWhy}
-use Rattle.sf_format.specs.declared.fault.FormatWhy.TheVariants.{Truncated, ZeroWidth, TooWide, UnknownLetter, LeftOut, BadLength, OpenSet, BackwardRange, BadCount, MixedNumbering, BadNumber, NumberTwice, NumberGap, Nul, TooManyDestinations, BadFlag, PrecisionTooLarge}
+use Rattle.sf_format.specs.declared.fault.FormatWhy.TheVariants.{Truncated, ZeroWidth, TooWide, UnknownLetter, LeftOut, BadLength, OpenSet}
+use Rattle.sf_format.specs.declared.fault.FormatWhy.TheVariants.{BackwardRange, BadCount, MixedNumbering, BadNumber, NumberTwice, NumberGap}
+use Rattle.sf_format.specs.declared.fault.FormatWhy.TheVariants.{Nul, TooManyDestinations, BadFlag, PrecisionTooLarge}
 use Rattle.sf_format.specs.Scanlist.{Scanlist, is_member}
 use Rattle.sf_format.specs.Pieces.{Opening, Piece, WhiteSpace, Ordinary, Percents, Plain, Bracket, text_of}
 use Rattle.sf_format.specs.Grammar.{Spells}

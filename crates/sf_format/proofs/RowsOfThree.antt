@@ -1,5 +1,6 @@
 -- Scan formats of profile 3 and their faults, computed.
-use Rattle.std.proofs.Common.{◌≡◌, ◌≢◌, ℕ, ◌≤◌, Bool, true, false, List, [], ◌∷◌, length, map, Option, Some, None, refl, inl, lit<, lit≤, arith}
+use Rattle.std.proofs.Common.{◌≡◌, ◌≢◌, ℕ, ◌≤◌, Bool, true, false, List, [], ◌∷◌, length, map, Option, Some, None, refl, inl, lit<, lit≤}
+use Rattle.std.proofs.Common.{arith}
 use Rattle.std.specs.Prelude.{codes, IsSome}
 use Rattle.sf_format.specs.Digits.{IsOptionalNumber}
 use Rattle.sf_base.specs.declared.values.Kind.{Kind}
@@ -16,7 +17,8 @@ use Rattle.sf_format.specs.declared.letter.Letter.{Letter}
 use Rattle.sf_format.specs.declared.letter.Letter.TheVariants as letter
 use Rattle.sf_format.specs.declared.letter.Length.{Length}
 use Rattle.sf_format.specs.declared.letter.Length.TheVariants.{NoLength, L}
-use Rattle.sf_format.specs.declared.fault.FormatWhy.TheVariants.{Truncated, ZeroWidth, TooWide, UnknownLetter, LeftOut, BadLength, BackwardRange, BadCount, BadNumber, NumberTwice}
+use Rattle.sf_format.specs.declared.fault.FormatWhy.TheVariants.{Truncated, ZeroWidth, TooWide, UnknownLetter, LeftOut, BadLength}
+use Rattle.sf_format.specs.declared.fault.FormatWhy.TheVariants.{BackwardRange, BadCount, BadNumber, NumberTwice}
 use Rattle.sf_format.specs.Letters.{letter_of, kind_of}
 use Rattle.sf_format.specs.Pieces.{Opening, Ordinary, Plain, Bracket, text_of}
 use Rattle.sf_format.specs.Grammar.{ArePlaced, Suits, SuitsCount, IsConversion, shape_of, destinations, Spells}

@@ -1,5 +1,6 @@
 -- Scanlists: their ranges and members, and their text.
-use Rattle.std.proofs.Common.{◌≡◌, ◌≢◌, ℕ, ◌+◌, ◌-◌, ◌<◌, ◌≤◌, Bool, ◌&&◌, ◌||◌, nat_eq, nat_le, List, [], ◌∷◌, ◌++◌, get_or, take, drop, length, None, refl, sym, ap, ◌∙◌, arith, length-append, length-drop, true, false, subst, append_assoc}
+use Rattle.std.proofs.Common.{◌≡◌, ◌≢◌, ℕ, ◌+◌, ◌-◌, ◌<◌, ◌≤◌, Bool, ◌&&◌, ◌||◌, nat_eq, nat_le, List, [], ◌∷◌, ◌++◌, get_or, take, drop}
+use Rattle.std.proofs.Common.{length, None, refl, sym, ap, ◌∙◌, arith, length-append, length-drop, true, false, subst, append_assoc}
 use Rattle.std.proofs.lemmas.List.{take_rest, take_at, drop_at}
 use Rattle.std.proofs.lemmas.Bool.Decides.{nat_tests}
 use Rattle.std.specs.Prelude.{◌==◌}

@@ -1,5 +1,6 @@
 -- An opening and a letter that no rule refuses suit each other, in scan formats and in print formats.
-use Rattle.std.proofs.Common.{◌≡◌, ℕ, ◌<◌, Bool, true, false, ◌&&◌, ◌||◌, nat_eq, nat_lt, List, [], ◌∷◌, Some, is_some, is_none, refl, arith, ◌≢◌, zero, suc, ◌+◌, ◌^◌, length, Option, find, inl, inr}
+use Rattle.std.proofs.Common.{◌≡◌, ℕ, ◌<◌, Bool, true, false, ◌&&◌, ◌||◌, nat_eq, nat_lt, List, [], ◌∷◌, Some, is_some, is_none, refl}
+use Rattle.std.proofs.Common.{arith, ◌≢◌, zero, suc, ◌+◌, ◌^◌, length, Option, find, inl, inr}
 use Rattle.std.specs.Prelude.{IsSome, IfSome}
 use Rattle.std.proofs.lemmas.Bool.Decides.{nat_tests}
 use Rattle.std.specs.List.{AllByRecursion}

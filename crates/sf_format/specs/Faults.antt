@@ -1,5 +1,6 @@
 -- The first fault of a text that is no format. C11 7.21.6.1p9 and 7.21.6.2p13 leave such a text undefined; here it is refused.
-use Rattle.std.specs.Prelude.{◌≡◌, ℕ, ◌+◌, ◌<◌, ◌≤◌, ◌⊎◌, Bool, true, not, ◌&&◌, ◌||◌, List, [], ◌∷◌, ◌++◌, length, map, Some, Result, Err, MatchResult, is_some, is_none, nat_eq, nat_lt, if◌then◌else◌, codes}
+use Rattle.std.specs.Prelude.{◌≡◌, ℕ, ◌+◌, ◌<◌, ◌≤◌, ◌⊎◌, Bool, true, not, ◌&&◌, ◌||◌, List, [], ◌∷◌, ◌++◌, length, map, Some, Result, Err}
+use Rattle.std.specs.Prelude.{MatchResult, is_some, is_none, nat_eq, nat_lt, if◌then◌else◌, codes}
 use Prim.Native.Char.{code}
 use Rattle.std.specs.List.{AllByRecursion, list_all}
 use Rattle.sf_base.specs.Bytes.{magnitude}
@@ -7,7 +8,9 @@ use Rattle.sf_format.specs.declared.directive.Profile.{Profile}
 use Rattle.sf_format.specs.Language.{Language, Scan, Print}
 use Rattle.sf_format.specs.declared.fault.FormatFault.{FormatFault}
 use Rattle.sf_format.specs.declared.fault.FormatWhy.{FormatWhy}
-use Rattle.sf_format.specs.declared.fault.FormatWhy.TheVariants.{Truncated, ZeroWidth, TooWide, UnknownLetter, LeftOut, BadLength, OpenSet, BackwardRange, BadCount, BadNumber, NumberTwice, NumberGap, Nul, FormatTooLong, NoMemory}
+use Rattle.sf_format.specs.declared.fault.FormatWhy.TheVariants.{Truncated, ZeroWidth, TooWide, UnknownLetter, LeftOut, BadLength, OpenSet}
+use Rattle.sf_format.specs.declared.fault.FormatWhy.TheVariants.{BackwardRange, BadCount, BadNumber, NumberTwice, NumberGap, Nul}
+use Rattle.sf_format.specs.declared.fault.FormatWhy.TheVariants.{FormatTooLong, NoMemory}
 use Rattle.sf_format.specs.Letters.{has_doubles, letter_of}
 use Rattle.sf_format.specs.PrintLetters.{print_letter_of}
 use Rattle.sf_format.specs.Scanlist.{backward_range, caret_text}

@@ -1,5 +1,6 @@
 -- The grammar of formats (C11 7.21.6.2p3 to p12, POSIX fscanf for the numbers).
-use Rattle.std.specs.Prelude.{◌≡◌, ◌≢◌, ℕ, ◌+◌, ◌<◌, ◌≤◌, ◌⊎◌, Bool, true, false, List, [], ◌∷◌, length, map, Option, Some, None, IsSome, if◌then◌else◌}
+use Rattle.std.specs.Prelude.{◌≡◌, ◌≢◌, ℕ, ◌+◌, ◌<◌, ◌≤◌, ◌⊎◌, Bool, true, false, List, [], ◌∷◌, length, map, Option, Some, None, IsSome}
+use Rattle.std.specs.Prelude.{if◌then◌else◌}
 use Prim.Native.Char.{code}
 use Rattle.std.specs.List.{AllByRecursion}
 use Rattle.sf_base.specs.Bytes.{is_white, AreWhite, magnitude}

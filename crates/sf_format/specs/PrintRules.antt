@@ -1,9 +1,11 @@
 -- The rules that conversion specifications of print formats have to keep, in order.
-use Rattle.std.specs.Prelude.{ℕ, ◌+◌, Bool, true, false, not, ◌&&◌, ◌||◌, List, [], ◌∷◌, length, Option, Some, None, is_some, is_none, nat_eq, nat_lt, codes}
+use Rattle.std.specs.Prelude.{ℕ, ◌+◌, Bool, true, false, not, ◌&&◌, ◌||◌, List, [], ◌∷◌, length, Option, Some, None, is_some, is_none}
+use Rattle.std.specs.Prelude.{nat_eq, nat_lt, codes}
 use Rattle.std.specs.List.{position_from}
 use Rattle.sf_base.specs.Bytes.{magnitude}
 use Rattle.sf_format.specs.declared.directive.Profile.{Profile}
-use Rattle.sf_format.specs.declared.fault.FormatWhy.TheVariants.{TooWide, UnknownLetter, LeftOut, BadLength, BadNumber, Nul, BadFlag, PrecisionTooLarge}
+use Rattle.sf_format.specs.declared.fault.FormatWhy.TheVariants.{TooWide, UnknownLetter, LeftOut, BadLength, BadNumber, Nul, BadFlag}
+use Rattle.sf_format.specs.declared.fault.FormatWhy.TheVariants.{PrecisionTooLarge}
 use Rattle.sf_format.specs.declared.letter.Length.{Length}
 use Rattle.sf_format.specs.declared.unit.PrintLetter.{PrintLetter}
 use Rattle.sf_format.specs.declared.unit.PrintLetter.TheVariants.{One}

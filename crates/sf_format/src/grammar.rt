@@ -1,5 +1,6 @@
 //! What the grammars of scan formats and of print formats have in common.
-ghost use Rattle.std.specs.Prelude.{◌≡◌, ◌≤◌, ◌<◌, ◌+◌, true, false, ℕ, List, ◌∷◌, None, length, IfOk, IfErr, MatchOption};
+ghost use Rattle.std.specs.Prelude.{◌≡◌, ◌≤◌, ◌<◌, ◌+◌, true, false, ℕ, List, ◌∷◌, None, length, IfOk, IfErr};
+ghost use Rattle.std.specs.Prelude.{MatchOption};
 ghost use Rattle.std.specs.List.{AllByRecursion};
 ghost use Rattle.sf_format.specs.Digits.{is_decimal};
 ghost use Rattle.sf_format.specs.Language.{Language};
@@ -7,7 +8,8 @@ ghost use Rattle.sf_format.specs.Pieces.{Opening, Piece, WhiteSpace, opening_tex
 ghost use Rattle.sf_format.specs.Cut.{cut, letter_at, joins_run, conversion_at, specification_at, part_at};
 ghost use Rattle.sf_format.specs.Rules.{first_of};
 ghost use Rattle.sf_format.specs.Faults.{opening_rules, rest_rules, conversion_rules, percent_rules, part_rules};
-ghost use Rattle.sf_format.specs.Passing.{opening_of, fault_in, IsIn, literal_piece, Holds, PassesBy, Walked, Gathers, IsHindered};
+ghost use Rattle.sf_format.specs.Passing.{opening_of, fault_in, IsIn, literal_piece, Holds, PassesBy, Walked, Gathers};
+ghost use Rattle.sf_format.specs.Passing.{IsHindered};
 
 use crate::fault::{FormatFault, FormatWhy};
 use crate::fronts::{Class, mark, split_front};

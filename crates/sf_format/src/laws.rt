@@ -3,7 +3,8 @@
 ghost use Rattle.sf_format.specs.Grammar.{Spells, SpellsPrint};
 ghost use Rattle.sf_format.specs.Faults.{Fault, PrintFault};
 ghost use Rattle.sf_format.specs.Laws.{SpellOne, HaveOneFault, AreNeverBoth, AreEither};
-ghost use Rattle.sf_format.specs.Laws.{EachIsProper, EachUnnumberedIsInOrder, EachPrintIsProper, EachUnnumberedPrintIsInOrder};
+ghost use Rattle.sf_format.specs.Laws.{EachIsProper, EachUnnumberedIsInOrder, EachPrintIsProper};
+ghost use Rattle.sf_format.specs.Laws.{EachUnnumberedPrintIsInOrder};
 ghost use Rattle.sf_format.specs.Laws.{JustSlotsHaveKinds};
 ghost use Rattle.sf_format.specs.Laws.{TwoSpellsOne, OneSpellsTwo, OneHasOldBases, TwoPrintsOne, OnePrintsTwo};
 ghost use Rattle.sf_format.specs.Laws.{ThreeSpellsTwo, TwoSpellsThree, ThreePrintsTwo, TwoPrintsThree};

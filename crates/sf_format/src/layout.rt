@@ -1,6 +1,7 @@
 //! A scan format laid out: a flat row beside each directive, and what its runs count.
 ghost use Rattle.std.specs.Prelude.{◌≡◌, ◌≤◌, length, map, IfOk};
-ghost use Rattle.sf_format.specs.Layout.{assigns_item, items_assigned, items_taken, plain_row, row_of, takes_item, way_of, way_of_integer};
+ghost use Rattle.sf_format.specs.Layout.{assigns_item, items_assigned, items_taken, plain_row, row_of, takes_item};
+ghost use Rattle.sf_format.specs.Layout.{way_of, way_of_integer};
 ghost use Rattle.sf_format.specs.Proper.{destinations_of};
 
 use crate::directive::{Base, Conversion, Directive, Shape};

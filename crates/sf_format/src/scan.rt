@@ -2,7 +2,8 @@
 ghost use Rattle.std.specs.Prelude.{◌≡◌, ◌≤◌, ◌↔◌, IsSome, length, map, IfOk, IfErr, IfSome};
 ghost use Rattle.sf_format.specs.Layout.{items_assigned, items_taken, row_of};
 ghost use Rattle.sf_format.specs.Slots.{AreSlots};
-ghost use Rattle.sf_format.specs.Proper.{AreKinded, AreProper, AreSized, IsAccepted, destinations_of, has_optional, is_optional, is_optional_for, kind_at, may_miss};
+ghost use Rattle.sf_format.specs.Proper.{AreKinded, AreProper, AreSized, IsAccepted, destinations_of, has_optional};
+ghost use Rattle.sf_format.specs.Proper.{is_optional, is_optional_for, kind_at, may_miss};
 ghost use Rattle.sf_format.specs.Widths.{width_sum, stored_width};
 ghost use Rattle.sf_format.specs.Grammar.{Spells};
 ghost use Rattle.sf_format.specs.Faults.{Fault, IsRefused, TellsFault, TakesSpelled};

@@ -1,5 +1,6 @@
 -- Pieces that a sink took one after the other.
-use Rattle.std.proofs.Common.{◌≡◌, ℕ, zero, suc, ◌+◌, ◌-◌, ◌≤◌, List, [], ◌∷◌, ◌++◌, length, take, drop, subst, sym, ap, ◌∙◌, arith, append_assoc, append-nil, Option, Some, None}
+use Rattle.std.proofs.Common.{◌≡◌, ℕ, zero, suc, ◌+◌, ◌-◌, ◌≤◌, List, [], ◌∷◌, ◌++◌, length, take, drop, subst, sym, ap, ◌∙◌, arith}
+use Rattle.std.proofs.Common.{append_assoc, append-nil, Option, Some, None}
 use Rattle.std.proofs.lemmas.List.{take_rest, length-drop}
 use Rattle.std.proofs.Math.Seq.{take-append_seam}
 use Rattle.std.specs.Io.KnownBytes.{Appends, Keeps}

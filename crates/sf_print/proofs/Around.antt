@@ -1,12 +1,14 @@
 -- The parts of an integer's text, joined as the pieces are put.
-use Rattle.std.proofs.Common.{◌≡◌, ℕ, zero, suc, ◌+◌, ◌-◌, Bool, true, false, List, [], ◌++◌, length, replicate, take, drop, ℤ, unsigned_abs, refl, sym, ap, ◌∙◌, arith, append_assoc, append-nil, length-append}
+use Rattle.std.proofs.Common.{◌≡◌, ℕ, zero, suc, ◌+◌, ◌-◌, Bool, true, false, List, [], ◌++◌, length, replicate, take, drop, ℤ}
+use Rattle.std.proofs.Common.{unsigned_abs, refl, sym, ap, ◌∙◌, arith, append_assoc, append-nil, length-append}
 use Rattle.std.proofs.lemmas.List.{replicate-append-replicate, length-replicate}
 use Rattle.std.proofs.lemmas.List.{drop_all, take_all}
 use Rattle.std.specs.List.{slice_range}
 use Rattle.sf_format.specs.declared.unit.PrintConv.{PrintConv}
 use Rattle.sf_format.specs.declared.unit.PrintLetter.{PrintLetter}
 use Rattle.sf_format.specs.declared.unit.PrintLetter.TheVariants as letter
-use Rattle.sf_print.specs.Text.{base_of, is_upper, integer_text, with_sign, sign, mark, prefix, numeral, all_digits, filled, with_octal_zero, blanks, zeros, left_blanks, inner_zeros, right_blanks}
+use Rattle.sf_print.specs.Text.{base_of, is_upper, integer_text, with_sign, sign, mark, prefix, numeral, all_digits, filled}
+use Rattle.sf_print.specs.Text.{with_octal_zero, blanks, zeros, left_blanks, inner_zeros, right_blanks}
 
 pub abs_of : (negative : Bool) (m : ℕ) → unsigned_abs (with_sign negative m) ≡ m
 abs_of true zero = refl

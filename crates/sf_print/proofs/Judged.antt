@@ -1,5 +1,6 @@
 -- What is refused before anything is written is no fault of the sink; values of slots.
-use Rattle.std.proofs.Common.{◌≡◌, ℕ, Bool, true, false, cond, not, ◌==◌, nat_le, List, [], ◌∷◌, length, fold, refl, Option, Some, None, Ok, Err}
+use Rattle.std.proofs.Common.{◌≡◌, ℕ, Bool, true, false, cond, not, ◌==◌, nat_le, List, [], ◌∷◌, length, fold, refl, Option, Some, None, Ok}
+use Rattle.std.proofs.Common.{Err}
 use Rattle.sf_base.specs.Data.{Datum}
 use Rattle.sf_base.specs.declared.values.Kind.{Kind}
 use Rattle.sf_base.specs.declared.values.Kind.TheVariants as kind
@@ -10,7 +11,8 @@ use Rattle.sf_format.specs.Units.{values_of}
 use Rattle.sf_print.specs.declared.fault.PrintFault.{PrintFault}
 use Rattle.sf_print.specs.Given.{fault_of_given, given_at, given_fault, given_measured, given_printed, lowest_given_fault}
 use Rattle.sf_print.specs.declared.fault.PrintFault.TheVariants as fault
-use Rattle.sf_print.specs.Printed.{value_at, printed, value_fault, fault_or_none, unit_fault, lower, slot_of, lowest_fault, most_bytes, length_or_fault, measured, is_sink_fault, same_kind, is_printed_as, kind_of, suits}
+use Rattle.sf_print.specs.Printed.{value_at, printed, value_fault, fault_or_none, unit_fault, lower, slot_of, lowest_fault, most_bytes}
+use Rattle.sf_print.specs.Printed.{length_or_fault, measured, is_sink_fault, same_kind, is_printed_as, kind_of, suits}
 
 -- a value of the kind that is due
 pub same_is_printed : (k due : Kind) → same_kind k due ≡ true → is_printed_as k due ≡ true

@@ -3,6 +3,7 @@ pub mod Around
 pub mod EndsCopied
 pub mod Digits
 pub mod FourDigits
+mod ThreeDigits
 pub mod NothingMissing
 pub mod Plainness
 pub mod Reals

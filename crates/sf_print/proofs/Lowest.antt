@@ -1,5 +1,6 @@
 -- The fault of the lowest slot.
-use Rattle.std.proofs.Common.{◌≡◌, ℕ, ◌≤◌, ◌⊎◌, inl, inr, ap, Bool, true, false, cond, nat_le, List, [], ◌∷◌, fold, refl, arith, Option, Some, None, IfSome}
+use Rattle.std.proofs.Common.{◌≡◌, ℕ, ◌≤◌, ◌⊎◌, inl, inr, ap, Bool, true, false, cond, nat_le, List, [], ◌∷◌, fold, refl, arith, Option}
+use Rattle.std.proofs.Common.{Some, None, IfSome}
 use Rattle.std.proofs.lemmas.Bool.{leb-true, leb-false}
 use Rattle.std.specs.List.{AllByRecursion}
 use Rattle.sf_base.specs.Data.{Datum}

@@ -1,5 +1,6 @@
 -- The digits of a number are a numeral of it without needless zeros.
-use Rattle.std.proofs.Common.{◌≡◌, ℕ, zero, suc, ◌-◌, ◌*◌, ◌/◌, ◌%◌, ◌^◌, ◌<◌, ◌≤◌, Bool, true, false, ◌&&◌, T, eqb, eqb→eq, List, [], ◌∷◌, ◌++◌, length, slice_index, subst, refl, sym, ap, ◌∙◌, inl, inr, arith, eq-zero-or-pos}
+use Rattle.std.proofs.Common.{◌≡◌, ℕ, zero, suc, ◌-◌, ◌*◌, ◌/◌, ◌%◌, ◌^◌, ◌<◌, ◌≤◌, Bool, true, false, ◌&&◌, T, eqb, eqb→eq, List, [], ◌∷◌}
+use Rattle.std.proofs.Common.{◌++◌, length, slice_index, subst, refl, sym, ap, ◌∙◌, inl, inr, arith, eq-zero-or-pos}
 use Rattle.std.proofs.Math.Nat.{div-lt_iff_lt-mul, div-le_self, mod-lt, pow-suc, pow-zero, pow-le-pow_left}
 use Rattle.std.specs.Char.{digit_value}
 use Rattle.std.specs.Fmt.{digits, digit_glyph}

@@ -1,5 +1,7 @@
 -- The text of a plain conversion is a minus and digits alone.
-use Rattle.std.proofs.Common.{◌≡◌, ℕ, zero, suc, ◌+◌, ◌-◌, ◌≤◌, ◌<◌, ◌^◌, Bool, true, false, cond, not, ◌&&◌, ◌==◌, is_none, List, [], ◌∷◌, ◌++◌, length, unsigned_abs, unwrap_or, Option, Some, None, eqb, nat_lt, nat_le, subst, refl, ap, ◌∙◌, arith, append-nil}
+use Rattle.std.proofs.Common.{◌≡◌, ℕ, zero, suc, ◌+◌, ◌-◌, ◌≤◌, ◌<◌, ◌^◌, Bool, true, false, cond, not, ◌&&◌, ◌==◌, is_none, List, [], ◌∷◌}
+use Rattle.std.proofs.Common.{◌++◌, length, unsigned_abs, unwrap_or, Option, Some, None, eqb, nat_lt, nat_le, subst, refl, ap, ◌∙◌, arith}
+use Rattle.std.proofs.Common.{append-nil}
 use Rattle.std.proofs.lemmas.Bool.{eqb-true, leb-true, ltb-true}
 use Rattle.std.proofs.lemmas.Fmt.{decimal_is_IsNumeral}
 use Rattle.std.specs.Char.{digit_value}
@@ -16,7 +18,9 @@ use Rattle.sf_base.specs.Data.Datum.{Number, Bytes, Real}
 use Rattle.sf_format.specs.declared.unit.PrintLetter.{PrintLetter}
 use Rattle.sf_format.specs.declared.unit.PrintLetter.TheVariants as letter
 use Rattle.sf_format.specs.declared.unit.PrintConv.{PrintConv}
-use Rattle.sf_print.specs.Text.{base_of, is_upper, is_octal, base_mark, integer_text, value_text, with_sign, prefix, numeral, all_digits, filled, with_octal_zero, least_digits, opens_with_zero, blanks, zeros, left_blanks, inner_zeros, right_blanks, pads_with_zeros, short_by}
+use Rattle.sf_print.specs.Text.{base_of, is_upper, is_octal, base_mark, integer_text, value_text, with_sign, prefix, numeral, all_digits}
+use Rattle.sf_print.specs.Text.{filled, with_octal_zero, least_digits, opens_with_zero, blanks, zeros, left_blanks, inner_zeros}
+use Rattle.sf_print.specs.Text.{right_blanks, pads_with_zeros, short_by}
 use Rattle.sf_print.specs.Plain.{minus, is_decimal, is_plain}
 use Rattle.sf_print.specs.Printables.{IsOf}
 use Rattle.sf_print.specs.declared.text.Printable.TheVariants as printable

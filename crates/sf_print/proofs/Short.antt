@@ -1,5 +1,7 @@
 -- A format makes no text that is too long of numbers and short texts.
-use Rattle.std.proofs.Common.{◌≡◌, ℕ, zero, suc, ◌+◌, ◌-◌, ◌*◌, ◌≤◌, Bool, true, false, cond, ◌&&◌, not, ◌==◌, List, [], ◌∷◌, ◌++◌, length, take, drop, ℤ, pos, negsuc, unsigned_abs, unwrap_or, Option, Some, None, Result, Ok, Err, IfSome, OnOk, MatchResult, ap, ◌∙◌, arith, length-append}
+use Rattle.std.proofs.Common.{◌≡◌, ℕ, zero, suc, ◌+◌, ◌-◌, ◌*◌, ◌≤◌, Bool, true, false, cond, ◌&&◌, not, ◌==◌, List, [], ◌∷◌, ◌++◌, length}
+use Rattle.std.proofs.Common.{take, drop, ℤ, pos, negsuc, unsigned_abs, unwrap_or, Option, Some, None, Result, Ok, Err, IfSome, OnOk}
+use Rattle.std.proofs.Common.{MatchResult, ap, ◌∙◌, arith, length-append}
 use Rattle.std.proofs.lemmas.List.{length-replicate, take-append-drop}
 use Rattle.std.proofs.lemmas.Bool.{le-leb, leb-true, and_parts}
 use Rattle.std.proofs.lemmas.List.Concat.{flat_map-cons}
@@ -13,7 +15,9 @@ use Rattle.sf_format.specs.declared.unit.PrintConv.{PrintConv}
 use Rattle.sf_format.specs.declared.unit.Unit.{Unit as PrintUnit}
 use Rattle.sf_format.specs.declared.unit.Unit.TheVariants as unit
 use Rattle.sf_format.specs.Units.{IsProperConv, IsProperUnit, AreProperUnits}
-use Rattle.sf_print.specs.Text.{base_of, is_upper, is_octal, base_mark, integer_text, bytes_text, shown_bytes, first_bytes, value_text, sign, mark, prefix, numeral, all_digits, filled, least_digits, opens_with_zero, blanks, zeros, left_blanks, inner_zeros, right_blanks, pads_with_zeros, short_by}
+use Rattle.sf_print.specs.Text.{base_of, is_upper, is_octal, base_mark, integer_text, bytes_text, shown_bytes, first_bytes, value_text}
+use Rattle.sf_print.specs.Text.{sign, mark, prefix, numeral, all_digits, filled, least_digits, opens_with_zero, blanks, zeros, left_blanks}
+use Rattle.sf_print.specs.Text.{inner_zeros, right_blanks, pads_with_zeros, short_by}
 use Rattle.sf_print.specs.Printed.{value_at, text_or_none, unit_text, printed, most_bytes, length_or_fault}
 use Rattle.sf_print.specs.declared.fault.PrintFault.{PrintFault}
 use Rattle.sf_print.specs.declared.fault.PrintFault.TheVariants as fault

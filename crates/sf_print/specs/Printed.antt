@@ -1,5 +1,6 @@
 -- The printed text of a format and values, and what is refused. (C11 7.21.6.1, paragraphs 2 to 4 and 9)
-use Rattle.std.specs.Prelude.{◌≡◌, ◌<◌, take, ℕ, ◌-◌, Bool, true, false, ◌==◌, nat_le, not, if◌then◌else◌, List, [], ◌∷◌, length, slice_get, fold, Option, Some, None, Result, Ok, Err}
+use Rattle.std.specs.Prelude.{◌≡◌, ◌<◌, take, ℕ, ◌-◌, Bool, true, false, ◌==◌, nat_le, not, if◌then◌else◌, List, [], ◌∷◌, length, slice_get}
+use Rattle.std.specs.Prelude.{fold, Option, Some, None, Result, Ok, Err}
 use Rattle.std.specs.List.{flat_map}
 use Rattle.std.specs.Io.KnownBytes.{Appends}
 use Rattle.sf_base.specs.declared.values.Kind.{Kind}

@@ -1,5 +1,6 @@
 -- The text that a conversion of a print format makes of a value. (C11 7.21.6.1, paragraphs 4 to 8)
-use Rattle.std.specs.Prelude.{ℕ, ◌+◌, ◌-◌, ℤ, pos, negsuc, Bool, true, false, ◌==◌, ◌&&◌, not, if◌then◌else◌, List, [], ◌∷◌, ◌++◌, length, take, replicate, slice_index, unsigned_abs, Option, Some, None, unwrap_or, is_none}
+use Rattle.std.specs.Prelude.{ℕ, ◌+◌, ◌-◌, ℤ, pos, negsuc, Bool, true, false, ◌==◌, ◌&&◌, not, if◌then◌else◌, List, [], ◌∷◌, ◌++◌, length}
+use Rattle.std.specs.Prelude.{take, replicate, slice_index, unsigned_abs, Option, Some, None, unwrap_or, is_none}
 use Rattle.std.specs.Fmt.{digits}
 use Rattle.sf_base.specs.Data.{Datum}
 pub use Rattle.sf_base.specs.Data.{with_sign}

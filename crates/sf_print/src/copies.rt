@@ -31,19 +31,23 @@ fn copy_ends(bytes: &[u8], width: usize, buf: &mut [u8], at: usize)
     copy_part(&bytes[len - width..], buf, end - width);
 }
 
-/// Copies at most sixteen bytes over a part of a buffer.
+/// Copies at most sixteen bytes over a part of a buffer. Longer ones are asked for first, as most words have four
+/// letters and more.
 #[inline(always)]
 fn copy_short(bytes: &[u8], buf: &mut [u8], at: usize)
     requires short { length bytes.now ≤ 16 }
     requires room { at + length bytes.now ≤ length buf.old }
     ensures { buf.new ≡ take at buf.old ++ (bytes.now ++ drop (at + length bytes.now) buf.old) }
 {
-    match bytes.len() {
-        8.. => copy_ends(bytes, 8, buf, at),
-        4..=7 => copy_ends(bytes, 4, buf, at),
-        2..=3 => copy_ends(bytes, 2, buf, at),
-        1 => copy_ends(bytes, 1, buf, at),
-        0 => {}
+    let len = bytes.len();
+    if len >= 8 {
+        copy_ends(bytes, 8, buf, at);
+    } else if len >= 4 {
+        copy_ends(bytes, 4, buf, at);
+    } else if len >= 2 {
+        copy_ends(bytes, 2, buf, at);
+    } else if len == 1 {
+        copy_ends(bytes, 1, buf, at);
     }
 }
 

@@ -1,13 +1,13 @@
-//! Decimal digits, two at a time.
-ghost use Rattle.std.specs.Prelude.{◌≡◌, ◌+◌, ◌<◌, ◌≤◌, ◌++◌, length, take, OnOk, OnErr};
+//! Decimal digits, three or two at a time.
+ghost use Rattle.std.specs.Prelude.{◌≡◌, ◌+◌, ◌<◌, ◌≤◌, ◌++◌, [], ◌∷◌, length, take, OnOk, OnErr};
 ghost use Rattle.std.specs.Fmt.{decimal};
-ghost use Rattle.sf_print.specs.Decimals.{two_digits, four_digits, eight_digits};
+ghost use Rattle.sf_print.specs.Decimals.{two_digits, three_digits, four_digits, eight_digits};
 ghost use Rattle.sf_print.specs.Plain.{minus};
 
+use crate::copies::copy_over;
+use crate::triples::TRIPLES;
+use sf_base::pair_of;
 use std::alloc::AllocError;
-
-static PAIRS: [u8; 200] =
-    *b"00010203040506070809101112131415161718192021222324252627282930313233343536373839404142434445464748495051525354555657585960616263646566676869707172737475767778798081828384858687888990919293949596979899";
 
 /// A minus, and room after it for the digits of any number.
 const MINUS_AND_ROOM: [u8; 24] = [b'-'; 24];
@@ -18,16 +18,34 @@ fn write_pair(pair: u64, buf: &mut [u8], at: usize)
     requires { (pair < 100) × (at + 2 ≤ length buf.old) }
     ensures { take (at + 2) buf.new ≡ take at buf.old ++ two_digits pair }
 {
-    let from = pair as usize * 2;
-    let (tens, ones) = (PAIRS[from], PAIRS[from + 1]);
+    let (tens, ones) = pair_of(pair);
     buf[at] = tens;
     buf[at + 1] = ones;
 }
 
-/// Writes the digits of a number below 100 from a place on, and answers where they end.
+/// The three digits of a number, with zeros in front, and a byte after them.
+#[inline(always)]
+fn triple_of(three: u64) -> [u8; 4]
+    requires { three < 1000 }
+    ensures { result ≡ three_digits three ++ 48 ∷ [] }
+{
+    TRIPLES[three as usize]
+}
+
+/// Writes three digits, with zeros in front, and a byte after them that is of no account.
+#[inline(always)]
+fn put_three(three: u64, buf: &mut [u8], at: usize)
+    requires { (three < 1000) × (at + 4 ≤ length buf.old) }
+    ensures { take (at + 3) buf.new ≡ take at buf.old ++ three_digits three }
+{
+    copy_over(&triple_of(three), buf, at);
+}
+
+/// Writes the digits of a number below 1000 from a place on, and answers where they end. A byte after them is of no
+/// account.
 #[inline(always)]
 fn put_first(number: u64, buf: &mut [u8], at: usize) -> usize
-    requires { (number < 100) × (at + length (decimal number) ≤ length buf.old) }
+    requires { (number < 1000) × (at + length (decimal number) < length buf.old) }
     ensures end { result ≡ at + length (decimal number) }
     ensures written { take result buf.new ≡ take at buf.old ++ decimal number }
 {
@@ -35,23 +53,27 @@ fn put_first(number: u64, buf: &mut [u8], at: usize) -> usize
         buf[at] = b'0' + number as u8;
         return at + 1;
     }
-    write_pair(number, buf, at);
-    at + 2
+    if number < 100 {
+        write_pair(number, buf, at);
+        return at + 2;
+    }
+    put_three(number, buf, at);
+    at + 3
 }
 
-/// Writes the digits of a number below 10000.
+/// Writes the digits of a number below 1000000.
 #[inline(always)]
 fn put_short(number: u64, buf: &mut [u8], at: usize) -> usize
-    requires { (number < 10000) × (at + length (decimal number) ≤ length buf.old) }
+    requires { (number < 1000000) × (at + length (decimal number) < length buf.old) }
     ensures end { result ≡ at + length (decimal number) }
     ensures written { take result buf.new ≡ take at buf.old ++ decimal number }
 {
-    if number < 100 {
+    if number < 1000 {
         return put_first(number, buf, at);
     }
-    let end = put_first(number / 100, buf, at);
-    write_pair(number % 100, buf, end);
-    end + 2
+    let end = put_first(number / 1000, buf, at);
+    put_three(number % 1000, buf, end);
+    end + 3
 }
 
 /// Writes four digits, with zeros in front.
@@ -64,19 +86,19 @@ fn put_four(four: u64, buf: &mut [u8], at: usize)
     write_pair(four % 100, buf, at + 2);
 }
 
-/// Writes the digits of a number below 100000000.
+/// Writes the digits of a number below 1000000000.
 #[inline(always)]
 fn put_medium(number: u64, buf: &mut [u8], at: usize) -> usize
-    requires { (number < 100000000) × (at + length (decimal number) ≤ length buf.old) }
+    requires { (number < 1000000000) × (at + length (decimal number) < length buf.old) }
     ensures end { result ≡ at + length (decimal number) }
     ensures written { take result buf.new ≡ take at buf.old ++ decimal number }
 {
-    if number < 10_000 {
+    if number < 1_000_000 {
         return put_short(number, buf, at);
     }
-    let end = put_short(number / 10_000, buf, at);
-    put_four(number % 10_000, buf, end);
-    end + 4
+    let end = put_short(number / 1000, buf, at);
+    put_three(number % 1000, buf, end);
+    end + 3
 }
 
 /// Writes eight digits, with zeros in front.
@@ -88,16 +110,29 @@ fn put_eight(eight: u64, buf: &mut [u8], at: usize)
     put_four(eight % 10_000, buf, at + 4);
 }
 
-/// Writes the digits of a number below 1000000000000.
+/// Writes the digits of a number below 100000000000000000. A byte after them is of no account.
+#[inline(always)]
 fn put_high(number: u64, buf: &mut [u8], at: usize) -> usize
-    requires { (number < 1000000000000) × (at + length (decimal number) ≤ length buf.old) }
+    requires { (number < 100000000000000000) × (at + length (decimal number) < length buf.old) }
     ensures end { result ≡ at + length (decimal number) }
     ensures written { take result buf.new ≡ take at buf.old ++ decimal number }
 {
-    if number < 100_000_000 {
+    if number < 1_000_000_000 {
         return put_medium(number, buf, at);
     }
-    let end = put_short(number / 100_000_000, buf, at);
+    let end = put_medium(number / 100_000_000, buf, at);
+    put_eight(number % 100_000_000, buf, end);
+    end + 8
+}
+
+/// Writes the digits of a number of ten digits at least. It is a call of its own, so that others don't pay for it.
+#[inline(never)]
+fn put_long(number: u64, buf: &mut [u8], at: usize) -> usize
+    requires { (1000000000 ≤ number) × (at + length (decimal number) ≤ length buf.old) }
+    ensures end { result ≡ at + length (decimal number) }
+    ensures written { take result buf.new ≡ take at buf.old ++ decimal number }
+{
+    let end = put_high(number / 100_000_000, buf, at);
     put_eight(number % 100_000_000, buf, end);
     end + 8
 }
@@ -105,16 +140,18 @@ fn put_high(number: u64, buf: &mut [u8], at: usize) -> usize
 /// Writes the decimal digits of a number from a place on, and answers where they end.
 #[inline(always)]
 pub(crate) fn write_decimal(number: u64, buf: &mut [u8], at: usize) -> usize
-    requires { at + length (decimal number) ≤ length buf.old }
+    requires digits { at + length (decimal number) ≤ length buf.old }
+    requires room { at + 10 ≤ length buf.old }
     ensures end { result ≡ at + length (decimal number) }
     ensures written { take result buf.new ≡ take at buf.old ++ decimal number }
 {
-    if number < 100_000_000 {
+    if number < 1_000_000 {
+        return put_short(number, buf, at);
+    }
+    if number < 1_000_000_000 {
         return put_medium(number, buf, at);
     }
-    let end = put_high(number / 100_000_000, buf, at);
-    put_eight(number % 100_000_000, buf, end);
-    end + 8
+    put_long(number, buf, at)
 }
 
 /// Writes a minus, if there is one, and the decimal digits of a number from a place on, and answers where they end.

@@ -1,5 +1,6 @@
 //! Pieces of text on their way to a sink.
-ghost use Rattle.std.specs.Prelude.{◌≡◌, ◌≤◌, ◌<◌, ◌+◌, ◌^◌, ◌++◌, ◌∷◌, [], replicate, length, OnOk, is_err, if◌then◌else◌};
+ghost use Rattle.std.specs.Prelude.{◌≡◌, ◌≤◌, ◌<◌, ◌+◌, ◌^◌, ◌++◌, ◌∷◌, [], replicate, length, OnOk, is_err};
+ghost use Rattle.std.specs.Prelude.{if◌then◌else◌};
 ghost use Rattle.std.specs.Fmt.{decimal};
 ghost use Rattle.sf_print.specs.Sinks.{counted_on};
 ghost use Rattle.sf_print.specs.Handed.{Hands};

@@ -1,7 +1,7 @@
 //! Texts of values, written in place.
 ghost use Rattle.std.specs.Prelude.{◌≡◌, ◌≤◌, ◌+◌, ◌++◌, length, map, take, IfSome, IsSome, None};
 ghost use Rattle.std.specs.List.{flat_map};
-ghost use Rattle.sf_base.specs.Data.{datum_of, datum_of_shown};
+ghost use Rattle.sf_base.specs.Data.{Bytes, datum_of, datum_of_number, datum_of_shown};
 ghost use Rattle.sf_print.specs.Floats.{real_of, real_text};
 ghost use Rattle.sf_print.specs.Printed.{printed, unit_text};
 ghost use Rattle.sf_print.specs.Runs.{piece_bytes};
@@ -17,7 +17,7 @@ use crate::piece::Piece;
 use crate::plain::is_plain_conv;
 use crate::text::value_pieces;
 use crate::visible::visible_bytes;
-use sf_base::{Real, Shown, Value};
+use sf_base::{Number, Real, Shown, Value};
 use sf_format::{PrintConv, Unit};
 
 /// A minus and the digits of any number.
@@ -132,6 +132,44 @@ fn write_padded(conv: &PrintConv, value: &Value<'_>, buf: &mut [u8], at: usize) 
     let mut digits = [0; DIGIT_BYTES];
     let pieces = value_pieces(conv, *value, &mut digits);
     write_pieces(&pieces, buf, at)
+}
+
+/// Writes the text that the conversion prints of a number, where that is a minus and decimal digits alone, from a place
+/// on, and answers where it ends. None where it isn't, or where there may be no room.
+#[inline(always)]
+pub fn write_plain_number(
+    conv: &PrintConv,
+    number: Number,
+    buf: &mut [u8],
+    at: usize,
+) -> Option<usize>
+    requires { at ≤ length buf.old }
+    ensures within { IfSome result (λ end. end ≤ length buf.new) }
+    ensures written { IfSome result (λ end. take end buf.new
+        ≡ take at buf.old ++ value_text conv.now (datum_of_number number)) }
+    ensures before { take at buf.new ≡ take at buf.old }
+{
+    if !is_plain_conv(conv) || buf.len() - at < NUMBER_BYTES {
+        return None;
+    }
+    Some(write_number(number.negative, number.magnitude, buf, at))
+}
+
+/// Writes bytes that the conversion prints as they are from a place on, and answers where they end. None where it
+/// prints them otherwise, or where there is no room.
+#[inline(always)]
+pub fn write_plain_bytes(conv: &PrintConv, bytes: &[u8], buf: &mut [u8], at: usize) -> Option<usize>
+    requires { at ≤ length buf.old }
+    ensures within { IfSome result (λ end. end ≤ length buf.new) }
+    ensures written { IfSome result (λ end. take end buf.new ≡ take at buf.old ++ bytes.now) }
+    ensures plain { IfSome result (λ _. value_text conv.now (Bytes bytes.now) ≡ bytes.now) }
+    ensures before { take at buf.new ≡ take at buf.old }
+{
+    if conv.width > 0 || conv.precision.is_some() || buf.len() - at < bytes.len() {
+        return None;
+    }
+    copy_over(bytes, buf, at);
+    Some(at + bytes.len())
 }
 
 /// Writes the text that the conversion prints of a value from a place on, and answers where it ends (C11 7.21.6.1). It

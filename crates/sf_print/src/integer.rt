@@ -3,7 +3,9 @@ ghost use Rattle.std.specs.Prelude.{◌≡◌, ◌+◌, ◌<◌, ◌≤◌, ◌^
 ghost use Rattle.std.specs.Fmt.{digits};
 ghost use Rattle.std.specs.List.{flat_map, slice_range};
 ghost use Rattle.sf_print.specs.Runs.{piece_bytes};
-ghost use Rattle.sf_print.specs.Text.{integer_text, with_sign, sign, mark, base_of, is_upper, is_octal, numeral, pads_with_zeros, least_digits, with_octal_zero, filled, left_blanks, inner_zeros, right_blanks};
+ghost use Rattle.sf_print.specs.Text.{integer_text, with_sign, sign, mark, base_of, is_upper, is_octal, numeral};
+ghost use Rattle.sf_print.specs.Text.{pads_with_zeros, least_digits, with_octal_zero, filled, left_blanks, inner_zeros};
+ghost use Rattle.sf_print.specs.Text.{right_blanks};
 
 use crate::decimal::write_decimal;
 use crate::numeral::write_digits;

@@ -1,7 +1,8 @@
 //! What is refused before anything is printed.
 ghost use Rattle.std.specs.Prelude.{◌≡◌, map, MatchOption, Some, None};
 ghost use Rattle.sf_base.specs.Data.{datum_of};
-ghost use Rattle.sf_print.specs.Printed.{same_kind, is_printed_as, suits, value_fault, value_at, fault_or_none, unit_fault, slot_of, lower, lowest_fault};
+ghost use Rattle.sf_print.specs.Printed.{same_kind, is_printed_as, suits, value_fault, value_at, fault_or_none};
+ghost use Rattle.sf_print.specs.Printed.{unit_fault, slot_of, lower, lowest_fault};
 
 use crate::fault::PrintFault;
 use sf_base::{Kind, Value};

@@ -21,6 +21,7 @@ mod sink;
 mod stage;
 mod std_sink;
 mod text;
+mod triples;
 mod visible;
 
 pub use copies::copy_over;
@@ -28,7 +29,7 @@ pub use decimal::{push_number, write_number};
 pub use fault::PrintFault;
 pub use given::fprint_given;
 pub use handing::write_text;
-pub use in_place::{write_value, write_visible};
+pub use in_place::{write_plain_bytes, write_plain_number, write_value, write_visible};
 pub use judging::value_of_slot;
 pub use list_sink::ListSink;
 pub use print::{fprint, printed_len};

@@ -1,7 +1,10 @@
 //! Texts of values that are written in place, and texts that a sink is handed.
-use sf_base::Value;
+use sf_base::{Number, Shown, Value};
 use sf_format::{PrintConv, PrintFormat, Profile, Unit};
-use sf_print::{ListSink, PrintFault, ScriptSink, WriteStep, visible_len, write_text, write_value};
+use sf_print::{
+    ListSink, PrintFault, ScriptSink, WriteStep, visible_len, write_plain_bytes,
+    write_plain_number, write_text, write_value,
+};
 use sf_rows::is;
 use std::alloc::Global;
 use std::test::Fail;
@@ -53,6 +56,55 @@ fn is_written(alloc: Global, row: &Row) -> Result<(), Fail> {
 fn values_are_written_in_place(rt: HostRuntime) -> Result<(), Fail> {
     for row in &ROWS {
         is_written(rt.alloc(), row)?;
+    }
+    Ok(())
+}
+
+/// A conversion, and what it prints of -12 where that is a minus and digits alone.
+static PLAIN_NUMBERS: [(&[u8], Option<&[u8]>); 5] = [
+    (b"%d", Some(b"-12")),
+    (b"%5d", None),
+    (b"%+d", None),
+    (b"% d", None),
+    (b"%.3d", None),
+];
+
+/// A conversion, and what it prints of the bytes `abcd` where it prints bytes as they are.
+static PLAIN_BYTES: [(&[u8], Option<&[u8]>); 3] = [
+    (b"%s", Some(b"abcd")),
+    (b"%5s", None),
+    (b"%.3s", None),
+];
+
+fn minus_twelve() -> Option<Number> {
+    match Value::I32(-12).shown() {
+        Shown::Number(number) => Some(number),
+        Shown::Text(_) | Shown::Real(_) => None,
+    }
+}
+
+/// What was written up to this end, after two bytes.
+fn written(buf: &[u8], end: Option<usize>) -> Option<&[u8]> {
+    buf.get(2..end?)
+}
+
+#[test]
+fn plain_values_are_written_in_place(rt: HostRuntime) -> Result<(), Fail> {
+    let number = minus_twelve().ok_or("no number")?;
+    for (text, wanted) in &PLAIN_NUMBERS {
+        let format = PrintFormat::parse(rt.alloc(), Profile::One, text)?;
+        let conv = conversion(&format).ok_or("not one conversion")?;
+        let mut buf = [b'|'; ROOM];
+        let end = write_plain_number(&conv, number, &mut buf, 2);
+        is(&written(&buf, end), wanted, text)?;
+    }
+    for (text, wanted) in &PLAIN_BYTES {
+        let format = PrintFormat::parse(rt.alloc(), Profile::One, text)?;
+        let conv = conversion(&format).ok_or("not one conversion")?;
+        let mut buf = [b'|'; 6];
+        let end = write_plain_bytes(&conv, b"abcd", &mut buf, 2);
+        is(&written(&buf, end), wanted, text)?;
+        is(&write_plain_bytes(&conv, b"abcd", &mut buf, 3), &None, text)?;
     }
     Ok(())
 }

@@ -8,7 +8,8 @@ ghost use Rattle.sf_format.specs.Slots.{slot_of};
 ghost use Rattle.sf_format.specs.PrintLetters.{print_row, print_letter_of, print_kind_of, letter_among, float_letters};
 ghost use Rattle.sf_format.specs.PrintGrammar.{IsPrintConv};
 ghost use Rattle.sf_format.specs.Rules.{first_of};
-ghost use Rattle.sf_format.specs.PrintRules.{is_print_left_out, print_letter_rules, flag_rules, foreign_flag, precision_number};
+ghost use Rattle.sf_format.specs.PrintRules.{is_print_left_out, print_letter_rules, flag_rules, foreign_flag};
+ghost use Rattle.sf_format.specs.PrintRules.{precision_number};
 ghost use Rattle.sf_format.specs.Passing.{opening_of, fault_in, Converts};
 
 use crate::directive::Profile;

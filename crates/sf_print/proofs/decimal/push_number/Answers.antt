@@ -26,12 +26,22 @@ behind_minus out before new digits negative start e room is =
 written_back : (n end : ℕ) (buf rest : List ℕ) → n ≡ length buf → take end (take n (buf ++ rest)) ≡ take end buf
 written_back n end buf rest e = ap (take end) (ap (λ (k : ℕ). take k (buf ++ rest)) e ∙ take-append_seam buf rest)
 
-pub write_decimal-end-requires : goal.write_decimal-end-requires
-write_decimal-end-requires c =
+pub write_decimal-end-requires-clause-digits : goal.write_decimal-end-requires-clause-digits
+write_decimal-end-requires-clause-digits c =
     omega (
       arith,
       at_most_one c.args.negative,
       length_at_most c.args.magnitude c.ranges.magnitude.fits,
+      c.len.ensures,
+      c.in_ok-extend_from_slice.ensures.len,
+      c.deref_mut.ensures.len,
+    )
+
+pub write_decimal-end-requires-clause-room : goal.write_decimal-end-requires-clause-room
+write_decimal-end-requires-clause-room c =
+    omega (
+      arith,
+      at_most_one c.args.negative,
       c.len.ensures,
       c.in_ok-extend_from_slice.ensures.len,
       c.deref_mut.ensures.len,

@@ -1,23 +1,31 @@
 use Rattle.std.proofs.Common.{arith}
-use Rattle.sf_print.proofs.FourDigits.{decimal_eight, length_eight, behind}
+use Rattle.sf_print.proofs.FourDigits.{behind, decimal_eight, length_eight}
 use Rattle.sf_print.proofs.decimal.put_high.Goals as goal
 
-pub put_short-end-requires : goal.put_short-end-requires
-put_short-end-requires c = (omega arith, omega (arith, length_eight c.args.number c.if-number-lt100000000.false (omega arith)))
+pub put_medium-end-requires : goal.put_medium-end-requires
+put_medium-end-requires c = (
+  omega arith,
+  omega (arith, length_eight c.args.number (omega (arith, c.if-number-lt1000000000.false)) (omega (arith, c.ranges.number.fits))),
+)
 
 pub put_eight-requires : goal.put_eight-requires
 put_eight-requires c = (
   omega arith,
   omega (
     arith,
-    length_eight c.args.number c.if-number-lt100000000.false (omega arith),
-    c.put_short-end.ensures.end,
+    length_eight c.args.number (omega (arith, c.if-number-lt1000000000.false)) (omega (arith, c.ranges.number.fits)),
+    c.put_medium-end.ensures.end,
   ),
 )
 
 pub returns-clause-end : goal.returns-clause-end
-returns-clause-end c = omega (arith, length_eight c.args.number c.if-number-lt100000000.false (omega arith), c.put_short-end.ensures.end)
+returns-clause-end c =
+    omega (
+      arith,
+      length_eight c.args.number (omega (arith, c.if-number-lt1000000000.false)) (omega (arith, c.ranges.number.fits)),
+      c.put_medium-end.ensures.end,
+    )
 
 pub returns-clause-written : goal.returns-clause-written
-returns-clause-written c = behind _ _ _ _ _ _ c.put_eight.ensures c.put_short-end.ensures.written
-    (decimal_eight c.args.number c.if-number-lt100000000.false (omega arith))
+returns-clause-written c = behind _ _ _ _ _ _ c.put_eight.ensures c.put_medium-end.ensures.written
+    (decimal_eight c.args.number (omega (arith, c.if-number-lt1000000000.false)) (omega (arith, c.ranges.number.fits)))

@@ -1,4 +1,5 @@
-use Rattle.std.proofs.Common.{◌≡◌, ℕ, ◌+◌, ◌<◌, ◌≤◌, Bool, true, false, List, ◌++◌, length, take, set, refl, sym, ap, ◌∙◌, arith, length-append, length-set}
+use Rattle.std.proofs.Common.{◌≡◌, ℕ, ◌+◌, ◌<◌, ◌≤◌, Bool, true, false, List, ◌++◌, length, take, set, refl, sym, ap, ◌∙◌, arith}
+use Rattle.std.proofs.Common.{length-append, length-set}
 use Rattle.std.proofs.lemmas.List.{take_more_set, take-set, append-nil}
 use Rattle.std.specs.Fmt.{decimal}
 use mir.Val.{bool_byte}
@@ -21,13 +22,16 @@ minus_set false buf at within =
     let none : at + 0 ≡ at = omega arith in
     ap (λ (k : ℕ). take k (set buf at 45)) none ∙ take-set buf at 45 ∙ sym (append-nil (take at buf))
 
-pub write_decimal-requires : goal.write_decimal-requires
-write_decimal-requires c = omega (
+pub write_decimal-requires-clause-digits : goal.write_decimal-requires-clause-digits
+write_decimal-requires-clause-digits c = omega (
   arith,
   at_most_one c.args.negative,
   length_at_most c.args.magnitude c.ranges.magnitude.fits,
   length-set c.args.buf.now c.args.at 45,
 )
+
+pub write_decimal-requires-clause-room : goal.write_decimal-requires-clause-room
+write_decimal-requires-clause-room c = omega (arith, at_most_one c.args.negative, length-set c.args.buf.now c.args.at 45)
 
 pub returns-clause-end : goal.returns-clause-end
 returns-clause-end c = omega (arith, length-append (minus c.args.negative) (decimal c.args.magnitude), length_minus c.args.negative)

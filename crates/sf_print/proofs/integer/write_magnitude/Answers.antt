@@ -17,8 +17,8 @@ write_digits-requires-in-HexUpper-clause-room c = (length_most _ _ _, omega arit
 pub write_digits-requires-in-Binary-clause-room : goal.write_digits-requires-in-Binary-clause-room
 write_digits-requires-in-Binary-clause-room c = (length_most _ _ _, omega arith)
 
-pub write_decimal-requires : goal.write_decimal-requires
-write_decimal-requires c = omega (arith, length_most 10 false c.args.magnitude)
+pub write_decimal-requires-clause-digits : goal.write_decimal-requires-clause-digits
+write_decimal-requires-clause-digits c = omega (arith, length_most 10 false c.args.magnitude)
 
 pub returns-in-Octal-clause-written : goal.returns-in-Octal-clause-written
 returns-in-Octal-clause-written c =

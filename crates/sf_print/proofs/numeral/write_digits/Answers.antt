@@ -1,4 +1,5 @@
-use Rattle.std.proofs.Common.{◌≡◌, ◌≤◌, ◌+◌, ◌++◌, ◌-◌, ◌/◌, ◌%◌, ◌∷◌, [], List, length, take, drop, set, ℕ, arith, ap, sym, ◌∙◌, append_assoc, take-take}
+use Rattle.std.proofs.Common.{◌≡◌, ◌≤◌, ◌+◌, ◌++◌, ◌-◌, ◌/◌, ◌%◌, ◌∷◌, [], List, length, take, drop, set, ℕ, arith, ap, sym, ◌∙◌}
+use Rattle.std.proofs.Common.{append_assoc, take-take}
 use Rattle.std.specs.Fmt.{digits, digit_glyph}
 use Rattle.std.proofs.lemmas.List.{take-set, drop-set}
 use Rattle.sf_print.proofs.Digits.{digits_one, digits_step, length_some, length_step}

@@ -7,7 +7,8 @@ use Rattle.sf_format.specs.Rules.{slot_rules}
 use Rattle.sf_format.specs.Passing.{opening_of, fault_of, is_set, rest_behind, slot_at, Holds}
 use Rattle.sf_format.proofs.Destinations.{slot_there}
 use Rattle.sf_format.proofs.Suits.{bracket_is}
-use Rattle.sf_format.proofs.Passages.{first_left, rest_first, number_bound, listed_forward, letter_rest, letter_destination, match_map, made_means}
+use Rattle.sf_format.proofs.Passages.{first_left, rest_first, number_bound, listed_forward, letter_rest, letter_destination, match_map}
+use Rattle.sf_format.proofs.Passages.{made_means}
 use Rattle.sf_format.proofs.scan.grammar.ScanGrammarGrammar.pass_letter.Goals as goal
 
 pub returns-in_err-found : goal.returns-in_err-found
