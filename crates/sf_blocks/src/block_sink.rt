@@ -1,5 +1,6 @@
 //! A writer with a block of bytes in front of it.
-ghost use Rattle.std.specs.Prelude.{◌≡◌, ◌≤◌, ◌<◌, ◌+◌, ◌++◌, ◌||◌, false, true, [], length, take, Option, List, ℕ, None, Some, Ok, OnErr, OnOk, IfOk, IfErr, IfSome, IsNone, IsSome, is_err};
+ghost use Rattle.std.specs.Prelude.{◌≡◌, ◌≤◌, ◌<◌, ◌+◌, ◌++◌, ◌||◌, false, true, [], length, take, Option, List, ℕ};
+ghost use Rattle.std.specs.Prelude.{None, Some, Ok, OnErr, OnOk, IfOk, IfErr, IfSome, IsNone, IsSome, is_err};
 ghost use Rattle.std.specs.Bool.{OnTrue, OnFalse};
 ghost use Rattle.std.specs.Io.{WritesAtMost};
 ghost use Rattle.std.specs.Io.KnownBytes.{Appends, Keeps, WriteAppends};
@@ -35,7 +36,8 @@ pub struct BlockSink<W: Write + Drop> {
 }
 
 impl<W: Write + Drop> BlockSink<W> {
-    ghost use Rattle.sf_blocks.specs.Blocks.{HoldsNothing, has_failed_flush, last_error_of, room_of, taken_by, waiting_in, writer_of};
+    ghost use Rattle.sf_blocks.specs.Blocks.{HoldsNothing, has_failed_flush, last_error_of, room_of, taken_by};
+    ghost use Rattle.sf_blocks.specs.Blocks.{waiting_in, writer_of};
 
     /// Nothing waits in the block.
     fn over(writer: W, block: Vec<u8>) -> BlockSink<W>
@@ -261,7 +263,8 @@ fn write_after<T: TextInPlace>(text: &T, block: &mut [u8], end: usize) -> Option
 impl<W: Write + Drop> Sink for BlockSink<W> {
     ghost use Rattle.sf_print.specs.Sinks.{counted_on};
     ghost use Rattle.std.specs.Prelude.{if◌then◌else◌};
-    ghost use Rattle.sf_blocks.specs.Blocks.{HoldsNothing, TakesShort, has_failed_flush, last_error_of, room_of, taken_by, writer_of};
+    ghost use Rattle.sf_blocks.specs.Blocks.{HoldsNothing, TakesShort, has_failed_flush, last_error_of, room_of};
+    ghost use Rattle.sf_blocks.specs.Blocks.{taken_by, writer_of};
 
     ghost contents = { taken_by };
 

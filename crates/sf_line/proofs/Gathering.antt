@@ -4,14 +4,14 @@ use Rattle.std.proofs.Common.{Option, Some, None, Result, Ok, Err, IfOk, IfErr, 
 use Rattle.std.proofs.Common.{arith, append_assoc, length-append, true≢false}
 use Rattle.std.proofs.lemmas.Bool.{cases_order}
 use Rattle.std.proofs.lemmas.Bool.Decides.{nat_tests}
-use Rattle.std.proofs.lemmas.List.{take_all, take-append-le, length-take, length-take-le}
+use Rattle.std.proofs.lemmas.List.{take_all, take-append-drop, take-append-le, length-take, length-take-le}
 use Rattle.std.proofs.Math.Nat.{min-le_left}
 use Rattle.std.proofs.KnownBytes.{Consumes-trans, Consumes-nil}
 use Rattle.std.specs.Io.KnownBytes.{Consumes, IsAtEnd, prepend_known}
 use Rattle.sf_read.specs.Ahead.{Ahead, input_of}
 use Rattle.sf_line.specs.declared.line.LineRead.TheVariants.{Line, TooLong, End}
 use Rattle.sf_line.specs.Cut.{IsLine}
-use Rattle.sf_line.specs.Reading.{Loses, Took, TookPart, Reads, endless}
+use Rattle.sf_line.specs.Reading.{Loses, Outgrows, Took, TookPart, Reads, endless}
 use Rattle.sf_line.proofs.Cutting.{line_append}
 
 -- ---- the first bytes of a line
@@ -80,6 +80,17 @@ loses to_come now new bytes held source = by (to_come now.source) (to_come new.s
     by None b e = tt
     by (Some xs) None e = absurd (cc)
     by (Some xs) (Some ys) e = let same : ys ≡ xs = cc in rw (held, same) (append_assoc bytes new.held xs)
+
+-- an input that lost bytes, and then holds more, begins with all of them
+begins_with : (a b : Option (List ℕ)) (seen held front rest : List ℕ) → Consumes a (prepend_known held b) seen → held ≡ front ++ rest
+    → (t : List ℕ) → a ≡ Some t → take (length (seen ++ front)) t ≡ seen ++ front
+begins_with a None seen held front rest h is t e = absurd (subst (λ (o : Option (List ℕ)). Consumes o None seen) e h)
+begins_with a (Some xs) seen held front rest h is t e =
+    let whole : t ≡ seen ++ (held ++ xs) = subst (λ (o : Option (List ℕ)). Consumes o (Some (held ++ xs)) seen) e h in
+    let parts : t ≡ (seen ++ front) ++ (rest ++ xs) = whole ∙ ap (λ (y : List ℕ). seen ++ (y ++ xs)) is
+    ∙ ap (λ (y : List ℕ). seen ++ y) (append_assoc front rest xs) ∙ sym (append_assoc seen front (rest ++ xs)) in
+    ap (take (length (seen ++ front))) parts ∙ take-append-le (length (seen ++ front)) (seen ++ front) (rest ++ xs) (omega arith)
+    ∙ take_all (length (seen ++ front)) (seen ++ front) (omega arith)
 
 -- nothing is held, and nothing is to come
 pub known_end : {S : Type 0} (to_come : S → Option (List ℕ)) (now : Ahead S) → now.held ≡ [] → IsAtEnd (to_come now.source)
@@ -165,6 +176,19 @@ module _ {S : Type 0} {to_come : S → Option (List ℕ)} {old now : Ahead S} {l
             },
             k.1,
           )
+
+  -- there is no room for a piece of the line
+  pub outgrows : (len room size : ℕ) → IsLine (take len now.held) → len ≤ length now.held → size ≡ length line → room < size + len
+      → room < limit → size < limit → Outgrows to_come old limit room
+  outgrows len room size is_piece inside sized longer within few =
+      let all : size ≡ length g.seen = omega (arith, sized, few, ap length g.kept, length-take limit g.seen) in record {
+        front = g.seen ++ take len now.held;
+        is_line = line_append g.seen (take len now.held) g.is_line is_piece;
+        begins = begins_with (input_of to_come old) (to_come now.source) g.seen now.held (take len now.held) (drop len now.held) g.bytes
+            (sym (take-append-drop len now.held));
+        longer = omega (arith, longer, all, length-append g.seen (take len now.held), length-take-le len now.held inside);
+        within = within;
+      }
 
   module _ (len : ℕ) (is_piece : IsLine (take len now.held)) (open' : now.at_end ≡ false) where
     -- how long the line is by then

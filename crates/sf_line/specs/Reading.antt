@@ -1,5 +1,5 @@
 -- What the reading of a line takes from an input.
-use Rattle.std.specs.Prelude.{◌≡◌, ◌≤◌, ◌<◌, ◌^◌, ◌⊎◌, ◌+◌, ℕ, List, [], ◌∷◌, ◌++◌, length, take, drop, Bool, true, false, Option}
+use Rattle.std.specs.Prelude.{◌≡◌, ◌≤◌, ◌<◌, ◌^◌, ◌⊎◌, ◌+◌, ℕ, List, [], ◌∷◌, ◌++◌, length, take, drop, Bool, true, false, Option, Some}
 use Rattle.std.specs.Io.KnownBytes.{Consumes, IsAtEnd}
 use Rattle.sf_read.specs.Ahead.{Ahead, input_of}
 use Rattle.sf_read.specs.Reads.{ReadsWhile}
@@ -28,6 +28,14 @@ pub record IsHeld (held : List ℕ) (len : ℕ) : Type 0 where
   pub within : len < length held
   pub is_line : IsLine (take len held)
   pub ended : held ≡ take len held ++ 10 ∷ drop (len + 1) held
+
+-- the first line of the input has more bytes than there is room for, and so has the limit
+pub record Outgrows {S : Type 0} (to_come : S → Option (List ℕ)) (old : Ahead S) (limit room : ℕ) : Type 0 where
+  pub front : List ℕ
+  pub is_line : IsLine front
+  pub begins : (t : List ℕ) → input_of to_come old ≡ Some t → take (length front) t ≡ front
+  pub longer : room < length front
+  pub within : room < limit
 
 -- the most bytes of a line that is counted
 abbrev pub endless : ℕ

@@ -1,11 +1,12 @@
 //! Lines of a source.
-ghost use Rattle.std.specs.Prelude.{◌≡◌, ◌==◌, ◌≤◌, ◌<◌, ◌+◌, ◌++◌, ◌∷◌, ◌⊎◌, true, false, ℕ, List, length, map, take, drop};
-ghost use Rattle.std.specs.Prelude.{vec_capacity, vec_len, IfOk, IfSome, IsOk, Some, if◌then◌else◌};
+ghost use Rattle.std.specs.Prelude.{◌≡◌, ◌==◌, ◌≤◌, ◌<◌, ◌+◌, ◌++◌, ◌∷◌, ◌⊎◌, true, false, ℕ, List, length, map, take};
+ghost use Rattle.std.specs.Prelude.{drop};
+ghost use Rattle.std.specs.Prelude.{vec_capacity, vec_len, IfErr, IfOk, IfSome, Some, if◌then◌else◌};
 ghost use Rattle.memchr.specs.Find.{IsFirstByte, is_byte};
 ghost use lib.Lanes.{chunk, mask_l};
 ghost use Rattle.sf_read.specs.Counts.{counted_on};
 ghost use Rattle.sf_line.specs.Cut.{IsLine};
-ghost use Rattle.sf_line.specs.Reading.{IsHeld, Reads, UsesLine, is_failed};
+ghost use Rattle.sf_line.specs.Reading.{IsHeld, Outgrows, Reads, UsesLine, is_failed};
 
 use memchr::memchr;
 use sf_read::{Lookahead, Source};
@@ -55,8 +56,9 @@ fn gather(
     ensures longer { IfOk result (λ l. l ≡ true → (long ≡ true) ⊎ (limit < vec_len line.old + len)) }
     ensures short { IfOk result (λ l. l ≡ false → (long ≡ false) × (vec_len line.old + len ≤ limit)) }
     ensures front { IfOk result (λ _. line.new.items ≡ take limit (line.old.items ++ take len held.now)) }
-    ensures none { limit ≡ 0 → IsOk result }
-    ensures enough { limit ≤ vec_capacity line.old → IsOk result }
+    ensures refused { IfErr result (λ _. vec_capacity line.old < vec_len line.old + len) }
+    ensures within { IfErr result (λ _. vec_capacity line.old < limit) }
+    ensures room { IfErr result (λ _. vec_len line.old < limit) }
     ensures capacity { vec_capacity line.old ≤ vec_capacity line.new }
 {
     let room = limit - line.len();
@@ -146,6 +148,7 @@ pub fn held_line<S: Source, const N: usize>(from: &Lookahead<S, N>, limit: usize
 /// Reads the next line of what the lookahead holds and its source gives, without its newline, in place of what was read
 /// last, as fgets reads one (C11 7.21.7.2). Of a line of more than `limit` bytes these first ones are read, and the
 /// others passed over; by the limit 0 each line is passed over. No memory is taken where the vector has room for
+/// the line, or for
 /// `limit` bytes; where it is refused, the answer is NoMemory, and what was read of the line is lost.
 pub fn next_line<S: Source, const N: usize>(
     from: &mut Lookahead<S, N>,
@@ -156,6 +159,8 @@ pub fn next_line<S: Source, const N: usize>(
     ensures waited { UsesLine S.to_come S.reads N from.old from.new limit line.new.items result }
     ensures failures { S.failures from.new.source
         ≡ (if is_failed result then counted_on (S.failures from.old.source) else S.failures from.old.source) }
+    ensures refused { result ≡ LineRead.NoMemory → Outgrows S.to_come from.old limit (vec_capacity line.old) }
+    ensures capacity { vec_capacity line.old ≤ vec_capacity line.new }
     ensures unkept { limit ≡ 0 → result ≡ LineRead.NoMemory → ⊥ }
     ensures enough { limit ≤ vec_capacity line.old → result ≡ LineRead.NoMemory → ⊥ }
     ensures no_read { from.old.at_end ≡ true → from.new.source ≡ from.old.source }

@@ -1,5 +1,6 @@
 -- What a source with an account of its lines keeps, before and after a read.
-use Rattle.std.proofs.Common.{◌≡◌, ◌∙◌, ◌+◌, ℕ, List, [], ◌++◌, length, take, drop, length-append, length-drop, append_assoc, take-append-drop, Option, None, Some, sym, ap, subst, arith}
+use Rattle.std.proofs.Common.{◌≡◌, ◌∙◌, ◌+◌, ℕ, List, [], ◌++◌, length, take, drop, length-append, length-drop, append_assoc}
+use Rattle.std.proofs.Common.{take-append-drop, Option, None, Some, sym, ap, subst, arith}
 use Rattle.std.specs.Io.KnownBytes.{Consumes}
 use Rattle.sf_places.specs.declared.place.Place.{Place}
 use Rattle.sf_places.specs.Behind.{IsBehind}

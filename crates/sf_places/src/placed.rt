@@ -1,5 +1,6 @@
 //! A source that knows where in its input it is.
-ghost use Rattle.std.specs.Prelude.{◌≡◌, ◌≤◌, ◌++◌, ◌↔◌, [], ℕ, List, Option, Some, IfSome, IsSome, IfOk, IfErr, is_err, if◌then◌else◌, length, take};
+ghost use Rattle.std.specs.Prelude.{◌≡◌, ◌≤◌, ◌++◌, ◌↔◌, [], ℕ, List, Option, Some, IfSome, IsSome, IfOk, IfErr};
+ghost use Rattle.std.specs.Prelude.{is_err, if◌then◌else◌, length, take};
 ghost use Rattle.std.specs.Io.{ReadsAtMost};
 ghost use Rattle.std.specs.Io.KnownBytes.{ReadConsumes};
 ghost use Rattle.sf_read.specs.Counts.{counted_on};

@@ -2,6 +2,7 @@ pub mod Blocks
 pub mod Consuming
 pub mod Ended
 pub mod Endings
+pub mod EndsMoved
 pub mod FloatFields
 pub mod Holding
 pub mod InTurn

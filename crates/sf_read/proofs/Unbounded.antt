@@ -1,5 +1,6 @@
 -- A run that is Done, has used all of its input and ends with an item that can go on would consume some byte next.
-use Rattle.std.proofs.Common.{◌≡◌, ℕ, ◌+◌, ◌-◌, ◌<◌, ◌≤◌, inl, inr, Bool, true, false, cond, List, [], ◌∷◌, ◌++◌, length, take, drop, Option, Some, None, refl, sym, ap, subst, ◌∙◌, arith, lit<, zero, suc, ◌&&◌}
+use Rattle.std.proofs.Common.{◌≡◌, ℕ, ◌+◌, ◌-◌, ◌<◌, ◌≤◌, inl, inr, Bool, true, false, cond, List, [], ◌∷◌, ◌++◌, length, take, drop}
+use Rattle.std.proofs.Common.{Option, Some, None, refl, sym, ap, subst, ◌∙◌, arith, lit<, zero, suc, ◌&&◌}
 use Rattle.std.specs.Prelude.{slice_get, SomeIff}
 use Rattle.std.proofs.lemmas.Bool.{and_from, and_parts}
 use Rattle.std.proofs.lemmas.List.{append-nil, append_assoc, take-append-drop}
@@ -24,8 +25,10 @@ use Rattle.sf_report.specs.Runs.{RunReport, IsOpen, Run}
 use Rattle.sf_report.specs.Limits.{RunWithin}
 use Rattle.sf_report.specs.Laws.{EachDoneRunStays, EachOpenInputIsUsed}
 use Rattle.sf_base.specs.Bytes.{is_white}
-use Rattle.sf_report.specs.Machine.{Stage, Skipping, Taken, Item, shape_skips, item_stepped, stepped, is_full, finished, conversion_finished}
-use Rattle.sf_report.specs.Residual.{stepped_all, Tally, nothing_yet, Part, choose, one_from, with_used, counted, out_of, by_end, then_on, run_of}
+use Rattle.sf_report.specs.Machine.{Stage, Skipping, Taken, Item, shape_skips, item_stepped, stepped, is_full, finished}
+use Rattle.sf_report.specs.Machine.{conversion_finished}
+use Rattle.sf_report.specs.Residual.{stepped_all, Tally, nothing_yet, Part, choose, one_from, with_used, counted, out_of, by_end, then_on}
+use Rattle.sf_report.specs.Residual.{run_of}
 use Rattle.sf_report.proofs.Joined.{one_from-all}
 use Rattle.sf_report.proofs.Machines.{by_option, can_take_one, keeps_all, not_full, some_is}
 use Rattle.sf_report.proofs.Openness.{counted-used, holds_by}

@@ -1,10 +1,7 @@
 -- What sources count.
 use Rattle.std.specs.Prelude.{◌+◌, ◌-◌, ◌^◌, ◌==◌, ℕ, List, min}
 use Rattle.std.specs.List.{count_by}
-
--- one more, up to the greatest number of 64 bits
-abbrev pub counted_on : ℕ → ℕ
-counted_on n = min (n + 1) (2 ^ 64 - 1)
+pub use Rattle.sf_base.specs.Counting.{counted_on}
 
 -- how many newlines there are
 abbrev pub newlines : List ℕ → ℕ

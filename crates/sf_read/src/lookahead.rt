@@ -1,5 +1,6 @@
 //! Bytes that were read ahead.
-ghost use Rattle.std.specs.Prelude.{◌≡◌, ◌≤◌, ◌<◌, ◌⊎◌, ℕ, [], true, false, length, drop, IfOk, IfErr, is_err, if◌then◌else◌};
+ghost use Rattle.std.specs.Prelude.{◌≡◌, ◌≤◌, ◌<◌, ◌⊎◌, ℕ, [], true, false, length, drop, IfOk, IfErr, is_err};
+ghost use Rattle.std.specs.Prelude.{if◌then◌else◌};
 ghost use Rattle.std.specs.Io.KnownBytes.{Consumes, IsAtEnd};
 ghost use Rattle.sf_read.specs.Counts.{counted_on};
 
@@ -68,6 +69,14 @@ impl<S: Source, const N: usize> Lookahead<S, N> {
         ensures { result.now ≡ self.now.source }
     {
         &self.source
+    }
+
+    /// The source, given back. What is held is dropped.
+    pub fn into_source(self) -> S
+        ensures source { result ≡ self.source }
+        ensures few { length self.held ≤ N }
+    {
+        self.source
     }
 
     /// Whether the source has told its end; then nothing is held, and nothing is to come.

@@ -1,5 +1,6 @@
 //! Rows of what a source gives.
-ghost use Rattle.std.specs.Prelude.{◌≡◌, length, ◌≤◌, ◌<◌, ◌+◌, ◌⊎◌, ◌↔◌, ℕ, List, true, false, Some, IfErr, IfOk, IfSome, IsErrOf, IsNone, IsOk, IsSome, unwrap_or, if◌then◌else◌};
+ghost use Rattle.std.specs.Prelude.{◌≡◌, length, ◌≤◌, ◌<◌, ◌+◌, ◌⊎◌, ◌↔◌, ℕ, List, true, false, Some, IfErr, IfOk};
+ghost use Rattle.std.specs.Prelude.{IfSome, IsErrOf, IsNone, IsOk, IsSome, unwrap_or, if◌then◌else◌};
 ghost use Rattle.sf_base.specs.Kept.{nothing_kept};
 ghost use Rattle.sf_format.specs.Proper.{AreKinded, IsAccepted, destinations_of, may_miss};
 ghost use Rattle.sf_format.specs.Widths.{width_sum};

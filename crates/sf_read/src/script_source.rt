@@ -1,5 +1,6 @@
 //! A source that follows a script, for tests.
-ghost use Rattle.std.specs.Prelude.{◌≡◌, ◌≢◌, ◌<◌, ◌++◌, ◌∷◌, [], None, Some, IfOk, IfErr, IsOk, is_err, if◌then◌else◌, length, min, take};
+ghost use Rattle.std.specs.Prelude.{◌≡◌, ◌≢◌, ◌<◌, ◌++◌, ◌∷◌, [], None, Some, IfOk, IfErr, IsOk, is_err, if◌then◌else◌};
+ghost use Rattle.std.specs.Prelude.{length, min, take};
 ghost use Rattle.std.specs.Counts.{IsPrefixLen};
 ghost use Rattle.std.specs.Io.{ReadsAtMost};
 ghost use Rattle.std.specs.Io.KnownBytes.{ReadConsumes};

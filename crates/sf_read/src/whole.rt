@@ -1,5 +1,6 @@
 //! Scans of whole texts.
-ghost use Rattle.std.specs.Prelude.{◌≡◌, ◌<◌, ◌≤◌, ◌+◌, ◌++◌, ◌∷◌, ◌↔◌, ◌⊎◌, ℕ, List, [], length, take, unwrap_or, IfOk, IfErr, IfSome, IsErrOf, IsOk, IsSome, IsTrue};
+ghost use Rattle.std.specs.Prelude.{◌≡◌, ◌<◌, ◌≤◌, ◌+◌, ◌++◌, ◌∷◌, ◌↔◌, ◌⊎◌, ℕ, List, [], length, take, unwrap_or};
+ghost use Rattle.std.specs.Prelude.{IfOk, IfErr, IfSome, IsErrOf, IsOk, IsSome, IsTrue};
 ghost use Rattle.sf_base.specs.Kept.{buffer_of, nothing_kept};
 ghost use Rattle.sf_format.specs.declared.directive.Directive.{Directive};
 ghost use Rattle.sf_format.specs.Proper.{destinations_of};
@@ -48,20 +49,59 @@ fn ends_unbounded(directives: &[Directive]) -> bool
     }
 }
 
+/// Moves a text to the front of the block by its first `W` bytes and its last `W` ones, which may overlap: a move of a
+/// constant length takes no call.
+#[inline(always)]
+fn move_ends<const W: usize>(text: &[u8], block: &mut [u8])
+    requires least { W ≤ length text.now }
+    requires most { length text.now ≤ W + W }
+    requires room { length text.now ≤ length block.old }
+    ensures front { take (length text.now) block.new ≡ text.now }
+    ensures len { length block.new ≡ length block.old }
+{
+    let len = text.len();
+    block[..W].copy_from_slice(&text[..W]);
+    block[len - W..len].copy_from_slice(&text[len - W..]);
+}
+
+/// Moves the text to the front of the block.
+#[inline(always)]
+fn move_to_front(text: &[u8], block: &mut [u8])
+    requires { length text.now ≤ length block.old }
+    ensures front { take (length text.now) block.new ≡ text.now }
+    ensures len { length block.new ≡ length block.old }
+{
+    let len = text.len();
+    if len > 7 {
+        if len > 16 {
+            block[..len].copy_from_slice(text);
+        } else {
+            move_ends::<8>(text, block);
+        }
+    } else if len > 3 {
+        move_ends::<4>(text, block);
+    } else if len > 1 {
+        move_ends::<2>(text, block);
+    } else if len > 0 {
+        block[0] = text[0];
+    }
+}
+
 /// Lays down the text at the front of the block, and a newline after it.
+#[inline(always)]
 fn lay_down(text: &[u8], block: &mut [u8])
     requires { length text.now < length block.old }
     ensures front { take (length text.now + 1) block.new ≡ text.now ++ 10 ∷ [] }
     ensures len { length block.new ≡ length block.old }
 {
-    block[..text.len()].copy_from_slice(text);
+    move_to_front(text, block);
     block[text.len()] = b'\n';
 }
 
 /// As `scan_at_once`, into an empty store that has a slot for each destination of the format, of a text that is laid
 /// down in a block of `N` bytes: its result with a newline after it, and whatever follows that, is the result of the
 /// text alone.
-#[inline(never)]
+#[inline(always)]
 fn scan_with_newline<K: Store, const N: usize>(
     store: &mut K,
     text: &[u8],
@@ -101,9 +141,28 @@ fn scan_with_newline<K: Store, const N: usize>(
     })
 }
 
-/// Scans a whole text into an empty store without a scanner, where it is seen at once to be Done. A text that is long
-/// or ends in a newline is scanned where it stands, a short one that isn't Done there with a newline after it. None
-/// where it isn't Done, or that isn't known here: then the store may keep something.
+/// Scans a whole text into an empty store where it stands. None where it isn't seen to be Done: then the store may
+/// keep something.
+#[inline(always)]
+fn scan_in_place(
+    store: &mut HeapStore,
+    text: &[u8],
+    format: &ScanFormat,
+    limit: u32,
+) -> Option<Outcome>
+    requires empty { store.old ≡ nothing_kept store.old.room }
+    ensures run { IfSome result (λ outcome. RunWithin format.now limit text.now Ending.End
+        (report_by outcome store.new.values)) }
+    ensures texts { IfSome result (λ _. HoldsValues store.new) }
+    ensures room { capacity_of store.old ≤ capacity_of store.new }
+{
+    let _destinations = format.destinations();
+    quick_run_into(store, format, limit, text)
+}
+
+/// Scans a whole text into an empty store without a scanner, where it is seen at once to be Done: with a newline after
+/// it, or where it stands, if it is long or ends in a newline. None where it isn't Done, or that isn't known here: then
+/// the store may keep something.
 #[inline(always)]
 fn scan_at_once(
     store: &mut HeapStore,
@@ -118,17 +177,22 @@ fn scan_at_once(
     ensures room { capacity_of store.old ≤ capacity_of store.new }
 {
     let _destinations = format.destinations();
+    if text.len() <= SHORT {
+        let outcome = scan_with_newline::<HeapStore, SHORT_BLOCK>(store, text, format, limit);
+        if outcome.is_some() || !text.ends_with(b"\n") {
+            return outcome;
+        }
+        store.clear();
+        return scan_in_place(store, text, format, limit);
+    }
     if text.len() >= BLOCK {
-        return quick_run_into(store, format, limit, text);
+        return scan_in_place(store, text, format, limit);
     }
     if text.ends_with(b"\n") {
-        if let Some(outcome) = quick_run_into(store, format, limit, text) {
+        if let Some(outcome) = scan_in_place(store, text, format, limit) {
             return Some(outcome);
         }
         store.clear();
-    }
-    if text.len() <= SHORT {
-        return scan_with_newline::<HeapStore, SHORT_BLOCK>(store, text, format, limit);
     }
     scan_with_newline::<HeapStore, BLOCK>(store, text, format, limit)
 }

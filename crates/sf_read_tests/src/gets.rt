@@ -60,6 +60,32 @@ fn is_given(scanned: &Scanned<HeapStore>) -> Result<(), Fail> {
     is(&scanned.outcome(), &report.outcome(), &"the outcome")
 }
 
+/// Floats by the types of Rust; expected values are the decimals as a compiler reads them.
+fn floats_are_given(alloc: Global) -> Result<(), Fail> {
+    let format = ScanFormat::parse(alloc, Profile::Three, b"%f %lf %d %lf")?;
+    let scanned = sscan(alloc, b"0.5 -2.25 7 nan", &format, LIMIT)?;
+    let report = scanned.report();
+    is(&report.get::<f32>(1), &Some(0.5), &"a float of 32 bits")?;
+    is(&report.get::<f64>(2), &Some(-2.25), &"a float of 64 bits")?;
+    let of_another_kind = (
+        report.get::<f64>(1),
+        report.get::<f32>(2),
+        report.get::<f64>(3),
+        report.get::<i32>(2),
+    );
+    is(&of_another_kind, &(None, None, None, None), &"another kind")?;
+    is(
+        &report.get::<f64>(4).map(|x| x.is_nan()),
+        &Some(true),
+        &"a NaN",
+    )
+}
+
+#[test]
+fn floats_as_types(rt: HostRuntime) -> Result<(), Fail> {
+    floats_are_given(rt.alloc())
+}
+
 #[test]
 fn slots_as_types(rt: HostRuntime) -> Result<(), Fail> {
     is_given(&scanned(rt.alloc())?)

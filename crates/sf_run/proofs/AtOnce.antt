@@ -1,13 +1,15 @@
 -- Runs that begin and pass within a piece.
 use Rattle.std.proofs.lemmas.Grind.{common_steps}
-use Rattle.std.proofs.Common.{◌≡◌, ℕ, ◌+◌, ◌-◌, ◌<◌, ◌≤◌, Bool, true, false, cond, List, [], ◌∷◌, ◌++◌, length, take, drop, Some, None, refl, sym, ap, subst, ◌∙◌, arith, length-drop}
+use Rattle.std.proofs.Common.{◌≡◌, ℕ, ◌+◌, ◌-◌, ◌<◌, ◌≤◌, Bool, true, false, cond, List, [], ◌∷◌, ◌++◌, length, take, drop, Some, None}
+use Rattle.std.proofs.Common.{refl, sym, ap, subst, ◌∙◌, arith, length-drop}
 use Rattle.std.specs.Prelude.{slice_get}
 use Rattle.std.specs.List.{count_by}
 use Rattle.std.proofs.lemmas.List.Sums.{sum_by_more}
 use Rattle.std.proofs.lemmas.Option.{get_or_from_slice_get, slice_get_within}
 use Rattle.std.proofs.lemmas.List.{append-nil, append_assoc, drop-drop, length-append, take_all, take-append-drop}
-use Rattle.sf_base.specs.Data.{Assigned, Bytes}
-use Rattle.sf_base.specs.Kept.{Kept, nothing_kept, texts_in, with_text}
+use Rattle.sf_base.specs.Data.{Assigned, Bytes, Real as RealOf}
+use Rattle.sf_base.specs.declared.real.Real as real
+use Rattle.sf_base.specs.Kept.{Kept, nothing_kept, texts_in, with_text, with_value}
 use Rattle.sf_format.specs.declared.directive.Directive.{Directive}
 use Rattle.sf_format.specs.Layout.{assigns_item, items_assigned, items_taken, takes_item}
 use Rattle.sf_format.specs.Proper.{AreProper, IsProper, destinations_of, slots_of}
@@ -59,6 +61,11 @@ sure_given d n piece room e proper is sure full = grind arith
 pub text_given : (slot : ℕ) (text : List ℕ) (room : ℕ) (old new : Kept) → new ≡ with_text slot text room old
     → GivesTo (Stores slot (Bytes text)) true old new
 text_given slot text room old new is = grind (arith, joined_text)
+
+-- so is a float
+pub real_given : (slot : ℕ) (r : real.Real) (old new : Kept) → old.opened ≡ None → new ≡ with_value slot (RealOf r) old
+    → GivesTo (Stores slot (RealOf r)) true old new
+real_given slot r old new none is = grind (arith, common_steps, joined_text)
 
 -- ---- directive after directive
 

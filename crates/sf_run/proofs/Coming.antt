@@ -1,5 +1,7 @@
 -- How far a run has come with the bytes that it consumed.
-use Rattle.std.proofs.Common.{◌≡◌, ℕ, suc, ◌+◌, ◌≤◌, Bool, true, false, cond, ◌&&◌, List, [], ◌∷◌, ◌++◌, length, take, drop, append_assoc, append-nil, length-append, length-drop, Option, Some, None, refl, sym, ap, ap₂, subst, ◌∙◌, arith, is_some, true≢false}
+use Rattle.std.proofs.Common.{◌≡◌, ℕ, suc, ◌+◌, ◌≤◌, Bool, true, false, cond, ◌&&◌, List, [], ◌∷◌, ◌++◌, length, take, drop, append_assoc}
+use Rattle.std.proofs.Common.{append-nil, length-append, length-drop, Option, Some, None, refl, sym, ap, ap₂, subst, ◌∙◌, arith, is_some}
+use Rattle.std.proofs.Common.{true≢false}
 use Rattle.std.specs.Prelude.{IsSome, slice_get}
 use Rattle.std.proofs.lemmas.List.{drop-append-le, drop-drop, drop_all, length-take-le, take-append-drop, take_all}
 use Rattle.std.proofs.lemmas.List.Sums.{sum_by-append}
@@ -25,7 +27,8 @@ use Rattle.sf_report.specs.Computed.{go_on, part_of, ran_of, skip, skip_before, 
 use Rattle.sf_report.specs.Residual.{Part, Tally, choose, one_from, stepped_all}
 use Rattle.sf_run.specs.Phases.{Brings, Shows, end_of, slot_in}
 use Rattle.sf_run.specs.Pieces.{IsEnd, item_of}
-use Rattle.sf_run.specs.Standing.{Advances, Comes, ComesBy, Ends, IsTextUnderWay, IsUnderWay, LedFirst, ShowsFirst, Standing, TakesAll, text_begun}
+use Rattle.sf_run.specs.Standing.{Advances, Comes, ComesBy, Ends, IsTextUnderWay, IsUnderWay, LedFirst, ShowsFirst, Standing, TakesAll}
+use Rattle.sf_run.specs.Standing.{text_begun}
 use Rattle.sf_run.specs.Standing.{Passes as Passed}
 use Rattle.sf_run.specs.Texts.{IsNextSlot, opened_for, opened_with, text_slot}
 use Rattle.sf_report.proofs.Joined.{all-append, one_from-all}

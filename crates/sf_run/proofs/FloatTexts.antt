@@ -1,5 +1,6 @@
 -- The texts that floats are read of, and the floats that are read.
-use Rattle.std.proofs.Common.{◌≡◌, ℕ, ◌+◌, Bool, true, false, cond, ◌&&◌, List, [], ◌∷◌, ◌++◌, length, Option, Some, None, is_some, option_map, refl, sym, ap, subst, ◌∙◌, arith, true≢false, length-append}
+use Rattle.std.proofs.Common.{◌≡◌, ℕ, ◌+◌, Bool, true, false, cond, ◌&&◌, List, [], ◌∷◌, ◌++◌, length, Option, Some, None, is_some}
+use Rattle.std.proofs.Common.{option_map, refl, sym, ap, subst, ◌∙◌, arith, true≢false, length-append}
 use Rattle.std.specs.Float.Ieee.{Format, binary32, binary64}
 use Rattle.std.proofs.lemmas.Bool.Decides.{nat_tests}
 use Rattle.sf_base.specs.Bytes.{is_white}
@@ -8,8 +9,10 @@ use Rattle.sf_base.specs.declared.values.Kind.{Kind}
 use Rattle.sf_base.specs.declared.values.Kind.TheVariants as kinds
 use Rattle.sf_float_item.specs.declared.reached.Reached.{Reached}
 use Rattle.sf_float_item.specs.declared.reached.Reached.TheVariants as at
+use Rattle.sf_float_item.specs.Decimals.{IsDecimal}
 use Rattle.sf_float_item.specs.Sequences.{IsFloat}
 use Rattle.sf_float_item.specs.Tests.{next, read, is_float, begins_float}
+use Rattle.sf_float_item.proofs.Decimals.{decimal_float}
 use Rattle.sf_float_item.proofs.Deciding.{float_decided, read_more, read_nothing}
 use Rattle.sf_float_value.specs.Computed.{stored_in}
 use Rattle.sf_float_value.specs.Values.{IsStored}
@@ -130,3 +133,7 @@ no_real kind item no32 no64 = by (is_float item) kind refl
     by true kinds.F32 e = absurd (no32 e)
     by true kinds.F64 e = absurd (no64 e)
     by true k e = grind arith
+
+-- a decimal numeral is a matching sequence
+pub decimal_test : (item : List ℕ) (negative : Bool) (digits places : ℕ) → IsDecimal item negative digits places → is_float item ≡ true
+decimal_test item negative digits places is = (float_decided item).1 (decimal_float item negative digits places is)

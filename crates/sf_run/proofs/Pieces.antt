@@ -2,12 +2,20 @@
 use Rattle.std.proofs.lemmas.Grind.{common_steps}
 use Rattle.std.proofs.lemmas.Bool.{and_parts, false_from_ne_true}
 use Rattle.std.proofs.lemmas.List.{take_more}
-use Rattle.std.proofs.Common.{zero-add, add-zero, length-append, ◌≡◌, ◌≢◌, ℕ, zero, suc, ◌+◌, ◌<◌, ◌≤◌, Bool, true, false, cond, ◌&&◌, List, [], ◌∷◌, ◌++◌, length, take, drop, get_or, append_assoc, append-nil, take-append-drop, length-drop, Option, Some, None, refl, sym, ap, subst, ◌∙◌, arith}
+use Rattle.std.proofs.Common.{zero-add, add-zero, length-append, ◌≡◌, ◌≢◌, ℕ, zero, suc, ◌+◌, ◌<◌, ◌≤◌, Bool, true, false, cond, ◌&&◌, List}
+use Rattle.std.proofs.Common.{[], ◌∷◌, ◌++◌, length, take, drop, get_or, append_assoc, append-nil, take-append-drop, length-drop, Option}
+use Rattle.std.proofs.Common.{Some, None, is_some, refl, sym, ap, subst, ◌∙◌, arith, inl, inr, eq-zero-or-pos, true≢false}
 use Rattle.std.specs.Prelude.{IfSome, IsSome, MatchOption, slice_get}
 use Rattle.std.proofs.lemmas.Option.{get_or_from_slice_get, slice_get_within}
 use Rattle.std.proofs.lemmas.List.{length-take, length-take-le, drop_more, drop-drop, drop-append-le, get_or-drop, get_or-take, take_all}
 use Rattle.sf_base.specs.Bytes.{is_white}
 use Rattle.sf_base.specs.Data.{value_of}
+use Rattle.sf_float_item.specs.declared.decimal.Decimal.{Decimal}
+use Rattle.sf_float_item.specs.declared.reached.Reached.{Reached}
+use Rattle.sf_float_item.specs.declared.reached.Reached.TheVariants as places
+use Rattle.sf_float_item.specs.Decimals.{DecimalWithin}
+use Rattle.sf_float_item.specs.Tests.{read, is_float, is_whole_at, begins_float}
+use Rattle.sf_float_item.proofs.Deciding.{float_decided}
 use Rattle.sf_format.specs.declared.directive.Base.{Base}
 use Rattle.sf_format.specs.declared.directive.Conversion.{Conversion}
 use Rattle.sf_format.specs.declared.directive.Directive.{Directive}
@@ -17,10 +25,11 @@ use Rattle.sf_format.specs.declared.directive.Directive.TheVariants.{Space, Byte
 use Rattle.sf_format.specs.Proper.{IsProper, IsProperShape}
 use Rattle.sf_item.specs.declared.item.ItemScan.{ItemScan}
 use Rattle.sf_item.specs.declared.whole.WholeInteger.{WholeInteger}
-use Rattle.sf_item.specs.Matching.{IsInteger, IsItem, IsWithin}
+use Rattle.sf_item.specs.Matching.{IsInteger, IsItem, IsWithin, ShapeMatches}
 use Rattle.sf_item.specs.Taking.{CanTake, HasTaken, conversion_of}
 use Rattle.sf_item.specs.Tests.{can_take, is_within, shape_begins}
 use Rattle.sf_item.proofs.Deciding.{tests_can_take}
+use Rattle.sf_item.proofs.ItemLaws.{item_ends, item_stays}
 use Rattle.sf_item.specs.Wholes.{ItemWithin, NoItemWithin}
 use Rattle.sf_run.specs.declared.directive.Ended.{Ended}
 use Rattle.sf_run.specs.declared.directive.Finished.{Finished}
@@ -31,7 +40,8 @@ use Rattle.sf_run.specs.declared.directive.Run.{Run}
 use Rattle.sf_report.specs.Steps.{StepEnd}
 use Rattle.sf_report.specs.Machine.{Stage, Skipping, Item, shape_skips, count_end, empty_end, item_end, stepped, is_full}
 use Rattle.sf_run.specs.Phases.{CanAll, GrowsBy, Shows, ShowsItem, end_of, passed_number, slot_in}
-use Rattle.sf_run.specs.Pieces.{Answers, AnswersBy, EndsAt, EndsAtOnce, EndsIn, IsEnd, IsEndIn, IsEndOf, IsTextShape, IsWhole, StaysAt, Suits, item_of, run_of}
+use Rattle.sf_run.specs.Pieces.{Answers, AnswersBy, EndsAt, EndsAtOnce, EndsIn, IsEnd, IsEndIn, IsEndOf, IsTextShape, IsWhole, StaysAt}
+use Rattle.sf_run.specs.Pieces.{Suits, item_of, run_of}
 use Rattle.sf_run.specs.Quick.{IsSure}
 use Rattle.sf_report.specs.Residual.{Part, one_from, stepped_all}
 use Rattle.sf_run.specs.Texts.{IsInText, StoresByte, counts_bytes, is_count, text_slot}
@@ -40,7 +50,8 @@ use Rattle.sf_run.proofs.FloatTexts.{float_ink}
 use Rattle.sf_run.proofs.Brought.{item_skips, can_all, first_all, item_all, skips_all, take-take}
 use Rattle.sf_report.proofs.Items.{can_take_prefix}
 use Rattle.sf_report.proofs.Machines.{full_refuses, grows}
-use Rattle.sf_run.proofs.Stages.{count_finished, integer_ends, other_finished, skipping_full, suppressed_end, taken_full, text_end}
+use Rattle.sf_run.proofs.Stages.{count_finished, float_end, integer_ends, other_finished, skipping_full, suppressed_end, taken_full}
+use Rattle.sf_run.proofs.Stages.{text_end}
 
 -- ---- bytes of a piece
 
@@ -405,6 +416,43 @@ bytes_read c n item piece end proper text is ink none some =
     by_slot None e = ap (end_of (take item piece)) (none e) ∙ suppressed_end c (take item piece) e (is.matches c refl refl)
     by_slot (Some slot) e = ap (end_of (take item piece)) (some slot e)
         ∙ text_end c (take item piece) slot text e (is.matches c refl refl)
+
+-- ---- floats that were read in one go
+
+whole_read : (o : Option Reached) → is_whole_at o ≡ true → is_some o ≡ true
+whole_read None e = e
+whole_read (Some r) e = refl
+
+float_begins : (c : Conversion) (text : List ℕ) → c.shape ≡ Float → c.width ≡ None → is_float text ≡ true → can_take c text ≡ true
+float_begins c text shape width is = rw (shape, width) (whole_read (read (Some places.Start) text) is)
+
+float_stops : (c : Conversion) (text : List ℕ) → c.shape ≡ Float → c.width ≡ None → begins_float text ≡ false → can_take c text ≡ false
+float_stops c text shape width none = rw (shape, width) none
+
+module _ (c : Conversion) (piece : List ℕ) (d : Decimal) (shape : c.shape ≡ Float) (width : c.width ≡ None) (is : DecimalWithin piece d)
+  where
+    float : is_float (take d.bytes piece) ≡ true
+    float = (float_decided (take d.bytes piece)).1 is.matches
+
+    float_item : IsProperShape c.shape → (z : List ℕ) → IsItem c (piece ++ z) d.bytes
+    float_item proper z = item_stays c proper piece z d.bytes
+        (item_ends c proper piece d.bytes is.behind (float_begins c (take d.bytes piece) shape width float)
+        (float_stops c (take (d.bytes + 1) piece) shape width is.ends))
+        is.behind
+
+    float_some : 0 < d.bytes
+    float_some = elim (eq-zero-or-pos d.bytes) [
+      | inr some ↦ some
+      | inl none ↦ absurd (true≢false (sym (subst (λ n. is_float (take n piece) ≡ true) none float)))
+    ]
+
+    pub float_read : (n slot : ℕ) → IsProper (Conv c) → c.slot ≡ Some slot
+        → (shape_skips c.shape && is_white (get_or piece 0 0)) ≡ false
+        → Answers (Conv c) Skipping n piece
+        (record { before = 0; item = d.bytes; phase = phase.Skipping; ends = Some (finish.Reads slot c.kind) })
+    float_read n slot proper own ink =
+        item_read c n d.bytes piece (finish.Reads slot c.kind) proper.0 (ap is_count shape) float_some is.behind (float_item proper.0) ink
+        (float_end c (take d.bytes piece) slot shape own (subst (λ s. ShapeMatches s c.width (take d.bytes piece)) (sym shape) is.matches))
 
 -- an item of the shape, where one was found
 pub item_if : (s t : Shape) (width : Option ℕ) (piece : List ℕ) (o : Option ℕ) → s ≡ t

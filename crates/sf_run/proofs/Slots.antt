@@ -2,7 +2,9 @@
 use Rattle.sf_report.proofs.Machines.{some_is}
 use Rattle.std.proofs.lemmas.Bool.{and_from, and_parts, or_from, or_left, or_right, or_cases, eq-eqb}
 use Rattle.std.proofs.lemmas.Grind.{common_steps}
-use Rattle.std.proofs.Common.{◌≡◌, ℕ, zero, suc, ◌+◌, ◌≤◌, Bool, true, false, not, ◌&&◌, nat_eq, nat_le, List, [], ◌∷◌, ◌++◌, length, take, drop, Option, Some, None, is_some, refl, sym, ap, subst, ◌∙◌, arith, unwrap_or, append-nil, length-append, inl, inr, true≢false}
+use Rattle.std.proofs.Common.{◌≡◌, ℕ, zero, suc, ◌+◌, ◌≤◌, Bool, true, false, not, ◌&&◌, nat_eq, nat_le, List, [], ◌∷◌, ◌++◌, length, take}
+use Rattle.std.proofs.Common.{drop, Option, Some, None, is_some, refl, sym, ap, subst, ◌∙◌, arith, unwrap_or, append-nil, length-append}
+use Rattle.std.proofs.Common.{inl, inr, true≢false}
 use Rattle.std.specs.Prelude.{◌≢◌, slice_get, IfSome}
 use Rattle.std.specs.List.{AllByRecursion, list_all, list_any}
 use Rattle.std.proofs.lemmas.Bool.{ne_eqb}
@@ -27,7 +29,8 @@ use Rattle.sf_item.specs.Taking.{left_of}
 use Rattle.sf_run.specs.declared.directive.Phase.{Phase}
 use Rattle.sf_run.specs.declared.directive.Phase.TheVariants as phase
 use Rattle.sf_run.specs.declared.scanner.Stop.{Stop}
-use Rattle.sf_run.specs.Holding.{are_placed, are_apart, are_among, first_slot, is_text, stored_widths, width_left, widths_from, still_stored, left_before}
+use Rattle.sf_run.specs.Holding.{are_placed, are_apart, are_among, first_slot, is_text, stored_widths, width_left, widths_from}
+use Rattle.sf_run.specs.Holding.{still_stored, left_before}
 use Rattle.sf_run.specs.Places.{is_destination}
 use Rattle.sf_run.specs.Texts.{slot_of, slot_of_text, text_slot, opened_slot, slots_in}
 use Rattle.sf_run.specs.Phases.{slot_in}

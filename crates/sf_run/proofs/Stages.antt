@@ -1,7 +1,8 @@
 -- What the phases of the code show of a directive's stage.
 use Rattle.std.proofs.lemmas.Bool.{false_from_ne_true}
 use Rattle.std.proofs.lemmas.Grind.{common_steps}
-use Rattle.std.proofs.Common.{◌≡◌, ℕ, ◌<◌, Bool, true, false, cond, nat_eq, List, [], ◌∷◌, ◌++◌, Option, Some, None, refl, sym, ap, subst, ◌∙◌, arith, lit<, true≢false}
+use Rattle.std.proofs.Common.{◌≡◌, ℕ, ◌<◌, Bool, true, false, cond, nat_eq, List, [], ◌∷◌, ◌++◌, Option, Some, None, refl, sym, ap, subst}
+use Rattle.std.proofs.Common.{◌∙◌, arith, lit<, true≢false}
 use Rattle.std.specs.Prelude.{IsTrue, ◌≢◌, ◌↔◌}
 use Rattle.sf_base.specs.Data.{Bytes, value_of}
 use Rattle.sf_base.specs.declared.values.Kind.{Kind}
@@ -24,7 +25,8 @@ use Rattle.sf_report.specs.declared.outcome.Status.TheVariants.{MatchingFailure}
 use Rattle.sf_report.specs.Steps.{Passes, Stores, Fails}
 use Rattle.sf_run.specs.Pieces.{IsTextShape}
 use Rattle.sf_run.specs.Texts.{text_slot, slot_of_text, is_count, counts_bytes}
-use Rattle.sf_report.specs.Machine.{Stage, Skipping, Taken, Item, stepped, is_full, count_end, integer_end, stored_end, passed_end, item_end, item_finished, conversion_finished}
+use Rattle.sf_report.specs.Machine.{Stage, Skipping, Taken, Item, stepped, is_full, count_end, integer_end, stored_end, passed_end}
+use Rattle.sf_report.specs.Machine.{item_end, item_finished, conversion_finished, real_at, real_end}
 use Rattle.sf_run.specs.Phases.{ShowsItem, passed_number}
 use Rattle.sf_report.proofs.Machines.{can_take_one, not_full, full_of_none, item_not_full}
 
@@ -134,6 +136,11 @@ pub text_end : (c : Conversion) (f : List ℕ) (slot : ℕ) → IsTextShape c.sh
     → Stores slot (Bytes f) ≡ item_end c f
 text_end c f slot text own m =
     sym (text_stored c f slot c.shape text) ∙ ap (λ o. passed_end c o f) (sym own) ∙ matched_end c f m
+
+-- a float is stored where it is in range
+pub float_end : (c : Conversion) (f : List ℕ) (slot : ℕ) → c.shape ≡ Float → c.slot ≡ Some slot → Matches c f
+    → real_end slot (real_at c.kind f) ≡ item_end c f
+float_end c f slot shape own m = ap (λ s. stored_end c slot s f) (sym shape) ∙ ap (λ o. passed_end c o f) (sym own) ∙ matched_end c f m
 
 -- a text that is no match
 pub text_fails : (c : Conversion) (f : List ℕ) (slot : ℕ) (e : ItemEnd) → text_slot (Conv c) ≡ Some slot → f ≢ [] → Ends c f e

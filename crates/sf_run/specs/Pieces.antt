@@ -17,7 +17,8 @@ use Rattle.sf_run.specs.declared.directive.Phase.TheVariants as phase
 use Rattle.sf_run.specs.declared.directive.Run.{Run}
 use Rattle.sf_run.specs.Holding.{LeftAfterAll}
 use Rattle.sf_report.specs.Machine.{Stage, Skipping, Taken, Item, finished, is_full}
-use Rattle.sf_run.specs.Phases.{Brings, IsNumberGiven, Shows, end_of, is_failing, is_missing, is_memory_failure, slot_closed, slot_given, slot_in}
+use Rattle.sf_run.specs.Phases.{Brings, IsNumberGiven, Shows, end_of, is_failing, is_missing, is_memory_failure, slot_closed, slot_given}
+use Rattle.sf_run.specs.Phases.{slot_in}
 use Rattle.sf_report.specs.Residual.{one_from}
 use Rattle.sf_report.specs.Steps.{StepEnd}
 use Rattle.sf_run.specs.Texts.{IsNextSlot, StoresByte, slot_of, text_slot}

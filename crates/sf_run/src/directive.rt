@@ -1,14 +1,15 @@
 //! What one directive makes of a piece of the input, and how it ends (C11 7.21.6.2p4 to p10).
-ghost use Rattle.std.specs.Prelude.{◌≡◌, ◌≢◌, ◌+◌, ◌<◌, ◌≤◌, ◌&&◌, ◌^◌, true, false, ℕ, ℤ, List, [], ◌++◌, length, take, drop, get_or, if◌then◌else◌, not, Option, Some, None, IfSome, IsNone};
+ghost use Rattle.std.specs.Prelude.{◌≡◌, ◌≢◌, ◌+◌, ◌<◌, ◌≤◌, ◌&&◌, ◌^◌, true, false, ℕ, ℤ, List, [], ◌++◌, length};
+ghost use Rattle.std.specs.Prelude.{take, drop, get_or, if◌then◌else◌, not, Option, Some, None, IfSome, IsNone};
 ghost use Rattle.sf_base.specs.Bytes.{is_white};
 ghost use Rattle.std.specs.Option.{option_map};
-ghost use Rattle.sf_base.specs.Data.{Number as NumberOf, datum_of_number, value_of};
+ghost use Rattle.sf_base.specs.Data.{Number as NumberOf, Real as RealOf, datum_of_number, value_of};
 ghost use Rattle.sf_base.specs.Kept.{Opened, text_of};
 ghost use Rattle.sf_base.specs.Kinds.{bounds_of};
 ghost use Rattle.sf_format.specs.declared.directive.Conversion.{Conversion};
 ghost use Rattle.sf_format.specs.declared.directive.Directive.{Directive};
 ghost use Rattle.sf_format.specs.declared.directive.Directive.TheVariants as directive;
-ghost use Rattle.sf_format.specs.declared.directive.Shape.TheVariants.{Chars, Int, Text};
+ghost use Rattle.sf_format.specs.declared.directive.Shape.TheVariants.{Chars, Float, Int, Text};
 ghost use Rattle.sf_format.specs.Layout.{most_of, row_of};
 ghost use Rattle.sf_format.specs.Proper.{IsProper, IsProperShape};
 ghost use Rattle.sf_item.specs.Scan.{HasLeft};
@@ -17,16 +18,20 @@ ghost use Rattle.sf_item.specs.Wholes.{EndsWithin, ItemWithin};
 ghost use Rattle.sf_report.specs.Steps.{StepEnd};
 ghost use Rattle.sf_run.specs.declared.directive.Phase.TheVariants as phase;
 ghost use Rattle.sf_run.specs.declared.directive.Finished.TheVariants as finish;
-ghost use Rattle.sf_report.specs.Machine.{Stage, Skipping, Item, shape_skips, is_full, item_end, passed_end, item_finished, count_end, finished};
-ghost use Rattle.sf_run.specs.Texts.{text_slot, opened_for, slot_of_text, is_count};
+ghost use Rattle.sf_report.specs.Machine.{Stage, Skipping, Item, shape_skips, is_full, item_end, passed_end};
+ghost use Rattle.sf_report.specs.Machine.{item_finished, count_end, finished};
+ghost use Rattle.sf_run.specs.Texts.{text_slot, opened_for, slot_of, slot_of_text, is_count};
 ghost use Rattle.sf_run.specs.Holding.{FallsBy};
-ghost use Rattle.sf_run.specs.Phases.{ShowsItem, Shows, CanAll, IsNumberGiven, end_of, is_failing, is_memory_failure, is_missing, passed_number, slot_closed, slot_given, slot_in};
-ghost use Rattle.sf_run.specs.Pieces.{Answers, EndsAt, EndsAtOnce, IsEnd, IsEndIn, IsEndOf, IsNumberRow, IsTextRow, StaysAt, Suits, run_of};
+ghost use Rattle.sf_run.specs.Phases.{ShowsItem, Shows, CanAll, IsNumberGiven, end_of, is_failing, is_memory_failure};
+ghost use Rattle.sf_run.specs.Phases.{is_missing, passed_number, slot_closed, slot_given, slot_in};
+ghost use Rattle.sf_run.specs.Pieces.{Answers, EndsAt, EndsAtOnce, IsEnd, IsEndIn, IsEndOf, IsNumberRow, IsTextRow};
+ghost use Rattle.sf_run.specs.Pieces.{StaysAt, Suits, run_of};
 ghost use Rattle.sf_run.specs.Quick.{IsSure};
 ghost use Rattle.sf_run.specs.Stopping.{is_memory_status};
 
-use crate::number::number_of;
-use sf_base::{Kind, Number, is_space, space_run};
+use crate::number::{decimal_real, number_of};
+use sf_base::{Kind, Number, Real, is_space, space_run};
+use sf_float_item::numeral_within;
 use sf_format::{Base, Conversion, Directive, Row, Shape};
 use sf_item::{
     ItemEnd, ItemScan, WholeInteger, characters_item, decimal_within, hex_within, members_item,
@@ -836,6 +841,85 @@ pub(crate) fn whole_byte(due: u8, piece: &[u8]) -> Option<Ended>
         }),
         _ => None,
     }
+}
+
+/// A directive that ends so within a piece and gives the slot a float.
+#[derive(Clone, Copy)]
+pub(crate) struct ReadReal {
+    pub(crate) ended: Ended,
+    pub(crate) slot: u8,
+    pub(crate) real: Real,
+}
+
+/// The slot of a conversion of a float without a width.
+#[inline(always)]
+fn real_slot(conversion: &Conversion) -> Option<u8>
+    ensures shape { IfSome result (λ _. conversion.now.shape ≡ Float) }
+    ensures width { IfSome result (λ _. conversion.now.width ≡ None) }
+    ensures slot { IfSome result (λ slot. conversion.now.slot ≡ Some slot) }
+{
+    match (&conversion.shape, conversion.width) {
+        (Shape::Float, None) => conversion.slot,
+        _ => None,
+    }
+}
+
+/// A float that is in range, of a conversion without a width whose first byte is that of the piece, where it is a
+/// decimal numeral that is read at once.
+#[inline(always)]
+fn real_by(conversion: &Conversion, piece: &[u8]) -> Option<ReadReal>
+    ensures answers { IsProper (directive.Conv conversion.now)
+        → (0 < length piece.now → (shape_skips conversion.now.shape && is_white (get_or piece.now 0 0)) ≡ false)
+        → (n : ℕ)
+        → IfSome result (λ r. Answers (directive.Conv conversion.now) Skipping n piece.now (run_of r.ended)) }
+    ensures fits { IfSome result (λ r. IsEndIn (directive.Conv conversion.now) piece.now r.ended) }
+    ensures before { IfSome result (λ r. r.ended.before ≡ 0) }
+    ensures shape { IfSome result (λ _. conversion.now.shape ≡ Float) }
+    ensures slot { IfSome result (λ r. conversion.now.slot ≡ Some r.slot) }
+    ensures real { IfSome result (λ r. end_of (take r.ended.item piece.now) r.ended.finished
+        ≡ StepEnd.Stores r.slot (RealOf r.real)) }
+{
+    let slot = real_slot(conversion)?;
+    let decimal = numeral_within(piece)?;
+    let real = decimal_real(conversion.kind, decimal)?;
+    Some(ReadReal {
+        ended: Ended {
+            before: 0,
+            item: decimal.bytes,
+            finished: Finished::Reads {
+                slot,
+                kind: conversion.kind,
+            },
+        },
+        slot,
+        real,
+    })
+}
+
+/// As `real_by`, of any directive that took nothing yet.
+#[inline(always)]
+pub(crate) fn real_at_once(directive: &Directive, piece: &[u8]) -> Option<ReadReal>
+    ensures ends { (n : ℕ) → IfSome result (λ r. EndsAtOnce directive.now n piece.now r.ended) }
+    ensures slot { IfSome result (λ r. slot_of directive.now ≡ Some r.slot) }
+    ensures real { IfSome result (λ r. end_of (take r.ended.item (drop r.ended.before piece.now)) r.ended.finished
+        ≡ StepEnd.Stores r.slot (RealOf r.real)) }
+{
+    let Directive::Conv(conversion) = directive else {
+        return None;
+    };
+    let _slot = real_slot(conversion)?;
+    let before = space_before(piece);
+    let (_, rest) = piece.split_at(before);
+    let read = real_by(conversion, rest)?;
+    Some(ReadReal {
+        ended: Ended {
+            before,
+            item: read.ended.item,
+            finished: read.ended.finished,
+        },
+        slot: read.slot,
+        real: read.real,
+    })
 }
 
 /// How the directive ends, which took nothing yet, where it does so within the piece, which comes so many bytes into

@@ -1,12 +1,13 @@
 //! Numbers and floats of the kinds that a destination can have.
-ghost use Rattle.std.specs.Prelude.{◌≡◌, true, None, if◌then◌else◌};
+ghost use Rattle.std.specs.Prelude.{◌≡◌, true, None, ℕ, List, if◌then◌else◌};
 ghost use Rattle.std.specs.Option.{option_map};
 ghost use Rattle.sf_base.specs.Data.{Number as NumberOf, datum_of_number, value_of};
+ghost use Rattle.sf_float_item.specs.Decimals.{IsDecimal};
 ghost use Rattle.sf_report.specs.Machine.{real_at};
 
 use sf_base::{Kind, Number, Real};
-use sf_float_item::is_float;
-use sf_float_value::{value_f32, value_f64};
+use sf_float_item::{Decimal, is_float};
+use sf_float_value::{decimal_value_f32, decimal_value_f64, value_f32, value_f64};
 
 /// The number with the sign (true: a minus) and the magnitude, where the kind holds it.
 #[inline(always)]
@@ -36,6 +37,25 @@ pub(crate) fn real_of(kind: Kind, item: &[u8]) -> Option<Real>
     match kind {
         Kind::F32 => Some(Real::F32(value_f32(item)?)),
         Kind::F64 => Some(Real::F64(value_f64(item)?)),
+        _ => None,
+    }
+}
+
+/// As `real_of`, of a decimal numeral that was read.
+#[inline(always)]
+pub(crate) fn decimal_real(kind: Kind, decimal: Decimal) -> Option<Real>
+    ensures { (item : List ℕ) → IsDecimal item decimal.negative decimal.digits decimal.places
+        → result ≡ real_at kind item }
+{
+    let Decimal {
+        negative,
+        digits,
+        places,
+        ..
+    } = decimal;
+    match kind {
+        Kind::F32 => Some(Real::F32(decimal_value_f32(negative, digits, places)?)),
+        Kind::F64 => Some(Real::F64(decimal_value_f64(negative, digits, places)?)),
         _ => None,
     }
 }

@@ -1,5 +1,6 @@
 //! Runs that begin and pass within a piece of the input, read at once.
-ghost use Rattle.std.specs.Prelude.{◌≡◌, ◌<◌, ◌≤◌, ◌+◌, ◌-◌, ◌^◌, ◌++◌, ℕ, List, length, slice_get, take, drop, true, None, Some, IfSome, IsNone, IsSome};
+ghost use Rattle.std.specs.Prelude.{◌≡◌, ◌<◌, ◌≤◌, ◌+◌, ◌-◌, ◌^◌, ◌++◌, ℕ, List, length, slice_get, take, drop, true};
+ghost use Rattle.std.specs.Prelude.{None, Some, IfSome, IsNone, IsSome};
 ghost use Rattle.sf_format.specs.declared.directive.Directive.{Directive};
 ghost use Rattle.sf_base.specs.Kept.{buffer_of, nothing_kept};
 ghost use Rattle.sf_format.specs.Layout.{row_of};
@@ -17,7 +18,7 @@ ghost use Rattle.sf_report.specs.Views.{report_by};
 
 use crate::directive::{
     Ended, Finished, characters_at_once, ended_within, members_at_once, number_at_once,
-    text_at_once, whole_byte, whole_space,
+    real_at_once, text_at_once, whole_byte, whole_space,
 };
 use crate::number::real_of;
 use sf_base::{HeapStore, Number, Store};
@@ -101,9 +102,55 @@ fn pass_so<S: Store>(
     Some(ended.before + ended.item)
 }
 
-/// As `pass`, of the first of so many directives that are left, whichever it is. None only where it may go on after the
-/// piece, where it fails, or where the storing is refused. It looks the directive up itself, so that a run by rows
-/// alone doesn't.
+/// As `pass_so`, of a directive that is seen at once to give its slot a float.
+#[inline(always)]
+fn pass_real<S: Store>(
+    store: &mut S,
+    directive: &Directive,
+    piece: &[u8],
+    used: u32,
+) -> Option<usize>
+    requires opened { (S.kept store.old).opened ≡ None }
+    requires free { MayBeGiven S.slots (slot_of directive.now) (S.kept store.old).values }
+    ensures passes { IsProper directive.now → IfSome result
+        (λ taken. Passes directive.now used piece.now taken (S.kept store.old) (S.kept store.new)) }
+    ensures within { IfSome result (λ taken. taken ≤ length piece.now) }
+    ensures same { IsNone result → S.kept store.new ≡ S.kept store.old }
+    ensures room { capacity_of (S.kept store.old) ≤ capacity_of (S.kept store.new) }
+{
+    let _used = used;
+    let read = real_at_once(directive, piece)?;
+    store.set_real(read.slot, read.real);
+    Some(read.ended.before + read.ended.item)
+}
+
+/// As `pass`, whichever directive it is. None only where it may go on after the piece, where it fails, or where the
+/// storing is refused.
+#[inline(always)]
+fn pass_whole<S: Store>(
+    store: &mut S,
+    directive: &Directive,
+    piece: &[u8],
+    used: u32,
+) -> Option<usize>
+    requires opened { (S.kept store.old).opened ≡ None }
+    requires free { MayBeGiven S.slots (slot_of directive.now) (S.kept store.old).values }
+    ensures passes { IsProper directive.now → IfSome result
+        (λ taken. Passes directive.now used piece.now taken (S.kept store.old) (S.kept store.new)) }
+    ensures within { IfSome result (λ taken. taken ≤ length piece.now) }
+    ensures sure { IsProper directive.now → IsSure directive.now used piece.now (S.kept store.old).room
+        → IsSome result }
+    ensures room { capacity_of (S.kept store.old) ≤ capacity_of (S.kept store.new) }
+{
+    if let Some(taken) = pass_real(store, directive, piece, used) {
+        return Some(taken);
+    }
+    let ended = ended_within(directive, piece, used);
+    pass_so(store, directive, ended, piece, used)
+}
+
+/// As `pass_whole`, of the first of so many directives that are left. It looks the directive up itself, so that a run
+/// by rows alone doesn't.
 #[cold]
 #[inline(never)]
 fn pass_later<S: Store>(
@@ -127,8 +174,7 @@ fn pass_later<S: Store>(
 {
     let at = directives.len() - left;
     let directive = &directives[at];
-    let ended = ended_within(directive, piece, used);
-    pass_so(store, directive, ended, piece, used)
+    pass_whole(store, directive, piece, used)
 }
 
 /// Passes a directive that is seen at once to end within the piece, which comes so many bytes into the run, the way

@@ -1,5 +1,7 @@
 //! A scanner that is handed its input piece by piece.
-ghost use Rattle.std.specs.Prelude.{◌≡◌, ℕ, ◌+◌, ◌<◌, ◌≤◌, ◌∷◌, ◌++◌, [], List, length, take, true, false, slice_get, is_some, IsSome, IsNone, IfNone, IfSome, IsOk, IfOk, IfErr, IsErr, IsErrOf, IsOkAnd, IsSomeAnd, ◌↔◌, ◌⊎◌, ◌^◌, drop, if◌then◌else◌, Some, None, unwrap_or};
+ghost use Rattle.std.specs.Prelude.{◌≡◌, ℕ, ◌+◌, ◌<◌, ◌≤◌, ◌∷◌, ◌++◌, [], List, length, take, true, false, slice_get};
+ghost use Rattle.std.specs.Prelude.{is_some, IsSome, IsNone, IfNone, IfSome, IsOk, IfOk, IfErr, IsErr, IsErrOf};
+ghost use Rattle.std.specs.Prelude.{IsOkAnd, IsSomeAnd, ◌↔◌, ◌⊎◌, ◌^◌, drop, if◌then◌else◌, Some, None, unwrap_or};
 ghost use Rattle.std.specs.Bool.{OnTrue, OnFalse};
 ghost use Rattle.std.specs.Option.{option_map};
 ghost use Rattle.std.specs.Result.{result_ok};
@@ -11,7 +13,8 @@ ghost use Rattle.sf_format.specs.Proper.{AreProper, IsProper, destinations_of, s
 ghost use Rattle.sf_format.specs.Widths.{width_sum};
 ghost use Rattle.sf_report.specs.declared.outcome.Ending.{Ending};
 ghost use Rattle.sf_report.specs.declared.outcome.Status.TheVariants as status;
-ghost use Rattle.sf_run.specs.Holding.{are_placed, are_apart, are_among, first_slot, is_text, still_stored, is_limited, LeftAfterAll, left_before};
+ghost use Rattle.sf_run.specs.Holding.{are_placed, are_apart, are_among, first_slot, is_text, still_stored, is_limited};
+ghost use Rattle.sf_run.specs.Holding.{LeftAfterAll, left_before};
 ghost use Rattle.sf_run.specs.declared.directive.Phase.TheVariants as phase;
 ghost use Rattle.sf_run.specs.Phases.{end_of, slot_in};
 ghost use Rattle.sf_run.specs.Pieces.{IsEnd};
@@ -111,7 +114,9 @@ impl<'f, S: Store> Scanner<'f, S> {
     ghost use Rattle.sf_report.specs.Views.{report_by};
     ghost use Rattle.sf_report.specs.Runs.{RunReport, IsOpen};
     ghost use Rattle.sf_report.specs.Limits.{RunWithin, RunTold};
-    ghost use Rattle.sf_run.specs.Standing.{Advances, Ends, Follows, Keeps, Passes, Stops, Opens, TakesAll, RefusesIn, RunsOut, turns_left, IsSettled, After, Gives, HasCome, has_ended, report_of, used_by, ran_out};
+    ghost use Rattle.sf_run.specs.Standing.{Advances, Ends, Follows, Keeps, Passes, Stops, Opens, TakesAll, RefusesIn};
+    ghost use Rattle.sf_run.specs.Standing.{RunsOut, turns_left, IsSettled, After, Gives, HasCome, has_ended};
+    ghost use Rattle.sf_run.specs.Standing.{report_of, used_by, ran_out};
     ghost use Rattle.sf_report.specs.Memory.{HoldsTexts, HoldsValues, capacity_of};
     ghost use Rattle.sf_run.specs.Scanner.{kept_by, standing};
     ghost use Rattle.sf_run.specs.Tallies.{tally_of};

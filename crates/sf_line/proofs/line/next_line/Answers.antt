@@ -1,6 +1,8 @@
 use Rattle.std.proofs.Common.{◌∙◌, Bool, cond, length, refl, sym, ap, arith, true≢false}
+use Rattle.std.specs.Prelude.{vec_capacity}
 use Rattle.sf_read.specs.Counts.{counted_on}
-use Rattle.sf_line.proofs.Gathering.{begins, not_before, within, at_end, ended_long, ended_short, failed, more, too_many, empty_list, tested_zero}
+use Rattle.sf_line.proofs.Gathering.{begins, not_before, within, at_end, ended_long, ended_short, failed, more, outgrows, too_many}
+use Rattle.sf_line.proofs.Gathering.{empty_list, tested_zero}
 use Rattle.sf_line.proofs.Gathering.{tested_some, if_ok, if_err}
 use Rattle.sf_line.proofs.Using as using
 use Rattle.sf_line.proofs.Using.{nothing_left, piece_is, some_held}
@@ -41,6 +43,14 @@ returns-in-Err-clause-reads g c = (
   record
       { is_line = c.loop-block.invariant.going.is_line; bytes = c.loop-block.invariant.going.bytes },
 )
+
+pub returns-in-Err-clause-refused : goal.returns-in-Err-clause-refused
+returns-in-Err-clause-refused g c = λ _.
+    outgrows c.loop-block.invariant.going c.piece_of-piece.result.len (vec_capacity c.args.line.now) c.loop-block.line.len
+    (rw c.held-held.ensures.held at c.piece_of-piece.ensures.line)
+    (rw c.held-held.ensures.held at c.piece_of-piece.ensures.within) c.loop-block.line.ok.0
+    (omega (arith, c.in-Err.ensures.refused, c.loop-block.invariant.capacity))
+    (omega (arith, c.in-Err.ensures.within, c.loop-block.invariant.capacity)) c.in-Err.ensures.room
 
 pub returns-in-Err-clause-failures : goal.returns-in-Err-clause-failures
 returns-in-Err-clause-failures g c = c.loop-block.invariant.sound

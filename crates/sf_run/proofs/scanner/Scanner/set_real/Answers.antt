@@ -4,7 +4,8 @@ use Rattle.sf_base.specs.Kept.{text_of}
 use Rattle.sf_report.specs.Steps.{Stores}
 use Rattle.sf_run.specs.Scanner.{kept_by}
 use Rattle.sf_run.proofs.Moves.{place_taken}
-use Rattle.sf_run.proofs.Slots.{dropped_capacity, given_more, is_destination_of, joined_real, room_passed, size_dropped, slot_placed, slot_unused}
+use Rattle.sf_run.proofs.Slots.{dropped_capacity, given_more, is_destination_of, joined_real, room_passed, size_dropped, slot_placed}
+use Rattle.sf_run.proofs.Slots.{slot_unused}
 use Rattle.sf_run.proofs.scanner.Scanner.set_real.Goals as goal
 
 pub set_real-requires-clause-at_least_one : goal.set_real-requires-clause-at_least_one

@@ -5,10 +5,10 @@ use Rattle.sf_run.specs.outcome.Ending.TheVariants.{End}
 use Rattle.sf_run.specs.outcome.Outcome.{Outcome}
 use Rattle.sf_run.specs.Limits.{RunWithin}
 use Rattle.sf_run.specs.Views.{report_by}
-use Rattle.sf_read.proofs.whole.scan_at_once.Goals as goal
+use Rattle.sf_read.proofs.whole.scan_in_place.Goals as goal
 
-pub returns-then-text-ge-BLOCK-clause-run : goal.returns-then-text-ge-BLOCK-clause-run
-returns-then-text-ge-BLOCK-clause-run c = by c.quick_run_into.result c.quick_run_into.ensures.run
+pub returns-clause-run : goal.returns-clause-run
+returns-clause-run c = by c.quick_run_into.result c.quick_run_into.ensures.run
   where
     by : (o : Option Outcome)
         → IfSome o (λ outcome. (z : List ℕ) (ending : Ending)
@@ -18,9 +18,3 @@ returns-then-text-ge-BLOCK-clause-run c = by c.quick_run_into.result c.quick_run
     by None h = tt
     by (Some outcome) h = subst (λ x. RunWithin c.args.format.now c.args.limit x End (report_by outcome c.quick_run_into.new.store.values))
         (append-nil c.args.text.now) (h [] End)
-
-pub returns-in-Some-clause-run : goal.returns-in-Some-clause-run
-returns-in-Some-clause-run c =
-    subst (λ x. RunWithin c.args.format.now c.args.limit x End
-    (report_by c.in-Some.outcome c.quick_run_into-then-ends_with.new.store.values))
-    (append-nil c.args.text.now) (c.in-Some.ensures.run [] End)
