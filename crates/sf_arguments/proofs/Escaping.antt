@@ -1,5 +1,6 @@
 -- Words piece by piece: a word stands for one list of bytes, or has one first bad escape.
-use Rattle.std.proofs.Common.{◌≡◌, ◌∙◌, ℕ, Bool, true, false, ◌+◌, ◌-◌, ◌<◌, ◌≤◌, ◌*◌, ◌&&◌, ◌⊎◌, inl, inr, cond, nat_eq, nat_lt, ap, arith, refl, sym, subst, List, [], ◌∷◌, ◌++◌, length, take, drop, Option, Some, None}
+use Rattle.std.proofs.Common.{◌≡◌, ◌∙◌, ℕ, Bool, true, false, ◌+◌, ◌-◌, ◌<◌, ◌≤◌, ◌*◌, ◌&&◌, ◌⊎◌, inl, inr, cond, nat_eq, nat_lt, ap, arith}
+use Rattle.std.proofs.Common.{refl, sym, subst, List, [], ◌∷◌, ◌++◌, length, take, drop, Option, Some, None}
 use Rattle.std.proofs.lemmas.List.{drop-drop, length-drop, take_all}
 use Rattle.std.proofs.lemmas.Bool.{cases_order}
 use Rattle.std.specs.Char.{digit_value}

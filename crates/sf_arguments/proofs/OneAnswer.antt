@@ -1,5 +1,6 @@
 -- Words have one list of values, or one answer that tells of them.
-use Rattle.std.proofs.Common.{◌≡◌, ℕ, suc, ◌+◌, ◌<◌, List, [], ◌∷◌, length, get_or, Some, Ok, Err, ◌⊎◌, inl, inr, arith, refl, sym, ap, subst, ◌∙◌}
+use Rattle.std.proofs.Common.{◌≡◌, ℕ, suc, ◌+◌, ◌<◌, List, [], ◌∷◌, length, get_or, Some, Ok, Err, ◌⊎◌, inl, inr, arith, refl, sym, ap}
+use Rattle.std.proofs.Common.{subst, ◌∙◌}
 use Rattle.std.proofs.lemmas.Bool.{cases_order}
 use Rattle.std.proofs.lemmas.Option.{slice_get-get_or}
 use Rattle.std.specs.Prelude.{slice_get}
@@ -11,7 +12,8 @@ use Rattle.sf_format.specs.declared.unit.PrintLetter.TheVariants as letter
 use Rattle.sf_format.specs.declared.unit.PrintConv.{PrintConv}
 use Rattle.sf_format.specs.declared.unit.Unit.{Unit as PrintUnit}
 use Rattle.sf_arguments.specs.declared.argument_fault.ArgumentFault.{ArgumentFault}
-use Rattle.sf_arguments.specs.declared.argument_fault.ArgumentFault.TheVariants.{WrongCount, BadEscape, NotInKind, NotOneByte, TooLong, Write, Memory}
+use Rattle.sf_arguments.specs.declared.argument_fault.ArgumentFault.TheVariants.{WrongCount, BadEscape, NotInKind, NotOneByte, TooLong}
+use Rattle.sf_arguments.specs.declared.argument_fault.ArgumentFault.TheVariants.{Write, Memory}
 use Rattle.sf_arguments.specs.Words.{IsNumberOf, StandsFor}
 use Rattle.sf_arguments.specs.Arguments.{IsAtFault, IsLowestFault, IsRefusedBy, StandsAt, ValuesOf}
 use Rattle.sf_arguments.specs.Laws.{OneValue, OneList, CountIsTold, FirstIsTold}

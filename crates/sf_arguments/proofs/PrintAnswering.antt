@@ -1,5 +1,6 @@
 -- What a print of words answers, by what its calls answer.
-use Rattle.std.proofs.Common.{◌≡◌, ℕ, ◌<◌, ◌≤◌, Bool, true, false, cond, not, ◌==◌, nat_le, List, length, map, Option, None, Result, Ok, Err, IfErr, OnOk, inl, inr, arith, refl, sym, ap, subst, ◌∙◌}
+use Rattle.std.proofs.Common.{◌≡◌, ℕ, ◌<◌, ◌≤◌, Bool, true, false, cond, not, ◌==◌, nat_le, List, length, map, Option, None, Result, Ok}
+use Rattle.std.proofs.Common.{Err, IfErr, OnOk, inl, inr, arith, refl, sym, ap, subst, ◌∙◌}
 use Rattle.std.proofs.lemmas.Bool.Decides.{nat_tests}
 use Rattle.sf_base.specs.Data.{Datum, datum_of}
 use Rattle.sf_base.specs.declared.values.Value.{Value}
@@ -14,7 +15,8 @@ use Rattle.sf_print.specs.declared.fault.PrintFault.{PrintFault}
 use Rattle.sf_print.specs.declared.fault.PrintFault.TheVariants as print
 use Rattle.sf_print.specs.Printed.{printed, measured, lowest_fault, length_or_fault, most_bytes, is_sink_fault, WritesText}
 use Rattle.sf_arguments.specs.declared.argument_fault.ArgumentFault.{ArgumentFault}
-use Rattle.sf_arguments.specs.declared.argument_fault.ArgumentFault.TheVariants.{WrongCount, BadEscape, NotInKind, NotOneByte, TooLong, Write, Memory}
+use Rattle.sf_arguments.specs.declared.argument_fault.ArgumentFault.TheVariants.{WrongCount, BadEscape, NotInKind, NotOneByte, TooLong}
+use Rattle.sf_arguments.specs.declared.argument_fault.ArgumentFault.TheVariants.{Write, Memory}
 use Rattle.sf_arguments.specs.Arguments.{AllStand, IsLowestFault, IsRefusedBy, ValuesOf}
 use Rattle.sf_arguments.proofs.Places.{values_are}
 use Rattle.sf_arguments.specs.Prints.{Answers, Writes, IsUnwritten, is_write_fault, print_fault}

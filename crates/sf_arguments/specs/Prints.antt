@@ -8,7 +8,8 @@ use Rattle.sf_print.specs.declared.fault.PrintFault.{PrintFault}
 use Rattle.sf_print.specs.declared.fault.PrintFault.TheVariants as print
 use Rattle.sf_print.specs.Printed.{printed, most_bytes}
 use Rattle.sf_arguments.specs.declared.argument_fault.ArgumentFault.{ArgumentFault}
-use Rattle.sf_arguments.specs.declared.argument_fault.ArgumentFault.TheVariants.{WrongCount, BadEscape, NotInKind, NotOneByte, TooLong, Write, Memory}
+use Rattle.sf_arguments.specs.declared.argument_fault.ArgumentFault.TheVariants.{WrongCount, BadEscape, NotInKind, NotOneByte, TooLong}
+use Rattle.sf_arguments.specs.declared.argument_fault.ArgumentFault.TheVariants.{Write, Memory}
 use Rattle.sf_arguments.specs.Arguments.{ValuesOf, IsLowestFault}
 use Rattle.sf_arguments.specs.declared.word_reading.WordReading.{WordReading}
 

@@ -1,5 +1,6 @@
 -- Prints of reports by a print format, without a pair.
-use Rattle.std.specs.Prelude.{◌≡◌, ◌≤◌, ◌<◌, ◌&&◌, ◌||◌, not, ℕ, nat_le, Bool, true, false, if◌then◌else◌, List, length, map, Option, Some, is_ok}
+use Rattle.std.specs.Prelude.{◌≡◌, ◌≤◌, ◌<◌, ◌&&◌, ◌||◌, not, ℕ, nat_le, Bool, true, false, if◌then◌else◌, List, length, map, Option, Some}
+use Rattle.std.specs.Prelude.{is_ok}
 use Rattle.std.specs.Option.{option_map}
 use Rattle.std.specs.Prelude.{from_bits, to_bits}
 use Rattle.std.specs.Float.Ieee.{binary32, binary64}
@@ -54,11 +55,16 @@ holds_all wide narrow =
     if is_text narrow then is_text wide else
     not (is_text wide) && (is_signed wide || not (is_signed narrow)) && nat_le (bits_of narrow) (bits_of wide)
 
+-- `int` where the print format has `long`: the one widening that isn't taken
+abbrev pub is_int_for_long : Kind → Kind → Bool
+is_int_for_long kind.I64 kind.I32 = true
+is_int_for_long _ _ = false
+
 abbrev pub suit : Option Kind → Option Kind → Bool
-suit (Some printed_kind) (Some scanned) = holds_all printed_kind scanned
+suit (Some printed_kind) (Some scanned) = holds_all printed_kind scanned && not (is_int_for_long printed_kind scanned)
 suit _ _ = false
 
--- what the print format prints with the slot has each value that the scan format gives it
+-- what the print format prints with the slot has each value that the scan format gives it, and isn't `long` for `int`
 abbrev pub suits : List PrintUnit → List Directive → ℕ → Bool
 suits units ds slot = suit (kind_with slot (values_of units)) (kind_at slot ds)
 
@@ -73,7 +79,7 @@ IsMismatch units ds (mismatch.Count values destinations) =
     (values ≡ length (values_of units)) × (destinations ≡ length (destinations_of ds)) × (values ≡ destinations → ⊥)
 IsMismatch units ds (mismatch.Kinds slot print scan) =
     (length (values_of units) ≡ length (destinations_of ds)) × (kind_with slot (values_of units) ≡ Some print)
-    × (kind_at slot ds ≡ Some scan) × (holds_all print scan ≡ false)
+    × (kind_at slot ds ≡ Some scan) × (suit (Some print) (Some scan) ≡ false)
     × ((lower : ℕ) → 1 ≤ lower → lower < slot → suits units ds lower ≡ true)
 
 -- ---- records

@@ -1,5 +1,6 @@
 -- What stands in front of a scan that has read a part of a printed text.
-use Rattle.std.proofs.Common.{◌≡◌, ◌≢◌, ℕ, zero, suc, ◌<◌, ◌⊎◌, inl, inr, Bool, true, false, cond, ◌&&◌, List, [], ◌∷◌, ◌++◌, drop, Option, Some, None, is_some, refl, sym, ap, subst, ◌∙◌, append_assoc, eq-eqb, true≢false}
+use Rattle.std.proofs.Common.{◌≡◌, ◌≢◌, ℕ, zero, suc, ◌<◌, ◌⊎◌, inl, inr, Bool, true, false, cond, ◌&&◌, List, [], ◌∷◌, ◌++◌, drop, Option}
+use Rattle.std.proofs.Common.{Some, None, is_some, refl, sym, ap, subst, ◌∙◌, append_assoc, eq-eqb, true≢false}
 use Rattle.sf_base.specs.Bytes.{is_white}
 use Rattle.sf_base.specs.Data.{Datum}
 use Rattle.sf_format.specs.declared.directive.Shape.{Shape}
@@ -18,7 +19,8 @@ use Rattle.sf_report.specs.Laws.{EachByteIsTried}
 use Rattle.sf_report.specs.Computed.{skip}
 use Rattle.sf_pair.specs.declared.fault.PairWhy.TheVariants as why
 use Rattle.sf_pair_texts.specs.Neighbours.{Bytes as ByteTest, meet, first_of, first_by_letter, reads, stop_set}
-use Rattle.sf_pair.specs.Groups.{AreSpace, is_count, starts_with_space, keeps_space, space_fault, always_full, follow_fault, closing_fault, next_of}
+use Rattle.sf_pair.specs.Groups.{AreSpace, is_count, starts_with_space, keeps_space, space_fault, always_full, follow_fault, closing_fault}
+use Rattle.sf_pair.specs.Groups.{next_of}
 use Rattle.sf_pair_texts.proofs.Bodies.{StartsInk, FirstByte}
 use Rattle.sf_pair_texts.proofs.Firsts.{FirstIn, first_append}
 use Rattle.sf_pair.proofs.Taken.{FirstOut}

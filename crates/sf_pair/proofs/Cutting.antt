@@ -1,5 +1,6 @@
 -- The walk over both lists finds no fault exactly where the units can be cut into groups.
-use Rattle.std.proofs.Common.{◌≡◌, ◌≢◌, ℕ, ◌+◌, Bool, true, false, cond, ◌||◌, List, [], ◌∷◌, ◌++◌, Option, Some, None, Ok, Err, refl, sym, ap, subst, ◌∙◌}
+use Rattle.std.proofs.Common.{◌≡◌, ◌≢◌, ℕ, ◌+◌, Bool, true, false, cond, ◌||◌, List, [], ◌∷◌, ◌++◌, Option, Some, None, Ok, Err, refl, sym}
+use Rattle.std.proofs.Common.{ap, subst, ◌∙◌}
 use Rattle.std.specs.Prelude.{is_some}
 use Rattle.std.specs.List.{list_any}
 use Rattle.sf_base.specs.Bytes.{is_white}
@@ -12,8 +13,10 @@ use Rattle.sf_pair.specs.declared.fault.PairWhy.{PairWhy}
 use Rattle.sf_pair.specs.declared.fault.PairWhy.TheVariants as why
 use Rattle.sf_pair.specs.declared.fault.PairFault.{PairFault}
 use Rattle.sf_pair_texts.specs.Neighbours.{Bytes, only, reads}
-use Rattle.sf_pair.specs.Groups.{starts_with_space, space_fault, suppressed_by, pairing_fault, closing_fault, is_count, is_left_out, next_of, assigns, IsLiteral, AreSpace, IsSpaceRun, IsPaired, IsConversionGroup, IsGroup, AreCut}
-use Rattle.sf_pair.specs.Walk.{Left, leaves, unless, take_literal, after_space, take_space, take_paired, take_conversion, take_group, fault, ending_fault, fault_after, fault_from, values_fault, first_fault, AlignedIsAccepted}
+use Rattle.sf_pair.specs.Groups.{starts_with_space, space_fault, suppressed_by, pairing_fault, closing_fault, is_count, is_left_out}
+use Rattle.sf_pair.specs.Groups.{next_of, assigns, IsLiteral, AreSpace, IsSpaceRun, IsPaired, IsConversionGroup, IsGroup, AreCut}
+use Rattle.sf_pair.specs.Walk.{Left, leaves, unless, take_literal, after_space, take_space, take_paired, take_conversion, take_group, fault}
+use Rattle.sf_pair.specs.Walk.{ending_fault, fault_after, fault_from, values_fault, first_fault, AlignedIsAccepted}
 
 -- some front of the units is the directive's group
 abbrev Takes : Directive → List PrintUnit → List PrintUnit → Option Directive → Type 0

@@ -1,5 +1,6 @@
 -- The cutting of a pair, with what each group's value owes.
-use Rattle.std.proofs.Common.{◌≡◌, ℕ, ◌⊎◌, inl, inr, Bool, true, false, cond, List, [], ◌∷◌, ◌++◌, Option, Some, None, is_some, refl, ap, subst, arith}
+use Rattle.std.proofs.Common.{◌≡◌, ℕ, ◌⊎◌, inl, inr, Bool, true, false, cond, List, [], ◌∷◌, ◌++◌, Option, Some, None, is_some, refl, ap}
+use Rattle.std.proofs.Common.{subst, arith}
 use Rattle.std.proofs.lemmas.Bool.{eqb-true}
 use Rattle.std.specs.List.{AllByRecursion, cons_option}
 use Rattle.sf_base.specs.Data.{Datum}
@@ -17,7 +18,8 @@ use Rattle.sf_print.specs.Printed.{value_at, value_fault}
 use Rattle.sf_report.specs.Machine.{shape_skips}
 use Rattle.sf_pair_texts.specs.Below.{LawsBelow}
 use Rattle.sf_pair_texts.specs.Neighbours.{only, no_byte, reads}
-use Rattle.sf_pair.specs.Groups.{IsLiteral, AreSpace, IsSpaceRun, IsPaired, IsConversionGroup, IsGroup, AreCut, is_count, is_left_out, is_width_one, members_of, suppressed_by, closing_fault, next_of}
+use Rattle.sf_pair.specs.Groups.{IsLiteral, AreSpace, IsSpaceRun, IsPaired, IsConversionGroup, IsGroup, AreCut, is_count, is_left_out}
+use Rattle.sf_pair.specs.Groups.{is_width_one, members_of, suppressed_by, closing_fault, next_of}
 use Rattle.sf_pair.specs.Fits.{FitsAt, AllFit, conversions, assigned_by, assigned_conversions}
 use Rattle.sf_pair.proofs.Paired.{or_none, Pairs, pairs, slot_is}
 use Rattle.sf_pair.proofs.Back.{ReadsBack}

@@ -1,5 +1,6 @@
 -- The tests of what fits, and what they say.
-use Rattle.std.proofs.Common.{◌≡◌, ℕ, suc, ◌+◌, ◌<◌, ◌≤◌, Bool, true, false, ◌&&◌, nat_lt, nat_le, nat_eq, List, [], ◌∷◌, length, get_or, drop, is_some, ap₂, ℤ, unsigned_abs, Option, Some, None, from_bits, refl, sym, ap, subst, ◌∙◌, arith}
+use Rattle.std.proofs.Common.{◌≡◌, ℕ, suc, ◌+◌, ◌<◌, ◌≤◌, Bool, true, false, ◌&&◌, nat_lt, nat_le, nat_eq, List, [], ◌∷◌, length, get_or}
+use Rattle.std.proofs.Common.{drop, is_some, ap₂, ℤ, unsigned_abs, Option, Some, None, from_bits, refl, sym, ap, subst, ◌∙◌, arith}
 use Rattle.std.proofs.lemmas.Bool.{eqb-true}
 use Rattle.std.proofs.lemmas.Bool.Decides.{nat_tests, Decides-int_eq}
 use Rattle.std.specs.Prelude.{◌↔◌, not, MatchOption}
@@ -29,7 +30,9 @@ use Rattle.sf_print.specs.Visible.{visible}
 use Rattle.sf_pair_texts.specs.Below.{LawsBelow}
 use Rattle.sf_pair_texts.specs.Reals.{seen, is_pattern, is_read_as}
 use Rattle.sf_pair.specs.Groups.{width_of}
-use Rattle.sf_pair.specs.Fits.{is_negative, TextFits, RealFits, ValueFits, FitsAt, AllFit, Fit, conversions, assigned_by, assigned_conversions, is_number_so, is_of_kind, is_byte, is_item_of, text_fits, real_fits, value_fits, fits_or_not, all_fit, fits, FitsIsFit}
+use Rattle.sf_pair.specs.Fits.{is_negative, TextFits, RealFits, ValueFits, FitsAt, AllFit, Fit, conversions, assigned_by}
+use Rattle.sf_pair.specs.Fits.{assigned_conversions, is_number_so, is_of_kind, is_byte, is_item_of, text_fits, real_fits, value_fits}
+use Rattle.sf_pair.specs.Fits.{fits_or_not, all_fit, fits, FitsIsFit}
 use Rattle.sf_pair.specs.Formats.{Formats}
 use Rattle.sf_pair.proofs.Paired.{and_so, and_both, kinds_are}
 

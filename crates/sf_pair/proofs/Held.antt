@@ -1,5 +1,6 @@
 -- The texts that a report holds.
-use Rattle.std.proofs.Common.{◌≡◌, ℕ, zero, suc, ◌+◌, ◌≤◌, inl, inr, Bool, true, false, List, [], ◌∷◌, ◌++◌, length, take, drop, ℤ, Option, Some, None, refl, sym, ap, subst, arith, length-append}
+use Rattle.std.proofs.Common.{◌≡◌, ℕ, zero, suc, ◌+◌, ◌≤◌, inl, inr, Bool, true, false, List, [], ◌∷◌, ◌++◌, length, take, drop, ℤ, Option}
+use Rattle.std.proofs.Common.{Some, None, refl, sym, ap, subst, arith, length-append}
 use Rattle.std.proofs.lemmas.List.{length-take}
 use Rattle.std.specs.Prelude.{IfSome}
 use Rattle.std.specs.List.{cons_option}
@@ -12,7 +13,8 @@ use Rattle.sf_format.specs.declared.directive.Conversion.{Conversion}
 use Rattle.sf_format.specs.declared.directive.Directive.{Directive}
 use Rattle.sf_format.specs.declared.directive.Directive.TheVariants as directive
 use Rattle.sf_format.specs.Widths.{add_widths, text_width, stored_width, width_sum}
-use Rattle.sf_report.specs.Steps.{StepEnd, Passes, Stores, Misses, Fails, NumberStored, RealStored, CountStep, ItemStored, ItemPasses, EmptyItem, ItemEnds, ConversionStep, Step}
+use Rattle.sf_report.specs.Steps.{StepEnd, Passes, Stores, Misses, Fails, NumberStored, RealStored, CountStep, ItemStored, ItemPasses}
+use Rattle.sf_report.specs.Steps.{EmptyItem, ItemEnds, ConversionStep, Step}
 use Rattle.sf_report.specs.Runs.{Ran, RunReport, GoesOn, Steps, value_stored, values}
 use Rattle.sf_report.specs.declared.outcome.Ending.{Ending}
 use Rattle.sf_report.specs.Limits.{IsCut, RunWithin}

@@ -32,3 +32,4 @@ pub mod Nothing
 pub mod Held
 pub mod JoinedTexts
 pub mod EachDouble
+mod InkMasks

@@ -1,5 +1,7 @@
 -- How an integer's text is read, and what goes on after it.
-use Rattle.std.proofs.Common.{◌≡◌, ℕ, ◌+◌, ◌*◌, ◌<◌, ◌≤◌, ◌⊎◌, inl, inr, Bool, true, false, cond, eqb, ltb, ◌&&◌, ◌||◌, List, [], ◌∷◌, ◌++◌, length, slice_index, ℤ, pos, negsuc, unsigned_abs, Option, Some, None, is_some, refl, sym, ap, subst, ◌∙◌, arith, eq-eqb, lit≤}
+use Rattle.std.proofs.Common.{◌≡◌, ℕ, ◌+◌, ◌*◌, ◌<◌, ◌≤◌, ◌⊎◌, inl, inr, Bool, true, false, cond, eqb, ltb, ◌&&◌, ◌||◌, List, [], ◌∷◌, ◌++◌}
+use Rattle.std.proofs.Common.{length, slice_index, ℤ, pos, negsuc, unsigned_abs, Option, Some, None, is_some, refl, sym, ap, subst, ◌∙◌}
+use Rattle.std.proofs.Common.{arith, eq-eqb, lit≤}
 use Rattle.std.proofs.lemmas.Bool.{ne_eqb}
 use Rattle.std.proofs.lemmas.Bool.Decides.{nat_tests}
 use Rattle.std.specs.Char.{digit_value, is_digit}
@@ -11,7 +13,8 @@ use Rattle.sf_format.specs.declared.directive.Shape.TheVariants as shape
 use Rattle.sf_format.specs.declared.unit.PrintConv.{PrintConv}
 use Rattle.sf_format.specs.declared.unit.PrintLetter.{PrintLetter}
 use Rattle.sf_item.specs.Radices.{first_radix, zero_radix, prefix_radix}
-use Rattle.sf_item.specs.Progress.{Progress, Start, Signed, Zero, Prefix, Digits, integer_of, with_digit, with_first_digit, after_zero, advance}
+use Rattle.sf_item.specs.Progress.{Progress, Start, Signed, Zero, Prefix, Digits, integer_of, with_digit, with_first_digit, after_zero}
+use Rattle.sf_item.specs.Progress.{advance}
 use Rattle.sf_item.specs.Tests.{read}
 use Rattle.sf_print.specs.Text.{mark, base_mark, base_of, least_digits, pads_with_zeros, is_octal}
 use Rattle.sf_print.specs.Visible.{visible, least}

@@ -1,5 +1,6 @@
 -- What is known of a print conversion and a scan conversion that pair.
-use Rattle.std.proofs.Common.{◌≡◌, ℕ, suc, ◌-◌, ◌%◌, ◌^◌, ◌<◌, ◌≤◌, Bool, true, false, cond, eqb, ◌&&◌, ◌||◌, nat_lt, nat_le, [], ◌∷◌, length, ℤ, pos, negsuc, Option, Some, None, is_some, unwrap_or, refl, sym, ap, ◌∙◌, arith, lit≤}
+use Rattle.std.proofs.Common.{◌≡◌, ℕ, suc, ◌-◌, ◌%◌, ◌^◌, ◌<◌, ◌≤◌, Bool, true, false, cond, eqb, ◌&&◌, ◌||◌, nat_lt, nat_le, [], ◌∷◌}
+use Rattle.std.proofs.Common.{length, ℤ, pos, negsuc, Option, Some, None, is_some, unwrap_or, refl, sym, ap, ◌∙◌, arith, lit≤}
 use Rattle.std.specs.Prelude.{not, is_none}
 use Rattle.std.proofs.lemmas.Bool.{eqb-true}
 use Rattle.std.proofs.lemmas.Bool.Decides.{nat_tests}
@@ -15,7 +16,8 @@ use Rattle.sf_print.specs.Text.{least_digits}
 use Rattle.sf_base.specs.Rules.{first_reason}
 pub use Rattle.sf_pair_texts.proofs.Tests.{or_none, not_none, and_so, and_both}
 use Rattle.sf_pair.specs.declared.fault.PairWhy.TheVariants as why
-use Rattle.sf_pair.specs.Groups.{is_integer, is_number, is_text, is_chars, is_one, letters_pair, width_of, least_by, kinds_differ, numbers_differ, bad_flag, has_no_width, too_narrow, leading_zero, rule, pairing_fault}
+use Rattle.sf_pair.specs.Groups.{is_integer, is_number, is_text, is_chars, is_one, letters_pair, width_of, least_by, kinds_differ}
+use Rattle.sf_pair.specs.Groups.{numbers_differ, bad_flag, has_no_width, too_narrow, leading_zero, rule, pairing_fault}
 use Rattle.sf_pair.specs.Fits.{IsOfKind}
 
 -- ---- tests

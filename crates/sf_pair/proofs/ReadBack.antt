@@ -1,5 +1,7 @@
 -- What a conversion prints of a value that fits, the scan's conversion reads back.
-use Rattle.std.proofs.Common.{◌≡◌, ℕ, zero, suc, ◌-◌, ◌<◌, ◌≤◌, ◌⊎◌, inl, inr, Bool, true, false, cond, eqb, ltb, ◌&&◌, ◌||◌, nat_lt, List, [], ◌∷◌, ◌++◌, length, ℤ, pos, unsigned_abs, Option, Some, None, is_some, unwrap_or, refl, sym, ap, subst, ◌∙◌, arith, append-nil, lit≤, true≢false}
+use Rattle.std.proofs.Common.{◌≡◌, ℕ, zero, suc, ◌-◌, ◌<◌, ◌≤◌, ◌⊎◌, inl, inr, Bool, true, false, cond, eqb, ltb, ◌&&◌, ◌||◌, nat_lt, List}
+use Rattle.std.proofs.Common.{[], ◌∷◌, ◌++◌, length, ℤ, pos, unsigned_abs, Option, Some, None, is_some, unwrap_or, refl, sym, ap, subst}
+use Rattle.std.proofs.Common.{◌∙◌, arith, append-nil, lit≤, true≢false}
 use Rattle.std.specs.Prelude.{not, IsSome}
 use Rattle.std.proofs.lemmas.Bool.{eqb-true, lt-ltb}
 use Rattle.std.proofs.lemmas.Bool.Decides.{nat_tests}
@@ -22,7 +24,8 @@ use Rattle.sf_format.specs.declared.unit.PrintLetter.TheVariants as letter
 use Rattle.sf_format.specs.Units.{IsProperConv, has_flag, prints_kind, is_unsigned, is_double, is_text as is_text_kind}
 use Rattle.sf_format.specs.Proper.{IsProperWidth, HasItsWidth}
 use Rattle.sf_item.specs.Tests.{is_ink}
-use Rattle.sf_print.specs.Text.{integer_text, bytes_text, shown_bytes, padded, blanks, base_of, base_mark, is_octal, least_digits, pads_with_zeros}
+use Rattle.sf_print.specs.Text.{integer_text, bytes_text, shown_bytes, padded, blanks, base_of, base_mark, is_octal, least_digits}
+use Rattle.sf_print.specs.Text.{pads_with_zeros}
 use Rattle.sf_report.specs.Steps.{Stores}
 use Rattle.sf_report.specs.Machine.{shape_skips}
 use Rattle.sf_print.specs.Visible.{visible, least}

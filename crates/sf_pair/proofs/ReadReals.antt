@@ -1,5 +1,6 @@
 -- What is printed of a double that fits is read back.
-use Rattle.std.proofs.Common.{◌≡◌, inl, inr, ℕ, zero, suc, ◌+◌, ◌-◌, ◌<◌, ◌≤◌, Bool, true, false, cond, ltb, ◌&&◌, nat_lt, List, [], ◌∷◌, ◌++◌, length, Option, Some, None, is_some, option_map, from_bits, refl, sym, ap, subst, ◌∙◌, arith}
+use Rattle.std.proofs.Common.{◌≡◌, inl, inr, ℕ, zero, suc, ◌+◌, ◌-◌, ◌<◌, ◌≤◌, Bool, true, false, cond, ltb, ◌&&◌, nat_lt, List, [], ◌∷◌}
+use Rattle.std.proofs.Common.{◌++◌, length, Option, Some, None, is_some, option_map, from_bits, refl, sym, ap, subst, ◌∙◌, arith}
 use Rattle.std.specs.Prelude.{not}
 use Rattle.std.proofs.lemmas.Bool.{eqb-true, lt-ltb, ltb-true}
 use Rattle.std.specs.Float.{is_sign_negative, float_is_finite}
@@ -32,15 +33,18 @@ use Rattle.sf_print.specs.Visible.{without_blanks}
 use Rattle.sf_report.specs.Machine.{shape_skips, passed_end, stored_end, real_in, real_end}
 use Rattle.sf_pair_texts.specs.Below.{LawsBelow}
 use Rattle.sf_pair_texts.specs.Reals.{seen, zero_seen, has_point}
-use Rattle.sf_pair_texts.specs.Neighbours.{Bytes as ByteTest, only, or, digits_in, float_digit, float_first, first_by_letter, fraction_stops, whole_stops, float_stops, stop_set}
+use Rattle.sf_pair_texts.specs.Neighbours.{Bytes as ByteTest, only, or, digits_in, float_digit, float_first, first_by_letter}
+use Rattle.sf_pair_texts.specs.Neighbours.{fraction_stops, whole_stops, float_stops, stop_set}
 use Rattle.sf_pair.specs.Groups.{is_chars, width_of}
 use Rattle.sf_pair.specs.Fits.{RealFits}
 use Rattle.sf_pair_texts.proofs.Bodies.{FirstByte, blanks_byte}
 use Rattle.sf_pair_texts.proofs.Firsts.{FirstIn, first_weaker, or_right}
 use Rattle.sf_pair.proofs.Taken.{FirstOut, taken_within, either_ends}
 use Rattle.sf_pair.proofs.Paired.{full_by, Pairs, kinds_are, slot_is, width_is}
-use Rattle.sf_pair_texts.proofs.Places.{one_of, digits, passes, decimal_place, pointed_place, exponent_place, stopped_exponent, stopped_fraction, stopped_whole, was_read, none_follows}
-use Rattle.sf_pair_texts.proofs.RealTexts.{StartsDigit, size_of, hidden, after_sign, body, before, text_is, digit_follows, body_ink, seen_is, exponent_ends, general_ends, fixed_ends, pointed_ends}
+use Rattle.sf_pair_texts.proofs.Places.{one_of, digits, passes, decimal_place, pointed_place, exponent_place, stopped_exponent}
+use Rattle.sf_pair_texts.proofs.Places.{stopped_fraction, stopped_whole, was_read, none_follows}
+use Rattle.sf_pair_texts.proofs.RealTexts.{StartsDigit, size_of, hidden, after_sign, body, before, text_is, digit_follows, body_ink}
+use Rattle.sf_pair_texts.proofs.RealTexts.{seen_is, exponent_ends, general_ends, fixed_ends, pointed_ends}
 use Rattle.sf_pair_texts.proofs.RealSizes.{zero_is, least_is_shortest}
 use Rattle.sf_pair.proofs.Back.{SkipsSo, ReadsBack}
 

@@ -1,5 +1,6 @@
 -- What is refused for what follows a group would be read on into it.
-use Rattle.std.proofs.Common.{◌≡◌, ℕ, suc, ◌+◌, Bool, true, false, cond, ◌&&◌, List, [], ◌∷◌, ◌++◌, length, Option, Some, None, Err, refl, sym, ap, subst, ◌∙◌, arith, lit≤, append-nil}
+use Rattle.std.proofs.Common.{◌≡◌, ℕ, suc, ◌+◌, Bool, true, false, cond, ◌&&◌, List, [], ◌∷◌, ◌++◌, length, Option, Some, None, Err, refl}
+use Rattle.std.proofs.Common.{sym, ap, subst, ◌∙◌, arith, lit≤, append-nil}
 use Rattle.sf_base.specs.Bytes.{is_white}
 use Rattle.sf_format.specs.declared.directive.Shape.{Shape}
 use Rattle.sf_format.specs.declared.directive.Conversion.{Conversion}
@@ -16,7 +17,8 @@ use Rattle.sf_report.specs.Computed.{skip}
 use Rattle.sf_pair_texts.specs.Below.{LawsBelow}
 use Rattle.sf_pair.specs.declared.fault.PairWhy.TheVariants as why
 use Rattle.sf_pair_texts.specs.Neighbours.{only, meet, first_by, reads, stop_set}
-use Rattle.sf_pair.specs.Groups.{always_full, follow_fault, closing_fault, keeps_space, AreSpace, starts_with_space, space_fault, pairing_fault, next_of}
+use Rattle.sf_pair.specs.Groups.{always_full, follow_fault, closing_fault, keeps_space, AreSpace, starts_with_space, space_fault}
+use Rattle.sf_pair.specs.Groups.{pairing_fault, next_of}
 use Rattle.sf_pair.specs.Walk.{leaves, after_space, take_space, take_group}
 use Rattle.sf_pair.specs.Laws.{RunsPast, RunsInto, OpenEndsAreOpen, LiteralsAreRunInto}
 use Rattle.sf_pair.proofs.Cutting.{space_front}

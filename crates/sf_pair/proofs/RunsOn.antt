@@ -1,5 +1,6 @@
 -- An item that could go on with the byte after its text takes that byte.
-use Rattle.std.proofs.Common.{◌≡◌, ℕ, ◌+◌, true, List, [], ◌∷◌, ◌++◌, length, drop, refl, sym, ap, subst, ◌∙◌, arith, append_assoc, append-nil, length-append}
+use Rattle.std.proofs.Common.{◌≡◌, ℕ, ◌+◌, true, List, [], ◌∷◌, ◌++◌, length, drop, refl, sym, ap, subst, ◌∙◌, arith, append_assoc}
+use Rattle.std.proofs.Common.{append-nil, length-append}
 use Rattle.std.proofs.lemmas.List.{drop_at, length-replicate}
 use Rattle.sf_base.specs.Data.{Datum}
 use Rattle.sf_format.specs.declared.directive.Shape.{Shape}

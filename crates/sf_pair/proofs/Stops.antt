@@ -1,5 +1,6 @@
 -- Where the walk over both formats stops, and which conversion is left unclosed there.
-use Rattle.std.proofs.Common.{◌≡◌, ℕ, ◌+◌, Bool, true, false, cond, List, [], ◌∷◌, ◌++◌, length, Option, Some, None, Ok, Err, is_some, refl, sym, ap, subst, ◌∙◌, arith, true≢false}
+use Rattle.std.proofs.Common.{◌≡◌, ℕ, ◌+◌, Bool, true, false, cond, List, [], ◌∷◌, ◌++◌, length, Option, Some, None, Ok, Err, is_some, refl}
+use Rattle.std.proofs.Common.{sym, ap, subst, ◌∙◌, arith, true≢false}
 use Rattle.std.specs.List.{list_any}
 use Rattle.sf_format.specs.declared.directive.Conversion.{Conversion}
 use Rattle.sf_format.specs.declared.directive.Directive.{Directive}
@@ -13,8 +14,10 @@ use Rattle.sf_pair.specs.declared.fault.PairWhy.{PairWhy}
 use Rattle.sf_pair.specs.declared.fault.PairWhy.TheVariants as why
 use Rattle.sf_pair.specs.declared.fault.PairFault.{PairFault}
 use Rattle.sf_pair_texts.specs.Neighbours.{Bytes as ByteTest, reads}
-use Rattle.sf_pair.specs.Groups.{is_count, kinds_differ, numbers_differ, bad_flag, has_no_width, too_narrow, leading_zero, rule, pairing_fault, closing_fault, IsGroup, suppressed_by, next_of, assigns}
-use Rattle.sf_pair.specs.Walk.{Left, leaves, unless, take_literal, take_paired, take_conversion, take_group, fault, fault_after, fault_from, values_fault, first_fault, pair_fault}
+use Rattle.sf_pair.specs.Groups.{is_count, kinds_differ, numbers_differ, bad_flag, has_no_width, too_narrow, leading_zero, rule}
+use Rattle.sf_pair.specs.Groups.{pairing_fault, closing_fault, IsGroup, suppressed_by, next_of, assigns}
+use Rattle.sf_pair.specs.Walk.{Left, leaves, unless, take_literal, take_paired, take_conversion, take_group, fault, fault_after, fault_from}
+use Rattle.sf_pair.specs.Walk.{values_fault, first_fault, pair_fault}
 use Rattle.sf_pair.specs.Laws.{Leaves, StopsAt}
 use Rattle.sf_pair.proofs.Cutting.{units_taken}
 use Rattle.sf_pair.proofs.FitCut.{all_rest}

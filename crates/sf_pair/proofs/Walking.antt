@@ -1,5 +1,6 @@
 -- Steps of the walk over both lists.
-use Rattle.std.proofs.Common.{◌≡◌, ℕ, suc, ◌+◌, ◌<◌, Bool, true, false, cond, ◌||◌, List, ◌∷◌, length, drop, get_or, Ok, refl, sym, ap, ◌∙◌, arith}
+use Rattle.std.proofs.Common.{◌≡◌, ℕ, suc, ◌+◌, ◌<◌, Bool, true, false, cond, ◌||◌, List, ◌∷◌, length, drop, get_or, Ok, refl, sym, ap, ◌∙◌}
+use Rattle.std.proofs.Common.{arith}
 use Rattle.std.specs.List.{list_any}
 use Rattle.std.proofs.Math.Seq.{drop-cons}
 use Rattle.sf_format.specs.declared.unit.Unit.{Unit as PrintUnit}

@@ -1,5 +1,6 @@
 -- Values that a pair carries over.
-use Rattle.std.specs.Prelude.{ℕ, ℤ, pos, negsuc, ◌≡◌, ◌<◌, ◌≤◌, ◌↔◌, Bool, true, false, ◌==◌, ◌&&◌, nat_lt, nat_le, List, [], ◌∷◌, length, Option, Some, None, unsigned_abs, from_bits}
+use Rattle.std.specs.Prelude.{ℕ, ℤ, pos, negsuc, ◌≡◌, ◌<◌, ◌≤◌, ◌↔◌, Bool, true, false, ◌==◌, ◌&&◌, nat_lt, nat_le, List, [], ◌∷◌, length}
+use Rattle.std.specs.Prelude.{Option, Some, None, unsigned_abs, from_bits}
 use Rattle.std.specs.Float.{float_is_finite}
 use Rattle.std.specs.Float.Ieee.{binary64}
 use Rattle.std.specs.List.{AllByRecursion, filter_map, list_all}

@@ -1,5 +1,6 @@
 -- The units of a print format, cut into one group for each directive of a scan format.
-use Rattle.std.specs.Prelude.{ℕ, ◌≡◌, ◌≢◌, Bool, true, false, ◌==◌, ◌&&◌, ◌||◌, not, if◌then◌else◌, nat_lt, List, [], ◌∷◌, ◌++◌, length, Option, Some, None, unwrap_or, is_none, is_some}
+use Rattle.std.specs.Prelude.{ℕ, ◌≡◌, ◌≢◌, Bool, true, false, ◌==◌, ◌&&◌, ◌||◌, not, if◌then◌else◌, nat_lt, List, [], ◌∷◌, ◌++◌, length}
+use Rattle.std.specs.Prelude.{Option, Some, None, unwrap_or, is_none, is_some}
 use Rattle.std.specs.List.{list_any}
 use Rattle.sf_base.specs.Bytes.{is_white}
 use Rattle.sf_base.specs.Sets.{has_byte}

@@ -1,12 +1,14 @@
 //! Values that a pair carries over.
-ghost use Rattle.std.specs.Prelude.{◌≡◌, ◌≤◌, ◌∷◌, [], true, Option, Some, None, MatchOption, length, map, ◌&&◌, nat_lt, nat_le};
+ghost use Rattle.std.specs.Prelude.{◌≡◌, ◌≤◌, ◌∷◌, [], true, Option, Some, None, MatchOption, length, map, ◌&&◌};
+ghost use Rattle.std.specs.Prelude.{nat_lt, nat_le};
 ghost use Rattle.std.specs.List.{list_all};
 ghost use Rattle.sf_item.specs.Tests.{is_ink};
 ghost use Rattle.sf_base.specs.Sets.{has_byte};
 ghost use Rattle.sf_base.specs.Data.{datum_of};
 ghost use Rattle.sf_print.specs.Printed.{value_at};
 ghost use Rattle.sf_pair.specs.Groups.{width_of};
-ghost use Rattle.sf_pair.specs.Fits.{is_byte, is_item_of, text_fits, value_fits, fits_or_not, all_fit, conversions, assigned_conversions, assigned_by, fits};
+ghost use Rattle.sf_pair.specs.Fits.{is_byte, is_item_of, text_fits, value_fits, fits_or_not, all_fit, conversions};
+ghost use Rattle.sf_pair.specs.Fits.{assigned_conversions, assigned_by, fits};
 
 use crate::doubles::double_fits;
 use crate::pairing::width_of;
@@ -15,7 +17,8 @@ use sf_format::{Conversion, Directive, PrintConv, Shape, Unit};
 use sf_print::{core_len, value_of_slot};
 
 /// Whether the bytes are some, and at most so many.
-fn is_between(bytes: &[u8], width: u32) -> bool
+#[inline]
+pub(crate) fn is_between(bytes: &[u8], width: u32) -> bool
     ensures { result ≡ (nat_lt 0 (length bytes.now) && nat_le (length bytes.now) width) }
 {
     !bytes.is_empty() && bytes.len() <= width as usize

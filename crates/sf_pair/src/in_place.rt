@@ -1,5 +1,6 @@
 //! Texts of values that a pair carries over, written in place.
-ghost use Rattle.std.specs.Prelude.{◌≡◌, ◌≤◌, ◌+◌, ◌∷◌, ◌++◌, [], true, MatchOption, IfSome, IsSome, length, map, take};
+ghost use Rattle.std.specs.Prelude.{◌≡◌, ◌≤◌, ◌+◌, ◌∷◌, ◌++◌, [], true, None, Some, MatchOption, IfSome, IsSome};
+ghost use Rattle.std.specs.Prelude.{length, map, take};
 ghost use Rattle.std.specs.Option.{option_map};
 ghost use Rattle.sf_base.specs.Data.{datum_of_shown};
 ghost use Rattle.sf_print.specs.Text.{value_text};
@@ -10,6 +11,7 @@ use crate::as_shown::AsShown;
 use crate::doubles::double_is_read;
 use crate::fitting::{assigned, text_fits};
 use crate::pairing::width_of;
+use crate::quick::write_quickly;
 use sf_base::{Real, Shown};
 use sf_format::{Conversion, Directive, PrintConv, Unit};
 use sf_print::{visible_len, write_value};
@@ -30,7 +32,12 @@ fn next_assigned(directives: &[Directive]) -> Option<(&Conversion, &[Directive])
 
 /// Whether the scan's conversion reads the text that the other printed of the value.
 #[inline(always)]
-fn text_is_read(conv: &PrintConv, scan: &Conversion, value: Shown<'_>, text: &[u8]) -> bool
+pub(crate) fn text_is_read(
+    conv: &PrintConv,
+    scan: &Conversion,
+    value: Shown<'_>,
+    text: &[u8],
+) -> bool
     requires { text.now ≡ value_text conv.now (datum_of_shown value) }
     ensures { result ≡ value_fits conv.now scan.now (datum_of_shown value.entry) }
 {
@@ -46,14 +53,43 @@ fn text_is_read(conv: &PrintConv, scan: &Conversion, value: Shown<'_>, text: &[u
 
 /// The value of a slot, where there is one. Slots are counted from 1.
 #[inline(always)]
-fn value_in<V: AsShown>(values: &[V], slot: u8) -> Option<Shown<'_>>
-    ensures { option_map datum_of_shown result ≡ value_at (map V.datum values.entry.now) slot }
+fn value_in<V: AsShown>(values: &[V], slot: u8) -> Option<&V>
+    ensures { MatchOption result (value_at (map V.datum values.entry.now) slot ≡ None)
+        (λ value. value_at (map V.datum values.entry.now) slot ≡ Some (V.datum value.now)) }
 {
     let place = slot as usize;
     if place == 0 || values.len() < place {
         return None;
     }
-    Some(values[place - 1].as_shown())
+    Some(&values[place - 1])
+}
+
+/// Writes the text that the conversion prints of a value from a place on, and answers where it ends. None where the
+/// scan's conversion doesn't read it, or where there is no room. It is a call of its own, so that most values don't pay
+/// for it.
+#[inline(never)]
+fn write_any<V: AsShown>(
+    conv: &PrintConv,
+    scan: &Conversion,
+    value: &V,
+    buf: &mut [u8],
+    at: usize,
+) -> Option<usize>
+    requires { at ≤ length buf.old }
+    ensures within { IfSome result (λ end. end ≤ length buf.new) }
+    ensures written { IfSome result (λ end. take end buf.new
+        ≡ take at buf.old ++ value_text conv.now (V.datum value.now)) }
+    ensures fits { IfSome result (λ _. value_fits conv.now scan.now (V.datum value.now) ≡ true) }
+    ensures answers { value_fits conv.now scan.now (V.datum value.now) ≡ true
+        → at + length (value_text conv.now (V.datum value.now)) + 21 ≤ length buf.old → IsSome result }
+{
+    let shown = value.as_shown();
+    let end = write_value(conv, shown, buf, at)?;
+    if text_is_read(conv, scan, shown, &buf[at..end]) {
+        Some(end)
+    } else {
+        None
+    }
 }
 
 /// Writes the text that the conversion prints of its value from a place on, and answers where it ends. None where the
@@ -77,12 +113,10 @@ fn write_fitting<V: AsShown>(
         → IsSome result }
 {
     let value = value_in(values, conv.slot)?;
-    let end = write_value(conv, value, buf, at)?;
-    if text_is_read(conv, scan, value, &buf[at..end]) {
-        Some(end)
-    } else {
-        None
+    if let Some(end) = write_quickly(conv, scan, value, buf, at) {
+        return Some(end);
     }
+    write_any(conv, scan, value, buf, at)
 }
 
 /// Writes a byte from a place on, and answers where it ends. None where there is no room.

@@ -4,7 +4,9 @@ ghost use Rattle.sf_pair.specs.Walk.{AlignedIsAccepted};
 ghost use Rattle.sf_pair.specs.Doubles.{FiniteDoublesFit};
 ghost use Rattle.sf_pair.specs.Fits.{FitsIsFit};
 ghost use Rattle.sf_pair.specs.Joined.{JoinedRoundTrip};
-ghost use Rattle.sf_pair.specs.Laws.{AlignedEndsOnNothing, AlignedIsBounded, AlignedIsWhole, AlignedMissesNone, AlignedSlotsAgree, EachStopIsOne, HeldIsBounded, LiteralsAreRunInto, OpenEndsAreOpen, PrintsSome, ReadWithin, RoundTrip};
+ghost use Rattle.sf_pair.specs.Laws.{AlignedEndsOnNothing, AlignedIsBounded, AlignedIsWhole, AlignedMissesNone};
+ghost use Rattle.sf_pair.specs.Laws.{AlignedSlotsAgree, EachStopIsOne, HeldIsBounded, LiteralsAreRunInto};
+ghost use Rattle.sf_pair.specs.Laws.{OpenEndsAreOpen, PrintsSome, ReadWithin, RoundTrip};
 
 use sf_float::laws::{general_reads_back, general_zero_reads_back};
 use sf_float_value::laws::hexadecimal_reads_back;

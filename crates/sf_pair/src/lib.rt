@@ -9,6 +9,7 @@ mod in_place;
 pub mod laws;
 mod pair;
 mod pairing;
+mod quick;
 mod walk;
 
 pub use as_shown::AsShown;

@@ -1,5 +1,6 @@
 //! Pairs of formats.
-ghost use Rattle.std.specs.Prelude.{◌≡◌, ◌≤◌, ◌<◌, ◌+◌, ◌↔◌, length, map, take, Some, Err, IfSome, IfOk, IfErr, IsOk, IsSome, IsTrue, IsErrOf, if◌then◌else◌};
+ghost use Rattle.std.specs.Prelude.{◌≡◌, ◌≤◌, ◌<◌, ◌+◌, ◌↔◌, length, map, take, Some, Err, IfSome, IfOk, IfErr, IsOk};
+ghost use Rattle.std.specs.Prelude.{IsSome, IsTrue, IsErrOf, if◌then◌else◌};
 ghost use Rattle.sf_base.specs.Data.{datum_of};
 ghost use Rattle.sf_print.specs.declared.fault.PrintFault.TheVariants.{TooLong};
 ghost use Rattle.sf_print.specs.Printed.{printed};

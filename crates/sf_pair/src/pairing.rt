@@ -4,7 +4,9 @@ ghost use Rattle.sf_print.specs.Printed.{same_kind};
 ghost use Rattle.sf_print.specs.Text.{pads_with_zeros, least_digits};
 ghost use Rattle.sf_print.specs.Visible.{least};
 ghost use Rattle.sf_pair_texts.specs.Neighbours.{meet, first_by, stop_set};
-ghost use Rattle.sf_pair.specs.Groups.{is_integer, is_number, is_text, is_chars, is_auto, letters_pair, width_of, kinds_differ, numbers_differ, bad_flag, has_no_width, too_narrow, leading_zero, pairing_fault, always_full, closing_fault};
+ghost use Rattle.sf_pair.specs.Groups.{is_integer, is_number, is_text, is_chars, is_auto, letters_pair, width_of};
+ghost use Rattle.sf_pair.specs.Groups.{kinds_differ, numbers_differ, bad_flag, has_no_width, too_narrow, leading_zero};
+ghost use Rattle.sf_pair.specs.Groups.{pairing_fault, always_full, closing_fault};
 
 use crate::fault::PairWhy;
 use sf_base::{Rule, first_fault};

@@ -5,7 +5,8 @@ ghost use Rattle.sf_base.specs.Bytes.{is_white};
 ghost use Rattle.sf_format.specs.declared.directive.Directive.{Directive};
 ghost use Rattle.sf_pair_texts.specs.Neighbours.{meet, first_by, reads};
 ghost use Rattle.sf_pair.specs.Groups.{keeps_space, starts_with_space, space_fault, literals_of, assigns, next_of};
-ghost use Rattle.sf_pair.specs.Walk.{after_space, take_literal, take_space, take_paired, take_group, pair_fault, fault_from};
+ghost use Rattle.sf_pair.specs.Walk.{after_space, take_literal, take_space, take_paired, take_group, pair_fault};
+ghost use Rattle.sf_pair.specs.Walk.{fault_from};
 
 use crate::fault::{PairFault, PairWhy};
 use crate::pairing::{closing_fault, pairing_fault};

@@ -1,5 +1,6 @@
 //! Reading by a pair.
-ghost use Rattle.std.specs.Prelude.{◌≡◌, ◌≤◌, ◌<◌, ◌+◌, ◌++◌, ◌⊎◌, ◌↔◌, ℕ, List, length, true, false, Some, IfOk, IfErr, IsOk, IsErrOf, IsSomeAnd, unwrap_or, if◌then◌else◌};
+ghost use Rattle.std.specs.Prelude.{◌≡◌, ◌≤◌, ◌<◌, ◌+◌, ◌++◌, ◌⊎◌, ◌↔◌, ℕ, List, length, true, false, Some, IfOk};
+ghost use Rattle.std.specs.Prelude.{IfErr, IsOk, IsErrOf, IsSomeAnd, unwrap_or, if◌then◌else◌};
 ghost use Rattle.sf_base.specs.Data.{Datum};
 ghost use Rattle.sf_base.specs.Kept.{buffer_of, texts_in};
 ghost use Rattle.sf_format.specs.Proper.{destinations_of};

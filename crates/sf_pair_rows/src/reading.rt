@@ -1,11 +1,13 @@
 //! Reading rows by a pair.
 ghost use Rattle.std.specs.Prelude.{◌≡◌, ◌≤◌, ◌⊎◌, ◌++◌, ℕ, List, map, vec_len, true, Some, Err, IfOk, IfErr};
+ghost use Rattle.std.specs.List.{AllByRecursion};
 ghost use Rattle.sf_base.specs.Data.{Datum};
 ghost use Rattle.sf_pair.specs.Joined.{joined};
+ghost use Rattle.sf_read.specs.Rows.{present, slots_by};
 ghost use Rattle.sf_read.specs.Ahead.{input_of};
 ghost use Rattle.sf_read.specs.RowScans.{HasShape};
 ghost use Rattle.sf_read.specs.Counts.{counted_on};
-ghost use Rattle.sf_pair_rows.specs.Reading.{AreReadable, IsMemory, is_end};
+ghost use Rattle.sf_pair_rows.specs.Reading.{AreReadable, IsMemory, ReadsRows, StopsBefore, is_end};
 
 use crate::below::pair_laws;
 use crate::fault::ReadRowsFault;
@@ -50,6 +52,14 @@ pub fn read_rows<T: Row + Drop, S: Source, const N: usize>(
         z → HasShape T.kinds T.optional pair.now.scan
         → input_of S.to_come from.old ≡ Some (joined pair.now.print rows ++ z)
         → S.failures from.new.source ≡ 0 → IfErr result (λ fault. IsMemory fault.why) }
+    ensures rows { IfOk result (λ v. ReadsRows S.to_come S.reads S.failures N T.kinds (slots_by T.given T.listed)
+        pair.now.scan limit most from.old from.new v.items) }
+    ensures listed { IfOk result (λ v. AllByRecursion (λ row. T.listed row ≡ present (slots_by T.given T.listed row))
+        v.items) }
+    ensures stops { IfErr result (λ fault. StopsBefore S.to_come S.reads S.failures N T.kinds T.optional
+        (slots_by T.given T.listed) pair.now.scan limit from.old from.new fault) }
+    ensures no_read { from.old.at_end ≡ true → from.new.source ≡ from.old.source }
+    ensures stays { from.old.at_end ≡ true → from.new.at_end ≡ true }
     ensures few { IfOk result (λ v. vec_len v ≤ most) }
     ensures ended { IfOk result (λ v. (vec_len v ≡ most) ⊎ (from.new.at_end ≡ true)) }
     ensures shape { (HasShape T.kinds T.optional pair.now.scan → ⊥) → (result ≡ Err (record {

@@ -1,5 +1,7 @@
 -- The computed binary digits of a finite double are those that the definitions ask for.
-use Rattle.std.proofs.Common.{◌≡◌, inl, inr, ℕ, zero, suc, ◌+◌, ◌-◌, ◌*◌, ◌/◌, ◌%◌, ◌^◌, ◌<◌, ◌≤◌, Bool, true, false, ◌&&◌, nat_lt, nat_le, nat_eq, T, pos, negsuc, Option, Some, None, refl, sym, ap, ◌∙◌, subst, arith, eq-zero-or-pos, mul-div_cancel, pow_pos, pow-suc, div-lt_iff_lt-mul, lt_of_mul-lt-mul_right, mul-lt-mul_of_pos_right}
+use Rattle.std.proofs.Common.{◌≡◌, inl, inr, ℕ, zero, suc, ◌+◌, ◌-◌, ◌*◌, ◌/◌, ◌%◌, ◌^◌, ◌<◌, ◌≤◌, Bool, true, false, ◌&&◌, nat_lt, nat_le}
+use Rattle.std.proofs.Common.{nat_eq, T, pos, negsuc, Option, Some, None, refl, sym, ap, ◌∙◌, subst, arith, eq-zero-or-pos, mul-div_cancel}
+use Rattle.std.proofs.Common.{pow_pos, pow-suc, div-lt_iff_lt-mul, lt_of_mul-lt-mul_right, mul-lt-mul_of_pos_right}
 use Rattle.std.proofs.Math.Nat.{pow-le-pow_right, zero-div}
 use lib.Dec.{lit<}
 use lib.Ieee.Fits.{down_pos, and_l, and_r}
@@ -9,7 +11,8 @@ use Rattle.std.specs.Float.{float_is_finite}
 use Rattle.std.specs.Float.Ieee.{Float, nan, inf, fin, up, down, fits, binary64}
 use Rattle.std.specs.Float.Ieee.Exact.{HasValue}
 use Rattle.sf_float.specs.Hexadecimal.{IsBinary, binary_power, IsHexNumeral, IsHexadecimalText}
-use Rattle.sf_float.specs.Computed.{least_passing, count_of, needed_of, cut_to, units_of, two_power_of, binary_number_of, hex_numeral_of, binary_exponent_of, hexadecimal_of}
+use Rattle.sf_float.specs.Computed.{least_passing, count_of, needed_of, cut_to, units_of, two_power_of, binary_number_of, hex_numeral_of}
+use Rattle.sf_float.specs.Computed.{binary_exponent_of, hexadecimal_of}
 use Rattle.sf_pair_texts.proofs.RealSizes.{passing}
 use Rattle.sf_pair_texts.proofs.LongestReals.{reached, t_less}
 use Rattle.sf_pair_texts.proofs.SignificantDigits.{all_failing, not_below, least_down}

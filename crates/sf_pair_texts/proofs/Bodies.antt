@@ -1,5 +1,6 @@
 -- What a scan sees of an integer's text: a sign, the mark of its base and digits.
-use Rattle.std.proofs.Common.{◌≡◌, ℕ, zero, suc, ◌+◌, ◌-◌, ◌*◌, ◌^◌, ◌<◌, ◌≤◌, Bool, true, false, cond, eqb, ltb, List, [], ◌∷◌, ◌++◌, length, slice_index, ℤ, pos, negsuc, unsigned_abs, refl, sym, ap, subst, ◌∙◌, arith, length-append}
+use Rattle.std.proofs.Common.{◌≡◌, ℕ, zero, suc, ◌+◌, ◌-◌, ◌*◌, ◌^◌, ◌<◌, ◌≤◌, Bool, true, false, cond, eqb, ltb, List, [], ◌∷◌, ◌++◌}
+use Rattle.std.proofs.Common.{length, slice_index, ℤ, pos, negsuc, unsigned_abs, refl, sym, ap, subst, ◌∙◌, arith, length-append}
 use Rattle.std.proofs.lemmas.List.{length-replicate}
 use Rattle.std.proofs.lemmas.Bool.{lt-ltb, le-ltb}
 use Rattle.std.proofs.lemmas.Bool.Decides.{nat_tests}
@@ -9,7 +10,8 @@ use Rattle.sf_base.specs.Bytes.{is_white}
 use Rattle.sf_format.specs.declared.unit.PrintConv.{PrintConv}
 use Rattle.sf_format.specs.declared.unit.PrintLetter.{PrintLetter}
 use Rattle.sf_format.specs.declared.unit.PrintLetter.TheVariants as letter
-use Rattle.sf_print.specs.Text.{integer_text, sign, all_digits, mark, least_digits, blanks, zeros, left_blanks, inner_zeros, base_of, base_mark, is_upper, is_octal, pads_with_zeros}
+use Rattle.sf_print.specs.Text.{integer_text, sign, all_digits, mark, least_digits, blanks, zeros, left_blanks, inner_zeros, base_of}
+use Rattle.sf_print.specs.Text.{base_mark, is_upper, is_octal, pads_with_zeros}
 use Rattle.sf_print.specs.Visible.{without_blanks, visible}
 use Rattle.sf_pair_texts.specs.Below.{LawsBelow}
 use Rattle.sf_pair_texts.proofs.Parts.{bare_sign, hidden, sign_is, digits_of, Filled, fill, counted_length, parts_of}

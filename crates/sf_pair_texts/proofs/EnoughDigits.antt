@@ -1,5 +1,6 @@
 -- What e prints of a finite double with 16 digits after the point or more, and g with 17 digits or more, is read as that double.
-use Rattle.std.proofs.Common.{◌≡◌, ℕ, zero, suc, ◌+◌, ◌/◌, ◌^◌, ◌<◌, ◌≤◌, Bool, true, inl, inr, List, ◌++◌, length, pos, Some, T, refl, sym, ap, ◌∙◌, subst, arith, append-nil}
+use Rattle.std.proofs.Common.{◌≡◌, ℕ, zero, suc, ◌+◌, ◌/◌, ◌^◌, ◌<◌, ◌≤◌, Bool, true, inl, inr, List, ◌++◌, length, pos, Some, T, refl, sym}
+use Rattle.std.proofs.Common.{ap, ◌∙◌, subst, arith, append-nil}
 use lib.Dec.{lit<}
 use lib.Ieee.Back.{whole_unique}
 use Rattle.std.specs.Fmt.{sign_text}

@@ -1,5 +1,7 @@
 -- The longest text of an integer conversion is that of the least or of the greatest number.
-use Rattle.std.proofs.Common.{◌≡◌, ℕ, zero, suc, ◌+◌, ◌-◌, ◌*◌, ◌/◌, ◌^◌, ◌≤◌, ◌<◌, ◌⊎◌, inl, inr, Bool, true, false, cond, eqb, ◌&&◌, List, [], ◌∷◌, ◌++◌, length, slice_index, ℤ, pos, negsuc, unsigned_abs, max, refl, sym, ap, ap₂, subst, ◌∙◌, arith, length-append}
+use Rattle.std.proofs.Common.{◌≡◌, ℕ, zero, suc, ◌+◌, ◌-◌, ◌*◌, ◌/◌, ◌^◌, ◌≤◌, ◌<◌, ◌⊎◌, inl, inr, Bool, true, false, cond, eqb, ◌&&◌, List}
+use Rattle.std.proofs.Common.{[], ◌∷◌, ◌++◌, length, slice_index, ℤ, pos, negsuc, unsigned_abs, max, refl, sym, ap, ap₂, subst, ◌∙◌, arith}
+use Rattle.std.proofs.Common.{length-append}
 use Rattle.std.specs.Prelude.{not}
 use Rattle.std.proofs.Math.Nat.{div-lt_self, div-mul-le_self}
 use Rattle.std.proofs.lemmas.Nat.{le-div}
@@ -9,7 +11,8 @@ use Rattle.std.specs.Fmt.{digits}
 use Rattle.std.specs.Str.Parse.{digits_value}
 use Rattle.sf_base.specs.Data.{Datum, IsIn}
 use Rattle.sf_format.specs.declared.unit.PrintConv.{PrintConv}
-use Rattle.sf_print.specs.Text.{prefix, mark, base_mark, filled, all_digits, with_octal_zero, opens_with_zero, is_octal, is_upper, least_digits, base_of, blanks, zeros, pads_with_zeros, value_text}
+use Rattle.sf_print.specs.Text.{prefix, mark, base_mark, filled, all_digits, with_octal_zero, opens_with_zero, is_octal, is_upper}
+use Rattle.sf_print.specs.Text.{least_digits, base_of, blanks, zeros, pads_with_zeros, value_text}
 use Rattle.sf_print.specs.Visible.{visible, without_blanks}
 use Rattle.sf_print.proofs.Digits.{digits_one, length_step, length_some}
 use Rattle.sf_pair_texts.specs.Below.{LawsBelow}

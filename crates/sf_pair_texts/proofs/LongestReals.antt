@@ -1,5 +1,8 @@
 -- No finite double has a longer text than is said.
-use Rattle.std.proofs.Common.{◌≡◌, inl, inr, ℕ, zero, suc, ◌+◌, ◌-◌, ◌*◌, ◌/◌, ◌%◌, ◌^◌, ◌<◌, ◌≤◌, Bool, true, false, cond, ◌&&◌, ◌||◌, nat_lt, nat_le, nat_eq, length, max, Option, Some, None, unwrap_or, from_bits, T, refl, sym, ap, subst, ◌∙◌, arith, length-append, true≢false, eq-or-lt_of_le, eq-zero-or-pos, le_of_lt, lt_of_le_of_lt, mul-pos, mul-lt-mul_of_pos_right, mul-le-mul_right}
+use Rattle.std.proofs.Common.{◌≡◌, inl, inr, ℕ, zero, suc, ◌+◌, ◌-◌, ◌*◌, ◌/◌, ◌%◌, ◌^◌, ◌<◌, ◌≤◌, Bool, true, false, cond, ◌&&◌, ◌||◌}
+use Rattle.std.proofs.Common.{nat_lt, nat_le, nat_eq, length, max, Option, Some, None, unwrap_or, from_bits, T, refl, sym, ap, subst, ◌∙◌}
+use Rattle.std.proofs.Common.{arith, length-append, true≢false, eq-or-lt_of_le, eq-zero-or-pos, le_of_lt, lt_of_le_of_lt, mul-pos}
+use Rattle.std.proofs.Common.{mul-lt-mul_of_pos_right, mul-le-mul_right}
 use Rattle.std.specs.Prelude.{not}
 use Rattle.std.proofs.Math.Nat.{pow-le-pow_right, zero-mul, div-lt_iff_lt-mul}
 use Rattle.std.proofs.lemmas.Nat.{pow-add}
@@ -24,12 +27,15 @@ use Rattle.sf_float.proofs.Limbs.{power_pos}
 use Rattle.sf_float.specs.Scaled.{scaled, scaled_at}
 use Rattle.sf_float.specs.Texts.{exponent_digits, exponent_size, fixed_digits}
 use Rattle.sf_float.specs.Hexadecimal.{binary_power}
-use Rattle.sf_float.specs.Computed.{first_passing, least_passing, count_of, needed_of, kept_of, cut_to, is_zero_size, units_of, power_of, number_of, is_plain_power, fixed_of, exponent_of, general_of, two_power_of, binary_number_of, hex_numeral_of, binary_exponent_of, digits_text}
+use Rattle.sf_float.specs.Computed.{first_passing, least_passing, count_of, needed_of, kept_of, cut_to, is_zero_size, units_of, power_of}
+use Rattle.sf_float.specs.Computed.{number_of, is_plain_power, fixed_of, exponent_of, general_of, two_power_of, binary_number_of}
+use Rattle.sf_float.specs.Computed.{hex_numeral_of, binary_exponent_of, digits_text}
 use Rattle.sf_print.specs.Floats.{style_of, float_conv}
 use Rattle.sf_pair_texts.specs.Widths.{written_style, longest_digits, mark_digits, longest_float, NoneIsLonger}
 use Rattle.sf_pair_texts.proofs.Tests.{and_both}
 use Rattle.sf_pair_texts.proofs.RealTexts.{case_length, fixed_length, size_of, bare_sign, hidden, body, seen_is}
-use Rattle.sf_pair_texts.proofs.RealSizes.{pointed_size, fixed_size, exponent_of_size, hex_size, binary_exponent_size, passing, some_digit, body_size, mark_size, signs_of}
+use Rattle.sf_pair_texts.proofs.RealSizes.{pointed_size, fixed_size, exponent_of_size, hex_size, binary_exponent_size, passing, some_digit}
+use Rattle.sf_pair_texts.proofs.RealSizes.{body_size, mark_size, signs_of}
 use Rattle.sf_pair_texts.proofs.Shortest.{size_by}
 
 -- ---- what is looked for is found early

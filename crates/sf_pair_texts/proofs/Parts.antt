@@ -1,5 +1,6 @@
 -- The parts of an integer's text: blanks, a sign, the mark of its base, zeros and its numeral.
-use Rattle.std.proofs.Common.{◌≡◌, ℕ, zero, suc, ◌+◌, ◌-◌, ◌*◌, ◌<◌, ◌≤◌, lit≤, Bool, true, false, cond, eqb, ◌&&◌, List, [], ◌∷◌, ◌++◌, length, ℤ, pos, negsuc, unsigned_abs, refl, sym, ap, ◌∙◌, arith, append_assoc, append-nil}
+use Rattle.std.proofs.Common.{◌≡◌, ℕ, zero, suc, ◌+◌, ◌-◌, ◌*◌, ◌<◌, ◌≤◌, lit≤, Bool, true, false, cond, eqb, ◌&&◌, List, [], ◌∷◌, ◌++◌}
+use Rattle.std.proofs.Common.{length, ℤ, pos, negsuc, unsigned_abs, refl, sym, ap, ◌∙◌, arith, append_assoc, append-nil}
 use Rattle.std.specs.Prelude.{not}
 use Rattle.std.proofs.lemmas.List.{replicate-append-replicate}
 use Rattle.std.proofs.lemmas.Bool.{ne_eqb}
@@ -7,7 +8,8 @@ use Rattle.std.specs.Fmt.{digits}
 use Rattle.sf_format.specs.declared.unit.PrintConv.{PrintConv}
 use Rattle.sf_format.specs.declared.unit.PrintLetter.{PrintLetter}
 use Rattle.sf_format.specs.declared.unit.PrintLetter.TheVariants as letter
-use Rattle.sf_print.specs.Text.{integer_text, sign, mark, prefix, numeral, all_digits, filled, is_octal, opens_with_zero, least_digits, blanks, zeros, left_blanks, inner_zeros, right_blanks, base_of, is_upper}
+use Rattle.sf_print.specs.Text.{integer_text, sign, mark, prefix, numeral, all_digits, filled, is_octal, opens_with_zero, least_digits}
+use Rattle.sf_print.specs.Text.{blanks, zeros, left_blanks, inner_zeros, right_blanks, base_of, is_upper}
 use Rattle.sf_print.specs.Numeral.{IsNumeralOf}
 use Rattle.sf_pair_texts.specs.Below.{LawsBelow}
 

@@ -1,5 +1,6 @@
 -- How far the text of a float is read, by what it is made of and ends with; and that no byte outside the stop set goes on from there.
-use Rattle.std.proofs.Common.{◌≡◌, ℕ, zero, suc, ◌+◌, ◌<◌, Bool, true, false, cond, eqb, ◌||◌, List, [], ◌∷◌, ◌++◌, length, Option, Some, None, refl, ap, ◌∙◌, arith}
+use Rattle.std.proofs.Common.{◌≡◌, ℕ, zero, suc, ◌+◌, ◌<◌, Bool, true, false, cond, eqb, ◌||◌, List, [], ◌∷◌, ◌++◌, length, Option, Some}
+use Rattle.std.proofs.Common.{None, refl, ap, ◌∙◌, arith}
 use Rattle.std.proofs.lemmas.Bool.{eqb-true}
 use Rattle.std.proofs.lemmas.Bool.Decides.{nat_tests}
 use Rattle.std.specs.List.{AllByRecursion, list_all, list_any}
@@ -9,7 +10,8 @@ use Rattle.sf_float_item.specs.declared.reached.Radix.TheVariants.{Ten, Sixteen}
 use Rattle.sf_float_item.specs.declared.reached.Reached.{Reached}
 use Rattle.sf_float_item.specs.declared.reached.Reached.TheVariants as at
 use Rattle.sf_float_item.specs.Sequences.{is_digit as is_radix_digit, opens_exponent, is_sign}
-use Rattle.sf_float_item.specs.Tests.{after_exponent, letter_of_exponent, after_digits, first_of_number, first, next, read, is_whole, is_whole_at, is_float}
+use Rattle.sf_float_item.specs.Tests.{after_exponent, letter_of_exponent, after_digits, first_of_number, first, next, read, is_whole}
+use Rattle.sf_float_item.specs.Tests.{is_whole_at, is_float}
 use Rattle.sf_pair_texts.specs.Neighbours.{exponent_stops, fraction_stops, whole_stops}
 use Rattle.sf_pair_texts.proofs.Tests.{and_both, or_none}
 

@@ -1,5 +1,6 @@
 -- Floats, as the code tests and counts them.
-use Rattle.std.proofs.Common.{◌≡◌, ℕ, ◌+◌, ◌-◌, Bool, true, false, cond, ◌&&◌, ◌||◌, nat_lt, nat_eq, List, length, max, from_bits, Option, Some, None, unwrap_or, refl, sym, ap, ◌∙◌, arith, true≢false}
+use Rattle.std.proofs.Common.{◌≡◌, ℕ, ◌+◌, ◌-◌, Bool, true, false, cond, ◌&&◌, ◌||◌, nat_lt, nat_eq, List, length, max, from_bits, Option}
+use Rattle.std.proofs.Common.{Some, None, unwrap_or, refl, sym, ap, ◌∙◌, arith, true≢false}
 use Rattle.std.specs.Prelude.{not}
 use Rattle.std.specs.Option.{option_eq}
 use Rattle.std.specs.Float.Ieee.{Float, binary64}

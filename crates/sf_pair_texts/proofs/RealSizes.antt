@@ -1,5 +1,8 @@
 -- How long the texts of floats are: that of 0 is the shortest.
-use Rattle.std.proofs.Common.{◌≡◌, ◌⊎◌, inl, inr, ℕ, zero, suc, ◌+◌, ◌-◌, ◌*◌, ◌/◌, ◌%◌, ◌^◌, ◌<◌, ◌≤◌, Bool, true, false, cond, ◌&&◌, ◌||◌, nat_lt, nat_le, nat_eq, List, [], ◌∷◌, ◌++◌, length, max, pos, Option, Some, None, unwrap_or, refl, sym, ap, subst, ◌∙◌, arith, length-append, from_bits, eq-or-lt_of_le, eq-zero-or-pos, pow-suc, mul-le-mul_right, mul-pos}
+use Rattle.std.proofs.Common.{◌≡◌, ◌⊎◌, inl, inr, ℕ, zero, suc, ◌+◌, ◌-◌, ◌*◌, ◌/◌, ◌%◌, ◌^◌, ◌<◌, ◌≤◌, Bool, true, false, cond, ◌&&◌, ◌||◌}
+use Rattle.std.proofs.Common.{nat_lt, nat_le, nat_eq, List, [], ◌∷◌, ◌++◌, length, max, pos, Option, Some, None, unwrap_or, refl, sym, ap}
+use Rattle.std.proofs.Common.{subst, ◌∙◌, arith, length-append, from_bits, eq-or-lt_of_le, eq-zero-or-pos, pow-suc, mul-le-mul_right}
+use Rattle.std.proofs.Common.{mul-pos}
 use Rattle.std.proofs.Math.Nat.{zero-mod, zero-div, div-one, pow-le-pow_right}
 use Rattle.std.proofs.lemmas.Bool.{lt-ltb, ltb-true}
 use Rattle.std.proofs.lemmas.Bool.Decides.{nat_tests}
@@ -17,13 +20,16 @@ use Rattle.sf_float.specs.Scaled.{scaled, scaled_at}
 use Rattle.sf_float.specs.Texts.{fixed_digits, exponent_digits, exponent_size, point_text}
 use Rattle.sf_float.specs.Printed.{sign, mark, is_hexadecimal, bare_len, inner_zeros, right_blanks, pads_with_zeros}
 use Rattle.sf_float.specs.Hexadecimal.{hex_digits, hex_digit, hex_text, hex_point, binary_power}
-use Rattle.sf_float.specs.Computed.{first_passing, least_passing, count_of, needed_of, kept_of, cut_to, is_zero_size, power_of, number_of, is_plain_power, fixed_of, exponent_of, general_of, units_of, two_power_of, binary_number_of, hex_numeral_of, binary_exponent_of, hexadecimal_of, digits_text, float_text}
+use Rattle.sf_float.specs.Computed.{first_passing, least_passing, count_of, needed_of, kept_of, cut_to, is_zero_size, power_of, number_of}
+use Rattle.sf_float.specs.Computed.{is_plain_power, fixed_of, exponent_of, general_of, units_of, two_power_of, binary_number_of}
+use Rattle.sf_float.specs.Computed.{hex_numeral_of, binary_exponent_of, hexadecimal_of, digits_text, float_text}
 use Rattle.sf_float.proofs.ReadBack.{bounds}
 use Rattle.sf_print.specs.Text.{blanks, zeros}
 use Rattle.sf_print.specs.Visible.{without_blanks}
 use Rattle.sf_pair_texts.proofs.Tests.{and_both}
 use Rattle.sf_pair_texts.proofs.Shortest.{size_by, size_more}
-use Rattle.sf_pair_texts.proofs.RealTexts.{case_length, fixed_length, first_low, count_some, exponent_long, raised_text, exponent_text_is, size_of, bare_sign, hidden, mark_bytes, after_sign, body, sign_is, mark_is, seen_is, seen_is_all}
+use Rattle.sf_pair_texts.proofs.RealTexts.{case_length, fixed_length, first_low, count_some, exponent_long, raised_text, exponent_text_is}
+use Rattle.sf_pair_texts.proofs.RealTexts.{size_of, bare_sign, hidden, mark_bytes, after_sign, body, sign_is, mark_is, seen_is, seen_is_all}
 
 -- a point and so many digits
 abbrev pub pointed_size : Bool → ℕ → ℕ

@@ -1,5 +1,7 @@
 -- What a scan sees of a float's text: a sign, the mark of `a`, zeros and digits; and how far that is read.
-use Rattle.std.proofs.Common.{◌≡◌, ℕ, zero, suc, ◌+◌, ◌-◌, ◌/◌, ◌%◌, ◌^◌, ◌<◌, ◌≤◌, ◌⊎◌, inl, inr, Bool, true, false, cond, eqb, ◌&&◌, ◌||◌, nat_lt, List, [], ◌∷◌, ◌++◌, length, map, max, Option, Some, unwrap_or, refl, sym, ap, subst, ◌∙◌, arith, append_assoc, append-nil, length-append}
+use Rattle.std.proofs.Common.{◌≡◌, ℕ, zero, suc, ◌+◌, ◌-◌, ◌/◌, ◌%◌, ◌^◌, ◌<◌, ◌≤◌, ◌⊎◌, inl, inr, Bool, true, false, cond, eqb, ◌&&◌, ◌||◌}
+use Rattle.std.proofs.Common.{nat_lt, List, [], ◌∷◌, ◌++◌, length, map, max, Option, Some, unwrap_or, refl, sym, ap, subst, ◌∙◌, arith}
+use Rattle.std.proofs.Common.{append_assoc, append-nil, length-append}
 use Rattle.std.proofs.Math.Nat.{mod-lt}
 use Rattle.std.proofs.lemmas.List.{map-append, length-map, replicate-append-replicate}
 use Rattle.std.proofs.lemmas.Bool.{eqb-true}
@@ -16,14 +18,16 @@ use Rattle.sf_float.specs.Scaled.{scaled}
 use Rattle.sf_float.specs.Texts.{fixed_digits, exponent_digits, exponent_size, point_text}
 use Rattle.sf_float.specs.Printed.{in_case, sign, mark, is_hexadecimal, bare_len, left_blanks, inner_zeros, right_blanks, field_text}
 use Rattle.sf_float.specs.Hexadecimal.{binary_power}
-use Rattle.sf_float.specs.Computed.{first_passing, count_of, kept_of, cut_to, power_of, number_of, is_plain_power, fixed_of, exponent_of, general_of, two_power_of, binary_number_of, hex_numeral_of, digits_text, size_text, float_text}
+use Rattle.sf_float.specs.Computed.{first_passing, count_of, kept_of, cut_to, power_of, number_of, is_plain_power, fixed_of, exponent_of}
+use Rattle.sf_float.specs.Computed.{general_of, two_power_of, binary_number_of, hex_numeral_of, digits_text, size_text, float_text}
 use Rattle.sf_float_item.specs.declared.reached.Reached.TheVariants as at
 use Rattle.sf_float_item.specs.Tests.{read}
 use Rattle.sf_base.specs.Bytes.{is_white}
 use Rattle.sf_print.specs.Text.{blanks, zeros}
 use Rattle.sf_print.specs.Visible.{without_blanks}
 use Rattle.sf_pair_texts.proofs.Bodies.{StartsInk, without_some}
-use Rattle.sf_pair_texts.proofs.Places.{is_one_of, one_of, digits, signs, decimals as decimal_bytes, All, digit_one, digits_decimal, passes, decimal_place, decimal_read, pointed_place, pointed_read, exponent_place, signed_read}
+use Rattle.sf_pair_texts.proofs.Places.{is_one_of, one_of, digits, signs, decimals as decimal_bytes, All, digit_one, digits_decimal, passes}
+use Rattle.sf_pair_texts.proofs.Places.{decimal_place, decimal_read, pointed_place, pointed_read, exponent_place, signed_read}
 
 -- ---- bytes of a list
 

@@ -1,5 +1,6 @@
 -- What is printed of 0 is read as 0, whatever the conversion.
-use Rattle.std.proofs.Common.{◌≡◌, ℕ, zero, suc, ◌+◌, ◌-◌, ◌*◌, ◌^◌, ◌<◌, Bool, true, false, cond, ◌||◌, nat_lt, List, [], ◌∷◌, ◌++◌, max, Option, Some, None, unwrap_or, refl, sym, ap, subst, ◌∙◌, arith, append_assoc, append-nil}
+use Rattle.std.proofs.Common.{◌≡◌, ℕ, zero, suc, ◌+◌, ◌-◌, ◌*◌, ◌^◌, ◌<◌, Bool, true, false, cond, ◌||◌, nat_lt, List, [], ◌∷◌, ◌++◌, max}
+use Rattle.std.proofs.Common.{Option, Some, None, unwrap_or, refl, sym, ap, subst, ◌∙◌, arith, append_assoc, append-nil}
 use Rattle.std.proofs.Math.Nat.{zero-mul, zero-div}
 use Rattle.std.proofs.lemmas.List.{replicate-append-replicate}
 use Rattle.std.specs.Float.Ieee.Nearest.{closest}
@@ -7,10 +8,12 @@ use Rattle.sf_float.specs.declared.text.Style.{Style}
 use Rattle.sf_float.specs.declared.text.Style.TheVariants.{Fixed, Exponent, General, Hexadecimal}
 use Rattle.sf_float.specs.Texts.{fixed_digits, point_text}
 use Rattle.sf_float.specs.Hexadecimal.{hex_digits, hex_text, binary_power}
-use Rattle.sf_float.specs.Computed.{needed_of, kept_of, cut_to, power_of, number_of, fixed_of, exponent_of, general_of, two_power_of, binary_number_of, hex_numeral_of, binary_exponent_of, hexadecimal_of, digits_text}
+use Rattle.sf_float.specs.Computed.{needed_of, kept_of, cut_to, power_of, number_of, fixed_of, exponent_of, general_of, two_power_of}
+use Rattle.sf_float.specs.Computed.{binary_number_of, hex_numeral_of, binary_exponent_of, hexadecimal_of, digits_text}
 use Rattle.sf_print.specs.Text.{zeros}
 use Rattle.sf_pair_texts.proofs.RealTexts.{exponent_text_is}
-use Rattle.sf_pair_texts.proofs.RealSizes.{zero_number, zero_scaled, zero_count, needed_none, power_zero, plain_zero, zero_binary, some_digit}
+use Rattle.sf_pair_texts.proofs.RealSizes.{zero_number, zero_scaled, zero_count, needed_none, power_zero, plain_zero, zero_binary}
+use Rattle.sf_pair_texts.proofs.RealSizes.{some_digit}
 
 -- ---- the digits of 0
 

@@ -1,5 +1,6 @@
 -- The computed style of g is the one that the definitions ask for.
-use Rattle.std.proofs.Common.{◌≡◌, ◌⊎◌, inl, inr, ℕ, ◌+◌, ◌-◌, ◌*◌, ◌/◌, ◌%◌, ◌^◌, ◌<◌, ◌≤◌, Bool, true, false, cond, nat_lt, nat_eq, refl, sym, ap, ◌∙◌, arith, div-add-mod', true≢false}
+use Rattle.std.proofs.Common.{◌≡◌, ◌⊎◌, inl, inr, ℕ, ◌+◌, ◌-◌, ◌*◌, ◌/◌, ◌%◌, ◌^◌, ◌<◌, ◌≤◌, Bool, true, false, cond, nat_lt, nat_eq, refl}
+use Rattle.std.proofs.Common.{sym, ap, ◌∙◌, arith, div-add-mod', true≢false}
 use Rattle.std.proofs.Math.Nat.{mod-one, pow-zero}
 use native.Mathlib.Nat.{mul-mod_left}
 use Rattle.std.proofs.lemmas.Bool.{eqb-true, eq-eqb}

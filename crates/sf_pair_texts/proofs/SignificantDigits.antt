@@ -1,5 +1,7 @@
 -- The computed digits of a finite double are those that the definitions ask for.
-use Rattle.std.proofs.Common.{◌≡◌, inl, inr, ℕ, zero, suc, ◌+◌, ◌-◌, ◌*◌, ◌%◌, ◌^◌, ◌<◌, ◌≤◌, Bool, true, false, cond, nat_lt, nat_le, nat_eq, ◌&&◌, T, refl, sym, ap, ◌∙◌, subst, arith, eq-or-lt_of_le, eq-zero-or-pos, mul-pos, mul-le-mul_right, mul-le-mul_left, pow-suc}
+use Rattle.std.proofs.Common.{◌≡◌, inl, inr, ℕ, zero, suc, ◌+◌, ◌-◌, ◌*◌, ◌%◌, ◌^◌, ◌<◌, ◌≤◌, Bool, true, false, cond, nat_lt, nat_le}
+use Rattle.std.proofs.Common.{nat_eq, ◌&&◌, T, refl, sym, ap, ◌∙◌, subst, arith, eq-or-lt_of_le, eq-zero-or-pos, mul-pos, mul-le-mul_right}
+use Rattle.std.proofs.Common.{mul-le-mul_left, pow-suc}
 use Rattle.std.proofs.lemmas.Nat.{pow-add}
 use Rattle.std.proofs.lemmas.Bool.{lt-ltb, ltb-true, ne_eqb}
 use Rattle.std.proofs.lemmas.Bool.Decides.{nat_tests}

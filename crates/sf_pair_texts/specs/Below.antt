@@ -5,7 +5,8 @@ use Rattle.sf_float_item.specs.Tests.{TestsAreSequences}
 use Rattle.sf_float_value.specs.Laws.{StoredIsComputed}
 use Rattle.sf_item.specs.Laws.{FrontsCanBeTaken, ReadingsGoOn}
 use Rattle.sf_print.specs.Numeral.{AreNumerals, OnlyNumeral}
-use Rattle.sf_report.specs.Laws.{EachByteIsTried, EachHasOneReport, EachMachineSteps, EachRunIsComputed, EachRunIsTold, EachStepIsComputed, EachStepIsWithin}
+use Rattle.sf_report.specs.Laws.{EachByteIsTried, EachHasOneReport, EachMachineSteps, EachRunIsComputed, EachRunIsTold, EachStepIsComputed}
+use Rattle.sf_report.specs.Laws.{EachStepIsWithin}
 
 pub record LawsBelow : Type 0 where
   pub kinds : JustSlotsHaveKinds

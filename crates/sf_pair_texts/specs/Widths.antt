@@ -1,5 +1,6 @@
 -- How wide a scan has to be for each number that a conversion prints.
-use Rattle.std.specs.Prelude.{ℕ, ◌+◌, ℤ, pos, negsuc, true, ◌≡◌, ◌≤◌, ◌<◌, ◌^◌, ◌||◌, nat_lt, max, if◌then◌else◌, length, unsigned_abs, unwrap_or, from_bits}
+use Rattle.std.specs.Prelude.{ℕ, ◌+◌, ℤ, pos, negsuc, true, ◌≡◌, ◌≤◌, ◌<◌, ◌^◌, ◌||◌, nat_lt, max, if◌then◌else◌, length, unsigned_abs}
+use Rattle.std.specs.Prelude.{unwrap_or, from_bits}
 use Rattle.std.specs.Float.{float_is_finite}
 use Rattle.std.specs.Float.Ieee.{binary64}
 use Rattle.sf_base.specs.declared.real.Real.TheVariants as reals

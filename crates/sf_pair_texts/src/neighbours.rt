@@ -5,7 +5,9 @@ ghost use Rattle.sf_base.specs.Bytes.{is_white};
 ghost use Rattle.sf_item.specs.Tests.{is_ink};
 ghost use Rattle.sf_print.specs.Text.{pads_with_zeros};
 ghost use Rattle.sf_print.specs.Visible.{least};
-ghost use Rattle.sf_pair_texts.specs.Neighbours.{sign_or_digit, number_first, integer_first, float_digit, float_first, text_first, first_by, is_auto_base, integer_stops, fraction_stops, whole_stops, float_stops, stop_set};
+ghost use Rattle.sf_pair_texts.specs.Neighbours.{sign_or_digit, number_first, integer_first, float_digit, float_first};
+ghost use Rattle.sf_pair_texts.specs.Neighbours.{text_first, first_by, is_auto_base, integer_stops, fraction_stops};
+ghost use Rattle.sf_pair_texts.specs.Neighbours.{whole_stops, float_stops, stop_set};
 
 use crate::reals::has_point;
 use sf_base::{digit_value, is_space};

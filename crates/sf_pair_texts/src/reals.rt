@@ -1,12 +1,14 @@
 //! Floats of a pair: the length of the text of 0, and that of the longest text.
-ghost use Rattle.std.specs.Prelude.{false, not, ◌≡◌, ◌≤◌, ◌+◌, ◌&&◌, ◌||◌, nat_lt, if◌then◌else◌, length, max, unwrap_or};
+ghost use Rattle.std.specs.Prelude.{false, not, ◌≡◌, ◌≤◌, ◌+◌, ◌&&◌, ◌||◌, nat_lt, if◌then◌else◌, length, max};
+ghost use Rattle.std.specs.Prelude.{unwrap_or};
 ghost use Rattle.sf_base.specs.declared.real.Real.TheVariants as reals;
 ghost use Rattle.sf_float.specs.Computed.{size_text};
 ghost use Rattle.sf_float.specs.Printed.{is_hexadecimal};
 ghost use Rattle.sf_format.specs.declared.unit.PrintLetter.TheVariants.{Float};
 ghost use Rattle.sf_print.specs.Floats.{number_of, style_of};
 ghost use Rattle.sf_pair_texts.specs.Reals.{zero_seen, has_point};
-ghost use Rattle.sf_pair_texts.specs.Widths.{written_style, pointed, significant, longest_digits, mark_digits, longest_by, longest_float};
+ghost use Rattle.sf_pair_texts.specs.Widths.{written_style, pointed, significant, longest_digits, mark_digits};
+ghost use Rattle.sf_pair_texts.specs.Widths.{longest_by, longest_float};
 
 use sf_format::{FloatStyle, PrintConv, PrintLetter};
 

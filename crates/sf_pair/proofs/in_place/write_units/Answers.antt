@@ -1,4 +1,5 @@
-use Rattle.std.proofs.Common.{[], List, ◌≡◌, ◌++◌, ◌+◌, true, false, drop, is_some, length, map, take, refl, ap, sym, ◌∙◌, arith, true≢false}
+use Rattle.std.proofs.Common.{[], List, ◌≡◌, ◌++◌, ◌+◌, true, false, drop, is_some, length, map, take, refl, ap, sym, ◌∙◌, arith}
+use Rattle.std.proofs.Common.{true≢false}
 use Rattle.std.proofs.lemmas.List.{drop_all, take_all}
 use Rattle.sf_format.specs.declared.directive.Directive.{Directive}
 use Rattle.sf_format.specs.declared.unit.Unit.{Unit as PrintUnit}

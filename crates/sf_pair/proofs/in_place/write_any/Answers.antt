@@ -1,16 +1,15 @@
-use Rattle.std.proofs.Common.{◌≤◌, Option, ◌++◌, length, take, ap, sym, ◌∙◌, arith, true≢false}
+use Rattle.std.proofs.Common.{◌≤◌, ◌++◌, length, take, ap, sym, ◌∙◌, arith, true≢false}
 use Rattle.sf_base.specs.Data.{Datum, datum_of_shown}
 use Rattle.sf_print.specs.Text.{value_text}
-use Rattle.sf_print.specs.Printed.{text_or_none}
 use Rattle.sf_print.proofs.InPlace.{ends_at}
-use Rattle.sf_pair.specs.Fits.{fits_or_not}
+use Rattle.sf_pair.specs.Fits.{value_fits}
 use Rattle.sf_pair.proofs.InPlace.{written_part}
-use Rattle.sf_pair.proofs.in_place.write_fitting.Goals as goal
+use Rattle.sf_pair.proofs.in_place.write_any.Goals as goal
 
 pub slice_bounds-text_is_read-count : goal.slice_bounds-text_is_read-count
 slice_bounds-text_is_read-count g c = omega (
   arith,
-  ends_at c.args.buf.now c.write_value.new.buf (value_text c.args.conv.now (datum_of_shown c.in_ok-value.value)) c.args.at
+  ends_at c.args.buf.now c.write_value.new.buf (value_text c.args.conv.now (datum_of_shown c.as_shown-shown.result)) c.args.at
       c.in_ok-end.end c.requires c.in_ok-end.ensures.within c.in_ok-end.ensures.written,
 )
 
@@ -18,37 +17,33 @@ pub slice_bounds-text_is_read-start : goal.slice_bounds-text_is_read-start
 slice_bounds-text_is_read-start g c =
     let start : c.args.at ≤ c.in_ok-end.end = omega (
       arith,
-      ends_at c.args.buf.now c.write_value.new.buf (value_text c.args.conv.now (datum_of_shown c.in_ok-value.value)) c.args.at
+      ends_at c.args.buf.now c.write_value.new.buf (value_text c.args.conv.now (datum_of_shown c.as_shown-shown.result)) c.args.at
           c.in_ok-end.end c.requires c.in_ok-end.ensures.within c.in_ok-end.ensures.written,
     ) in start
 
 pub text_is_read-requires : goal.text_is_read-requires
 text_is_read-requires g c =
-    written_part c.args.buf.now c.write_value.new.buf (value_text c.args.conv.now (datum_of_shown c.in_ok-value.value)) c.args.at
+    written_part c.args.buf.now c.write_value.new.buf (value_text c.args.conv.now (datum_of_shown c.as_shown-shown.result)) c.args.at
     c.in_ok-end.end c.requires c.in_ok-end.ensures.within c.in_ok-end.ensures.written
 
 pub returns-then-text_is_read-clause-written : goal.returns-then-text_is_read-clause-written
 returns-then-text_is_read-clause-written g c =
     c.in_ok-end.ensures.written
-    ∙ ap (λ (v : Option Datum). take c.args.at c.args.buf.now ++ text_or_none c.args.conv.now v) c.in_ok-value.ensures
+    ∙ ap (λ (v : Datum). take c.args.at c.args.buf.now ++ value_text c.args.conv.now v) c.as_shown-shown.ensures
 
 pub returns-then-text_is_read-clause-fits : goal.returns-then-text_is_read-clause-fits
 returns-then-text_is_read-clause-fits g c =
-    ap (fits_or_not c.args.conv.now c.args.scan.now) (sym c.in_ok-value.ensures) ∙ sym c.text_is_read.ensures ∙ c.if-text_is_read.true
-
-pub returns-in_err-value-clause-answers : goal.returns-in_err-value-clause-answers
-returns-in_err-value-clause-answers g c fits room =
-    absurd (true≢false (sym fits ∙ ap (fits_or_not c.args.conv.now c.args.scan.now) (sym c.in_err-value.ensures)))
+    ap (value_fits c.args.conv.now c.args.scan.now) (sym c.as_shown-shown.ensures) ∙ sym c.text_is_read.ensures ∙ c.if-text_is_read.true
 
 pub returns-in_err-end-clause-answers : goal.returns-in_err-end-clause-answers
 returns-in_err-end-clause-answers g c fits room =
     absurd (true≢false (sym (c.in_err-end.ensures.answers (omega (
       arith,
       room,
-      ap (λ (v : Option Datum). length (text_or_none c.args.conv.now v)) c.in_ok-value.ensures,
+      ap (λ (v : Datum). length (value_text c.args.conv.now v)) c.as_shown-shown.ensures,
     )))))
 
 pub returns-else-text_is_read-clause-answers : goal.returns-else-text_is_read-clause-answers
 returns-else-text_is_read-clause-answers g c fits room =
-    absurd (true≢false (sym fits ∙ ap (fits_or_not c.args.conv.now c.args.scan.now) (sym c.in_ok-value.ensures) ∙ sym c.text_is_read.ensures
-    ∙ c.if-text_is_read.false))
+    absurd (true≢false (sym fits ∙ ap (value_fits c.args.conv.now c.args.scan.now) (sym c.as_shown-shown.ensures)
+    ∙ sym c.text_is_read.ensures ∙ c.if-text_is_read.false))
