@@ -1,6 +1,7 @@
 -- Texts that are written in place, by what is left of them to be written.
-use Rattle.std.proofs.Common.{◌≡◌, ℕ, zero, suc, ◌+◌, ◌-◌, ◌<◌, ◌≤◌, Bool, true, false, cond, List, [], ◌∷◌, ◌++◌, length, take, drop, get_or}
-use Rattle.std.proofs.Common.{drop-cons, append_assoc, refl, sym, ap, ◌∙◌, arith}
+use Rattle.std.proofs.Common.{◌≡◌, ℕ, zero, suc, ◌+◌, ◌-◌, ◌<◌, ◌≤◌, Bool, true, false, cond, List, [], ◌∷◌, ◌++◌, length, take, drop}
+use Rattle.std.proofs.Common.{get_or}
+use Rattle.std.proofs.Common.{drop-cons, append_assoc, refl, sym, ap, ◌∙◌, arith, Option, Some, None, IfSome}
 use Rattle.std.proofs.lemmas.List.{append-nil, drop-drop, length-append, length-drop, length-take-le, take-append-drop, take-take}
 use Rattle.std.proofs.lemmas.List.{take_all, take_at}
 use Rattle.std.specs.List.{flat_map, prefix_len, slice_range}
@@ -119,6 +120,26 @@ quotes_around buf first middle last text at start end stop opened written closed
 -- its length
 pub around_length : (text : List ℕ) → length (34 ∷ (text ++ 34 ∷ [])) ≡ length text + 2
 around_length text = omega (arith, length-append text (34 ∷ []))
+
+-- what was written after something else
+pub written_after : (r : Option ℕ) (buf begun new first text : List ℕ) (at start : ℕ) → take start begun ≡ take at buf ++ first
+    → IfSome r (λ end. take end new ≡ take start begun ++ text) → IfSome r (λ end. take end new ≡ take at buf ++ (first ++ text))
+written_after None buf begun new first text at start opened written = tt
+written_after (Some end) buf begun new first text at start opened written =
+    written ∙ ap (λ (t : List ℕ). t ++ text) opened ∙ append_assoc (take at buf) first text
+
+-- the front of what was copied
+pub part_written : (buf new part rest text : List ℕ) (at n : ℕ) → at ≤ length buf → n ≤ length part
+    → new ≡ take at buf ++ (part ++ rest) → take n part ≡ text → take (at + n) new ≡ take at buf ++ text
+part_written buf new part rest text at n within few is front =
+    let whole : new ≡ (take at buf ++ take n part) ++ (drop n part ++ rest) =
+    is ∙ ap (λ (t : List ℕ). take at buf ++ (t ++ rest)) (sym (take-append-drop n part))
+    ∙ ap (λ (t : List ℕ). take at buf ++ t) (append_assoc (take n part) (drop n part) rest)
+    ∙ sym (append_assoc (take at buf) (take n part) (drop n part ++ rest)) in
+    let long : length (take at buf ++ take n part) ≡ at + n =
+    omega (arith, length-append (take at buf) (take n part), length-take-le at buf within, length-take-le n part few) in
+    ap (take (at + n)) whole ∙ take_at (take at buf ++ take n part) (drop n part ++ rest) (at + n) long
+    ∙ ap (λ (t : List ℕ). take at buf ++ t) front
 
 -- where a text ends that was written from a place on
 pub ends_at : (buf new text : List ℕ) (at end : ℕ) → at ≤ length buf → end ≤ length new → take end new ≡ take at buf ++ text

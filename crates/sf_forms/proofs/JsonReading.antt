@@ -19,9 +19,11 @@ use Rattle.sf_shortest.specs.Laid.{shortest_text}
 use Rattle.sf_forms.specs.Reals.{is_finite}
 use Rattle.sf_forms.specs.declared.form.OutputForm.TheVariants.{Json}
 use Rattle.sf_forms.specs.Forms.{given_row_text, given_text}
-use Rattle.sf_forms.specs.JsonReading.{Arrays, Element, Integer, String, Objects, Outside, Opened, Awaiting, Closed, InNumber, InString, InCode}
+use Rattle.sf_forms.specs.JsonReading.{Arrays, Element, Integer, String, Objects, Outside, Opened, Awaiting, Closed, InNumber, InString}
+use Rattle.sf_forms.specs.JsonReading.{InCode}
 use Rattle.sf_forms.specs.JsonReading.{Decimal, Exponent, Fraction, InDecimal, Letter, Part, Place, Point, Sign, is_letter}
-use Rattle.sf_forms.specs.JsonReading.{Reader, Shape, after, are_paired, at, begins, element_given, element_of, ends, goes_on, is_digit, members_of}
+use Rattle.sf_forms.specs.JsonReading.{Reader, Shape, after, are_paired, at, begins, element_given, element_of, ends, goes_on, is_digit}
+use Rattle.sf_forms.specs.JsonReading.{members_of}
 use Rattle.sf_forms.specs.JsonReading.{json_objects, json_rows, rows_in, step_at, with_code, with_element}
 use Rattle.sf_forms.specs.Heads.{given_object, member, members, object_row, object_text}
 use Rattle.sf_forms.specs.JsonStrings.{json_escaped, json_from, json_string, stray}

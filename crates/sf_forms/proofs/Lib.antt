@@ -12,6 +12,7 @@ pub mod JsonUtf8
 pub mod JsonWriting
 pub mod Lone
 pub mod Numerals
+mod QuotedBytes
 pub mod Quoting
 pub mod ReadingRows
 pub mod RecordRows

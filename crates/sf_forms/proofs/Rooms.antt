@@ -10,8 +10,6 @@ use Rattle.sf_forms.specs.declared.form.OutputForm.TheVariants.{Plain, Tsv, Json
 use Rattle.sf_forms.specs.Forms.{missing_text, closing, filler, framed, opening, separator, value_text}
 use Rattle.sf_forms.specs.JsonStrings.{json_string}
 use Rattle.sf_forms.specs.Quotes.{is_plain, quoted}
-use Rattle.sf_forms.specs.Tables.{tsv_escaped, tsv_text}
-use Rattle.sf_forms.proofs.Escaping.{plain_text, tsv_keeps}
 use Rattle.sf_forms.proofs.Joining.{texts_more}
 use Rattle.sf_forms.proofs.JsonWriting.{whole_plain}
 use Rattle.sf_forms.proofs.Short.{front_of_all, plain_all}
@@ -35,9 +33,6 @@ plain_quotes text e = ap (λ (t : List ℕ). 34 ∷ (t ++ 34 ∷ [])) (sym (plai
 
 pub plain_string : (text : List ℕ) → list_all is_plain text ≡ true → 34 ∷ (text ++ 34 ∷ []) ≡ json_string text
 plain_string text e = ap (λ (t : List ℕ). 34 ∷ (t ++ 34 ∷ [])) (sym (whole_plain text (front_of_all text e)))
-
-pub plain_field : (text : List ℕ) → list_all is_plain text ≡ true → text ≡ tsv_text text
-plain_field text e = sym (plain_text tsv_escaped tsv_keeps text (front_of_all text e))
 
 pub around : (text : List ℕ) → length (34 ∷ (text ++ 34 ∷ [])) ≡ length text + 2
 around text = omega (arith, length-append text (34 ∷ []))

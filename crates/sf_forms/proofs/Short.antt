@@ -1,19 +1,19 @@
 -- Short texts: looked at by their ends, and put between quotes.
 use Rattle.std.proofs.Common.{◌≡◌, ℕ, zero, suc, ◌+◌, ◌-◌, ◌<◌, ◌≤◌, Bool, true, false, ◌&&◌, not, cond, List, [], ◌∷◌, ◌++◌, map}
 use Rattle.std.proofs.Common.{eqb, length, take, drop, replicate, set, length-set, append_assoc, refl, sym, ap, ◌∙◌}
-use Rattle.std.proofs.Common.{arith, true≢false}
+use Rattle.std.proofs.Common.{arith, true≢false, Option, Some, None, IfSome}
 use Rattle.std.proofs.lemmas.List.{take-take, take_all, take_at, take_more_set, take-append-drop, length-take, length-take-le, length-drop}
 use Rattle.std.proofs.lemmas.List.{length-append, drop-replicate}
 use Rattle.std.proofs.lemmas.List.Folds.{list_all-append}
 use Rattle.std.proofs.lemmas.Bool.{eqb-true, eq-eqb}
 use Rattle.std.proofs.lemmas.Simd.{leading_from_mask_l}
 use Rattle.std.proofs.Math.Seq.{take-append-add, drop-append-add, take-append_seam}
-use Rattle.std.specs.List.{flat_map, list_all, prefix_len}
+use Rattle.std.specs.List.{flat_map, list_all, prefix_len, slice_range}
 use Rattle.sf_base.proofs.Lanes.{not_not}
 use borrow.Rule.Slice.PartMut.{mid_of, post_of, put_mid, same_len_mid}
 use lib.Lanes.{chunk, mask_l}
 use Rattle.sf_forms.specs.Quotes.{escaped, is_plain, quoted}
-use Rattle.sf_forms.proofs.Quoting.{plain_escaped}
+use Rattle.sf_forms.proofs.Quoting.{plain_escaped, plain_front, whole_front}
 
 -- ---- plain bytes
 
@@ -143,15 +143,6 @@ pub plain_by_run : (xs : List ℕ) (run : ℕ) → run ≡ prefix_len is_plain x
 plain_by_run xs run is = same_bool (eqb run (length xs)) (list_all is_plain xs)
     (λ e. all_of_front is_plain xs (sym is ∙ eqb-true run (length xs) e)) (λ e. eq-eqb run (length xs) (is ∙ front_of_all xs e))
 
--- no bytes are plain
-pub plain_none : (xs : List ℕ) → length xs ≡ 0 → true ≡ list_all is_plain xs
-plain_none [] e = refl
-plain_none (x ∷ xs) e = absurd (omega (arith, e))
-
--- plain bytes between quotes are two bytes more
-pub plain_quoted : (xs : List ℕ) → list_all is_plain xs ≡ true → length (quoted xs) ≡ length xs + 2
-plain_quoted xs e = omega (arith, ap length (plain_all xs e), length-append (flat_map escaped xs) (34 ∷ []))
-
 -- ---- between quotes
 
 pub short_quoted : (out xs before new : List ℕ) (start end : ℕ) → start ≡ length out + 1 → end ≡ start + length xs + 1
@@ -184,6 +175,18 @@ short_quoted out xs before new start end start_is end_is short room is =
 pub written_back : (n end : ℕ) (buf rest : List ℕ) → n ≡ length buf → take end (take n (buf ++ rest)) ≡ take end buf
 written_back n end buf rest e = ap (take end) (ap (λ (k : ℕ). take k (buf ++ rest)) e ∙ take-append_seam buf rest)
 
+-- a quote and bytes after it, in place
+pub begun_in_place : (buf begun copied xs rest : List ℕ) (at : ℕ) → at < length buf → begun ≡ set buf at 34
+    → copied ≡ take (at + 1) begun ++ (xs ++ rest) → take (at + 1 + length xs) copied ≡ take at buf ++ 34 ∷ xs
+begun_in_place buf begun copied xs rest at room begun_is copied_is =
+    let first : take (at + 1) begun ≡ take at buf ++ 34 ∷ [] = ap (take (at + 1)) begun_is ∙ take_more_set buf at 34 room in
+    let begun_long : length begun ≡ length buf = ap length begun_is ∙ length-set buf at 34 in
+    let first_long : length (take (at + 1) begun) ≡ at + 1 = length-take-le (at + 1) begun (omega arith) in
+    let front_long : length (take (at + 1) begun ++ xs) ≡ at + 1 + length xs = omega (arith, length-append (take (at + 1) begun) xs) in
+    ap (take (at + 1 + length xs)) (copied_is ∙ sym (append_assoc (take (at + 1) begun) xs rest))
+    ∙ take_at (take (at + 1) begun ++ xs) rest (at + 1 + length xs) front_long ∙ ap (λ (t : List ℕ). t ++ xs) first
+    ∙ append_assoc (take at buf) (34 ∷ []) xs
+
 -- bytes between quotes, in place
 pub quoted_in_place : (buf begun copied xs : List ℕ) (at end : ℕ) → end ≡ at + 1 + length xs → at + length xs + 2 ≤ length buf
     → begun ≡ set buf at 34
@@ -191,19 +194,87 @@ pub quoted_in_place : (buf begun copied xs : List ℕ) (at end : ℕ) → end �
     → take (end + 1) (set copied end 34) ≡ take at buf ++ (34 ∷ (xs ++ 34 ∷ []))
 quoted_in_place buf begun copied xs at end end_is room begun_is copied_is =
     let rest : List ℕ = drop (at + 1 + length xs) begun in
-    let first : take (at + 1) begun ≡ take at buf ++ 34 ∷ [] = ap (take (at + 1)) begun_is ∙ take_more_set buf at 34 (omega arith) in
     let begun_long : length begun ≡ length buf = ap length begun_is ∙ length-set buf at 34 in
-    let first_long : length (take (at + 1) begun) ≡ at + 1 = length-take-le (at + 1) begun (omega arith) in
-    let front_long : length (take (at + 1) begun ++ xs) ≡ end = omega (arith, length-append (take (at + 1) begun) xs) in
-    let front : take end copied ≡ take (at + 1) begun ++ xs =
-    ap (take end) (copied_is ∙ sym (append_assoc (take (at + 1) begun) xs rest))
-    ∙ take_at (take (at + 1) begun ++ xs) rest end front_long in
     let copied_long : end < length copied = omega (
       arith,
       ap length copied_is,
       length-append (take (at + 1) begun) (xs ++ rest),
+      length-take-le (at + 1) begun (omega arith),
       length-append xs rest,
       length-drop (at + 1 + length xs) begun,
     ) in
-    take_more_set copied end 34 copied_long ∙ ap (λ (t : List ℕ). t ++ 34 ∷ []) (front ∙ ap (λ (t : List ℕ). t ++ xs) first)
-    ∙ append_assoc (take at buf ++ 34 ∷ []) xs (34 ∷ []) ∙ append_assoc (take at buf) (34 ∷ []) (xs ++ 34 ∷ [])
+    take_more_set copied end 34 copied_long
+    ∙ ap (λ (t : List ℕ). t ++ 34 ∷ []) (ap (λ (k : ℕ). take k copied) end_is
+    ∙ begun_in_place buf begun copied xs rest at (omega arith) begun_is copied_is)
+    ∙ append_assoc (take at buf) (34 ∷ xs) (34 ∷ [])
+
+-- bytes that are plain as a whole stand between quotes as they are
+pub all_quoted : (out xs : List ℕ) → prefix_len is_plain xs ≡ length xs → out ++ (34 ∷ (xs ++ 34 ∷ [])) ≡ out ++ quoted xs
+all_quoted out xs e = ap (λ (t : List ℕ). out ++ (34 ∷ (t ++ 34 ∷ []))) (sym (whole_front xs e))
+
+-- what is written after a quote and some bytes as they are: all of them, where they are plain
+pub plain_written : (buf begun new xs : List ℕ) (at plain end : ℕ) → plain ≡ length xs
+    → take (at + 1 + length xs) begun ≡ take at buf ++ 34 ∷ xs
+    → take end new ≡ take (at + 1 + plain) begun ++ 34 ∷ [] → take end new ≡ take at buf ++ (34 ∷ (xs ++ 34 ∷ []))
+plain_written buf begun new xs at plain end all front is =
+    is ∙ ap (λ (k : ℕ). take (at + 1 + k) begun ++ 34 ∷ []) all ∙ ap (λ (t : List ℕ). t ++ 34 ∷ []) front
+    ∙ append_assoc (take at buf) (34 ∷ xs) (34 ∷ [])
+
+-- or those that are plain, and the rest by their escapes
+rest_written : (buf begun new xs : List ℕ) (at plain end : ℕ) → at ≤ length buf → plain ≤ length xs → plain ≡ prefix_len is_plain xs
+    → take (at + 1 + length xs) begun ≡ take at buf ++ 34 ∷ xs
+    → take end new ≡ take (at + 1 + plain) begun ++ (flat_map escaped (slice_range xs plain (length xs)) ++ 34 ∷ [])
+    → take end new ≡ take at buf ++ quoted xs
+rest_written buf begun new xs at plain end low within count front is =
+    let rest : slice_range xs plain (length xs) ≡ drop plain xs =
+    take_all (length xs - plain) (drop plain xs) (omega (arith, within, length-drop plain xs)) in
+    let parts : take at buf ++ 34 ∷ xs ≡ (take at buf ++ 34 ∷ take plain xs) ++ drop plain xs =
+    ap (λ (t : List ℕ). take at buf ++ 34 ∷ t) (sym (take-append-drop plain xs))
+    ∙ sym (append_assoc (take at buf) (34 ∷ take plain xs) (drop plain xs)) in
+    let long : length (take at buf ++ 34 ∷ take plain xs) ≡ at + 1 + plain =
+    omega (
+      arith,
+      length-append (take at buf) (34 ∷ take plain xs),
+      length-take-le at buf low,
+      length-take-le plain xs within,
+    ) in
+    let some : take (at + 1 + plain) begun ≡ take at buf ++ 34 ∷ take plain xs =
+    sym (take-take (at + 1 + plain) (at + 1 + length xs) begun (omega (arith, within))) ∙ ap (take (at + 1 + plain)) (front ∙ parts)
+    ∙ take_at (take at buf ++ 34 ∷ take plain xs) (drop plain xs) (at + 1 + plain) long in
+    let text : flat_map escaped xs ≡ take plain xs ++ flat_map escaped (drop plain xs) = rw count (plain_front xs) in
+    is ∙ (λ i. some i ++ (flat_map escaped (rest i) ++ 34 ∷ []))
+    ∙ append_assoc (take at buf) (34 ∷ take plain xs) (flat_map escaped (drop plain xs) ++ 34 ∷ [])
+    ∙ ap (λ (t : List ℕ). take at buf ++ 34 ∷ t) (sym (append_assoc (take plain xs) (flat_map escaped (drop plain xs)) (34 ∷ [])))
+    ∙ ap (λ (t : List ℕ). take at buf ++ (34 ∷ (t ++ 34 ∷ []))) (sym text)
+
+pub rest_written_if : (r : Option ℕ) (buf begun new xs : List ℕ) (at plain : ℕ) → at ≤ length buf → plain ≤ length xs
+    → plain ≡ prefix_len is_plain xs → take (at + 1 + length xs) begun ≡ take at buf ++ 34 ∷ xs
+    → IfSome r (λ end. take end new
+    ≡ take (at + 1 + plain) begun ++ (flat_map escaped (slice_range xs plain (length xs)) ++ 34 ∷ []))
+    → IfSome r (λ end. take end new ≡ take at buf ++ quoted xs)
+rest_written_if None buf begun new xs at plain low within count front is = tt
+rest_written_if (Some end) buf begun new xs at plain low within count front is =
+    rest_written buf begun new xs at plain end low within count front is
+
+-- how long the rest is
+pub rest_length : (xs : List ℕ) (plain : ℕ) → plain ≤ length xs → plain ≡ prefix_len is_plain xs
+    → length (quoted xs) ≡ 2 + plain + length (flat_map escaped (slice_range xs plain (length xs)))
+rest_length xs plain within count =
+    let rest : slice_range xs plain (length xs) ≡ drop plain xs =
+    take_all (length xs - plain) (drop plain xs) (omega (arith, within, length-drop plain xs)) in
+    let text : flat_map escaped xs ≡ take plain xs ++ flat_map escaped (drop plain xs) = rw count (plain_front xs) in
+    omega (
+      arith,
+      length-append (flat_map escaped xs) (34 ∷ []),
+      ap length text,
+      length-append (take plain xs) (flat_map escaped (drop plain xs)),
+      length-take-le plain xs within,
+      ap (λ (t : List ℕ). length (flat_map escaped t)) rest,
+    )
+
+-- what stood before a quote and some bytes stays
+pub front_stays : (buf begun xs : List ℕ) (at : ℕ) → at ≤ length buf → take (at + 1 + length xs) begun ≡ take at buf ++ 34 ∷ xs
+    → take at begun ≡ take at buf
+front_stays buf begun xs at low front =
+    sym (take-take at (at + 1 + length xs) begun (omega arith)) ∙ ap (take at) front
+    ∙ take_at (take at buf) (34 ∷ xs) at (length-take-le at buf low)

@@ -21,7 +21,8 @@ use Rattle.sf_forms.specs.Forms.{given_row_text, given_text}
 use Rattle.sf_forms.specs.ReadingBack.{AreRows, HaveKinds, IsGivenValue, IsValue, TsvGivesTexts, TsvNamesReadBack}
 use Rattle.sf_forms.specs.ReadingBack.{TsvReadsBack, table_fields, text_given, text_of_value}
 use Rattle.sf_base.specs.Bytes.{AreBytes}
-use Rattle.sf_forms.specs.Tables.{Table, datum_of_field, pattern_in, table_from, tsv_escaped, tsv_rows, tsv_text, values_of, with_byte, with_field}
+use Rattle.sf_forms.specs.Tables.{Table, datum_of_field, pattern_in, table_from, tsv_escaped, tsv_rows, tsv_text, values_of, with_byte}
+use Rattle.sf_forms.specs.Tables.{with_field}
 use Rattle.sf_forms.proofs.Givens.{are_given, row_given, rows_are_given, rows_given, through_some}
 use Rattle.sf_forms.proofs.Decimals.{bounded, number_back, number_bytes}
 use Rattle.sf_forms.proofs.Floats.{IsTextByte, number_text, real_bytes}

@@ -7,7 +7,7 @@ ghost use Rattle.sf_forms.specs.JsonStrings.{json_escaped, json_from, json_strin
 
 use crate::escape::{push_each, write_all, write_byte, write_each};
 use crate::form::OutputForm;
-use crate::quote::{hex_digit, plain_run};
+use crate::quote::{LANES, are_plain, hex_digit, plain_run, write_front, write_plain};
 use std::alloc::AllocError;
 
 /// Appends a byte that is no part of UTF-8.
@@ -142,4 +142,37 @@ pub(crate) fn write_json_string(bytes: &[u8], buf: &mut [u8], at: usize) -> Opti
         return None;
     }
     Some(write_byte(b'"', buf, end))
+}
+
+/// As `write_string`, of more than sixteen bytes. It is a call of its own, so that short texts don't pay for it.
+#[inline(never)]
+fn write_long(bytes: &[u8], buf: &mut [u8], at: usize) -> Option<usize>
+    requires { at < length buf.old }
+    ensures within { IfSome result (λ end. end ≤ length buf.new) }
+    ensures written { IfSome result (λ end. take end buf.new ≡ take at buf.old ++ json_string bytes.now) }
+    ensures answers { at + length (json_string bytes.now) + 21 ≤ length buf.old → IsSome result }
+{
+    if are_plain(bytes) {
+        return write_plain(bytes, buf, at);
+    }
+    write_json_string(bytes, buf, at)
+}
+
+/// Writes the bytes as a string of JSON from a place on, and answers where it ends. None where there is no room. Most
+/// texts are short and plain: they are written as they are.
+#[inline(always)]
+pub(crate) fn write_string(bytes: &[u8], buf: &mut [u8], at: usize) -> Option<usize>
+    requires { at + 21 ≤ length buf.old }
+    ensures within { IfSome result (λ end. end ≤ length buf.new) }
+    ensures written { IfSome result (λ end. take end buf.new ≡ take at buf.old ++ json_string bytes.now) }
+    ensures answers { at + length (json_string bytes.now) + 21 ≤ length buf.old → IsSome result }
+{
+    if bytes.len() > LANES {
+        return write_long(bytes, buf, at);
+    }
+    let plain = write_front(bytes, buf, at);
+    if plain == bytes.len() {
+        return Some(write_byte(b'"', buf, at + 1 + plain));
+    }
+    write_json_string(bytes, buf, at)
 }

@@ -121,23 +121,12 @@ fn is_short_plain(bytes: &[u8]) -> bool
     odd_mask(&lanes, 0) == 0
 }
 
-/// Whether more than sixteen bytes are plain. It is a call of its own, so that short texts don't pay for it.
-#[inline(never)]
-fn is_long_plain(bytes: &[u8]) -> bool
-    ensures { result ≡ list_all is_plain bytes.now }
-{
-    plain_run(bytes) == bytes.len()
-}
-
 /// Whether the bytes are plain.
 #[inline(always)]
 pub(crate) fn are_plain(bytes: &[u8]) -> bool
     ensures { result ≡ list_all is_plain bytes.now }
 {
-    if bytes.len() <= LANES {
-        return is_short_plain(bytes);
-    }
-    is_long_plain(bytes)
+    plain_run(bytes) == bytes.len()
 }
 
 /// Writes the bytes between quotes as they are, from a place on, and answers where they end. None where there is no
@@ -160,21 +149,83 @@ pub(crate) fn write_plain(bytes: &[u8], buf: &mut [u8], at: usize) -> Option<usi
     Some(end + 1)
 }
 
+/// Writes a quote and at most sixteen bytes as they are from a place on, and answers how many of these are plain
+/// before the first that isn't.
+#[inline(always)]
+pub(crate) fn write_front(bytes: &[u8], buf: &mut [u8], at: usize) -> usize
+    requires short { length bytes.now ≤ 16 }
+    requires room { at + 17 ≤ length buf.old }
+    ensures within { result ≤ length bytes.now }
+    ensures count { result ≡ prefix_len is_plain bytes.now }
+    ensures written { take (at + 1 + length bytes.now) buf.new ≡ take at buf.old ++ 34 ∷ bytes.now }
+{
+    buf[at] = b'"';
+    copy_over(bytes, buf, at + 1);
+    let odd = odd_mask(buf, at + 1);
+    bytes.len().min(odd.trailing_zeros() as usize)
+}
+
+/// Writes the bytes as they stand between quotes, and a quote, from a place on, and answers where they end. None where
+/// there is no room.
+#[inline(never)]
+fn write_rest(bytes: &[u8], buf: &mut [u8], at: usize) -> Option<usize>
+    requires { at ≤ length buf.old }
+    ensures within { IfSome result (λ end. end ≤ length buf.new) }
+    ensures written { IfSome result (λ end. take end buf.new
+        ≡ take at buf.old ++ (flat_map escaped bytes.now ++ 34 ∷ [])) }
+    ensures answers { at + length (flat_map escaped bytes.now) + 22 ≤ length buf.old → IsSome result }
+{
+    let end = write_each(OutputForm::Plain, bytes, buf, at)?;
+    if end == buf.len() {
+        return None;
+    }
+    Some(write_byte(b'"', buf, end))
+}
+
 /// Writes the bytes between quotes from a place on, each that isn't plain by its escape, and answers where they end.
 /// None where there is no room.
 #[inline(never)]
-pub(crate) fn write_quoted(bytes: &[u8], buf: &mut [u8], at: usize) -> Option<usize>
+fn write_quoted(bytes: &[u8], buf: &mut [u8], at: usize) -> Option<usize>
     requires { at < length buf.old }
     ensures within { IfSome result (λ end. end ≤ length buf.new) }
     ensures written { IfSome result (λ end. take end buf.new ≡ take at buf.old ++ quoted bytes.now) }
     ensures answers { at + length (quoted bytes.now) + 21 ≤ length buf.old → IsSome result }
 {
     let start = write_byte(b'"', buf, at);
-    let end = write_each(OutputForm::Plain, bytes, buf, start)?;
-    if end == buf.len() {
-        return None;
+    write_rest(bytes, buf, start)
+}
+
+/// As `write_between`, of more than sixteen bytes. It is a call of its own, so that short texts don't pay for it.
+#[inline(never)]
+fn write_long(bytes: &[u8], buf: &mut [u8], at: usize) -> Option<usize>
+    requires { at < length buf.old }
+    ensures within { IfSome result (λ end. end ≤ length buf.new) }
+    ensures written { IfSome result (λ end. take end buf.new ≡ take at buf.old ++ quoted bytes.now) }
+    ensures answers { at + length (quoted bytes.now) + 21 ≤ length buf.old → IsSome result }
+{
+    if are_plain(bytes) {
+        return write_plain(bytes, buf, at);
     }
-    Some(write_byte(b'"', buf, end))
+    write_quoted(bytes, buf, at)
+}
+
+/// Writes the bytes between quotes from a place on, and answers where they end. None where there is no room. Most texts
+/// are short: they are written as they are, and only what follows the first byte that isn't plain is written anew.
+#[inline(always)]
+pub(crate) fn write_between(bytes: &[u8], buf: &mut [u8], at: usize) -> Option<usize>
+    requires { at + 21 ≤ length buf.old }
+    ensures within { IfSome result (λ end. end ≤ length buf.new) }
+    ensures written { IfSome result (λ end. take end buf.new ≡ take at buf.old ++ quoted bytes.now) }
+    ensures answers { at + length (quoted bytes.now) + 21 ≤ length buf.old → IsSome result }
+{
+    if bytes.len() > LANES {
+        return write_long(bytes, buf, at);
+    }
+    let plain = write_front(bytes, buf, at);
+    if plain == bytes.len() {
+        return Some(write_byte(b'"', buf, at + 1 + plain));
+    }
+    write_rest(&bytes[plain..], buf, at + 1 + plain)
 }
 
 /// Appends at most sixteen bytes between quotes.

@@ -1,5 +1,6 @@
 //! The record of a report, written in place where it is short.
-ghost use Rattle.std.specs.Prelude.{◌≡◌, ◌++◌, ◌+◌, ◌<◌, ◌≤◌, ◌∷◌, [], if◌then◌else◌, map, length, take, IfSome, IsSome};
+ghost use Rattle.std.specs.Prelude.{◌≡◌, ◌++◌, ◌+◌, ◌<◌, ◌≤◌, ◌∷◌, [], if◌then◌else◌, map, length, take, IfSome};
+ghost use Rattle.std.specs.Prelude.{IsSome};
 ghost use Rattle.std.specs.List.{join_with_byte, range_with_len};
 ghost use Rattle.sf_base.specs.Data.{Bytes};
 ghost use Rattle.sf_forms.specs.Lone.{is_lone_in};
@@ -8,8 +9,8 @@ ghost use Rattle.sf_forms.specs.Forms.{closing, missing_text, opening, record_te
 use crate::csv::write_csv_text;
 use crate::escape::{write_all, write_byte};
 use crate::form::OutputForm;
-use crate::json::write_json_string;
-use crate::quote::{are_plain, write_plain, write_quoted};
+use crate::json::write_string;
+use crate::quote::write_between;
 use crate::real::write_real;
 use crate::tables::write_tsv_text;
 use sf_base::{Shown, Store};
@@ -22,36 +23,18 @@ pub(crate) const LINE_BYTES: usize = 1044;
 /// A separator, a minus and the digits of any number.
 const NUMBER_BYTES: usize = 22;
 
-/// Writes a text of which some byte isn't plain. It is a call of its own, so that other texts don't pay for it.
-#[inline(never)]
-fn write_odd(form: OutputForm, text: &[u8], buf: &mut [u8], at: usize) -> Option<usize>
-    requires { at < length buf.old }
-    ensures within { IfSome result (λ end. end ≤ length buf.new) }
-    ensures written { IfSome result (λ end. take end buf.new ≡ take at buf.old ++ value_text form (Bytes text.now)) }
-    ensures answers { at + length (value_text form (Bytes text.now)) + 21 ≤ length buf.old → IsSome result }
-{
-    match form {
-        OutputForm::Plain => write_quoted(text, buf, at),
-        OutputForm::Tsv => write_tsv_text(text, buf, at),
-        OutputForm::Json => write_json_string(text, buf, at),
-        OutputForm::Csv => write_csv_text(text, buf, at),
-    }
-}
-
 /// Writes a text from a place on, and answers where it ends. None where there is no room.
 #[inline(always)]
 fn write_text(form: OutputForm, text: &[u8], buf: &mut [u8], at: usize) -> Option<usize>
-    requires { at < length buf.old }
+    requires { at + 21 ≤ length buf.old }
     ensures within { IfSome result (λ end. end ≤ length buf.new) }
     ensures written { IfSome result (λ end. take end buf.new ≡ take at buf.old ++ value_text form (Bytes text.now)) }
     ensures answers { at + length (value_text form (Bytes text.now)) + 21 ≤ length buf.old → IsSome result }
 {
-    if !are_plain(text) {
-        return write_odd(form, text, buf, at);
-    }
     match form {
-        OutputForm::Plain | OutputForm::Json => write_plain(text, buf, at),
+        OutputForm::Plain => write_between(text, buf, at),
         OutputForm::Tsv => write_tsv_text(text, buf, at),
+        OutputForm::Json => write_string(text, buf, at),
         OutputForm::Csv => write_csv_text(text, buf, at),
     }
 }

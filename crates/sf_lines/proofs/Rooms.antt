@@ -22,7 +22,7 @@ no_sum (Conv c ∷ ds) none = by c.slot refl (λ rest. no_sum ds rest)
 
 -- a format that stores nothing stores no text
 pub no_width : (ds : List Directive) → length (destinations_of ds) ≡ 0 → width_of ds ≡ 0
-no_width ds none = ap (λ sum. unwrap_or sum 0) (no_sum ds none)
+no_width ds none = ap (λ sum. unwrap_or sum 64) (no_sum ds none)
 
 most_append : (xs : List (List Directive)) (ds : List Directive) → most_width (xs ++ ds ∷ []) ≡ max (most_width xs) (width_of ds)
 most_append [] ds = omega arith

@@ -12,7 +12,8 @@ use Rattle.sf_run.specs.Runs.{RunReport}
 use Rattle.sf_run.specs.Laws.{EachHasOneReport}
 use Rattle.sf_lines.specs.declared.end.LineFault.{LineFault}
 use Rattle.sf_lines.specs.declared.end.LineFault.TheVariants.{TooLong}
-use Rattle.sf_lines.specs.Turns.{AreScanned, LineWork, Matches, Misses, Picks, Turn, IsJudged, Comes, fault_of, number_of, turn_by, used_whole}
+use Rattle.sf_lines.specs.Turns.{AreScanned, LineWork, Matches, Misses, Picks, Turn, IsJudged, Comes, fault_of, number_of, turn_by}
+use Rattle.sf_lines.specs.Turns.{used_whole}
 use Rattle.sf_lines.proofs.Choosing.{all_append, contains_first, contains_later}
 use Rattle.sf_lines.specs.Loops.{IfGoing, AllGoOn, AreTurns, goes_on, tellings, telling_of, texts, text_of}
 

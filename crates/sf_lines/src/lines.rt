@@ -26,7 +26,11 @@ use std::alloc::{AllocError, Global};
 /// The most lines that one loop reads.
 const MOST_LINES: u64 = 18446744073709551615;
 
-/// The bytes of text that a format stores at most, where it has a sum of widths; else 0.
+/// The room that is made at once for the texts of a line where a format leaves their lengths open: that of some short
+/// ones.
+const TEXT_BYTES: u32 = 64;
+
+/// The bytes of text that a format stores at most, where it has a sum of widths; else those of some short texts.
 fn width_of(format: &ScanFormat) -> u32
     ensures proper { AreProper format.now }
     ensures width { result ≡ width_of format.now }
@@ -34,7 +38,7 @@ fn width_of(format: &ScanFormat) -> u32
     if format.destinations() == 0 {
         return 0;
     }
-    format.width_sum().unwrap_or(0)
+    format.width_sum().unwrap_or(TEXT_BYTES)
 }
 
 /// The greater of two widths.

@@ -24,6 +24,10 @@ use sf_print::Sink;
 use sf_read::{Lookahead, Source};
 use std::alloc::Global;
 
+/// How many bytes after a line are looked at with it: its newline and some of the next line, so that the last item of
+/// the line is read at once, as the others are.
+const BYTES_BEHIND: usize = 17;
+
 /// Takes the next line, of so many bytes, and judges it where it stands.
 #[inline(always)]
 fn take_held<M: Maker, E: Teller<K>, S: Source, K: Sink, const N: usize>(
@@ -59,10 +63,10 @@ fn take_held<M: Maker, E: Teller<K>, S: Source, K: Sink, const N: usize>(
     ensures ended { from.new.at_end ≡ from.old.at_end }
 {
     let held = from.held();
-    let (ended, _) = held.split_at(len + 1);
+    let (seen, _) = held.split_at(held.len().min(len + BYTES_BEHIND));
     let (line, _) = held.split_at(len);
     let judged = judge(
-        alloc, store, line, ended, number, to, maker, teller, formats, options,
+        alloc, store, line, seen, number, to, maker, teller, formats, options,
     );
     from.consume(len + 1);
     judged

@@ -262,11 +262,21 @@ fn lines_are_printed(rt: HostRuntime) -> Result<(), Fail> {
 }
 
 /// A print format and a scan format, and why the first can't print the records of the second.
-static JUDGED: [(&str, &str, Option<PrintMismatch>); 9] = [
+static JUDGED: [(&str, &str, Option<PrintMismatch>); 11] = [
     ("%d,%s", "%d %s", None),
     ("%2$s,%1$d", "%d %s", None),
     ("%hd %hd %d", "%hhd %hhu %hu", None),
     ("%ld %d", "%u%n", None),
+    ("%ld %ld", "%hd %ld", None),
+    (
+        "%d %ld",
+        "%d %d",
+        Some(PrintMismatch::Kinds {
+            slot: 2,
+            print: Kind::I64,
+            scan: Kind::I32,
+        }),
+    ),
     (
         "%d %d",
         "%d",

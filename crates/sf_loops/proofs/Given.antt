@@ -1,11 +1,12 @@
 -- What `next` answers, of a loop that is known by another name.
-use Rattle.std.proofs.Common.{◌≡◌, ℕ, List, Option, Result, Ok, subst}
+use Rattle.std.proofs.Common.{◌≡◌, ℕ, List, Option, Result, Ok, true, subst, sym}
 use Rattle.sf_base.specs.Data.{Datum}
 use Rattle.sf_base.specs.declared.values.Kind.{Kind}
+use Rattle.sf_read.specs.Ahead.{Ahead}
 use Rattle.sf_loops.specs.declared.fault.RecordFault.{RecordFault}
 use Rattle.sf_loops.specs.declared.line_fault.LineFault.{LineFault}
 use Rattle.sf_loops.specs.Counts.{AnswersNext}
-use Rattle.sf_loops.specs.Items.{AnswersNextLine}
+use Rattle.sf_loops.specs.Items.{AnswersNextLine, StaysAtEnd}
 use Rattle.sf_loops.specs.Lines.{LineLoop}
 use Rattle.sf_loops.specs.Loops.{Loop}
 
@@ -40,3 +41,15 @@ pub line_row_by : {S T : Type 0} (to_come : S → Option (List ℕ)) (reads fail
 line_row_by to_come reads failures N kinds listed was old new found row same is h =
     line_answers_by to_come reads failures N kinds listed was old new (Ok row) same
     (subst (λ o. AnswersNextLine to_come reads failures N kinds listed was new (Ok o)) is h)
+
+-- nor is its source read after the end
+pub stays_by : {S : Type 0} (was old new : Ahead S) → was ≡ old → (was.at_end ≡ true → new.source ≡ was.source)
+    → (was.at_end ≡ true → new.at_end ≡ true) → StaysAtEnd old new
+stays_by {S} was old new same no_read stays =
+    subst (λ (a : Ahead S). StaysAtEnd a new) same (record { no_read = no_read; stays = stays })
+
+-- of a loop that goes on from there with what is held and to come unchanged
+pub end_kept : {S : Type 0} (was old now new : Ahead S) → was ≡ old → new ≡ now → (was.at_end ≡ true → now.source ≡ was.source)
+    → (was.at_end ≡ true → now.at_end ≡ true) → StaysAtEnd old new
+end_kept {S} was old now new same is no_read stays =
+    subst (λ (a : Ahead S). StaysAtEnd old a) (sym is) (stays_by was old now same no_read stays)

@@ -19,7 +19,8 @@ use Rattle.sf_loops.specs.declared.line_fault.LineWhy.{LineWhy}
 use Rattle.sf_loops.specs.declared.line_fault.LineWhy.TheVariants as why
 use Rattle.sf_loops.specs.Lines.{Comes, IsLineLoop, IsNextLine, IsNextLineRow, IsScanned, Judged, LineLoop, LineRowAnswers, Misses}
 use Rattle.sf_loops.specs.Lines.{Stops}
-use Rattle.sf_loops.specs.LineLaws.{AnswersAreLines, AreAnswersOf, IsAnswerOf, IsMissBy, LineAnswer, LinesInTurn, NoneIsTheEnd, answered, is_miss}
+use Rattle.sf_loops.specs.LineLaws.{AnswersAreLines, AreAnswersOf, IsAnswerOf, IsMissBy, LineAnswer, LinesInTurn, NoneIsTheEnd, answered}
+use Rattle.sf_loops.specs.LineLaws.{is_miss}
 use Rattle.sf_loops.specs.Turns.{outcome_of}
 
 -- ---- a line that has a report

@@ -1,5 +1,6 @@
 -- The rows of a loop over records.
-use Rattle.std.proofs.Common.{◌≡◌, ℕ, ◌⊎◌, inl, inr, Bool, true, false, List, Option, Some, None, Result, Ok, Err, refl, sym, ap, subst, ◌∙◌, arith, true≢false}
+use Rattle.std.proofs.Common.{◌≡◌, ℕ, ◌⊎◌, inl, inr, Bool, true, false, List, Option, Some, None, Result, Ok, Err, refl, sym, ap, subst}
+use Rattle.std.proofs.Common.{◌∙◌, arith, true≢false}
 use Rattle.sf_base.specs.Data.{Datum}
 use Rattle.sf_base.specs.declared.values.Kind.{Kind}
 use Rattle.sf_format.specs.Proper.{IsAccepted, has_optional}
@@ -7,13 +8,16 @@ use Rattle.sf_run.specs.outcome.Ending.{Ending}
 use Rattle.sf_run.specs.outcome.Outcome.{Outcome}
 use Rattle.sf_run.specs.outcome.Status.{Status}
 use Rattle.sf_run.specs.outcome.Status.TheVariants.{Done}
+use Rattle.sf_run.specs.Runs.{RunReport}
+use Rattle.sf_read.specs.Counts.{counted_on}
 use Rattle.sf_read.specs.Rows.{AreGivenAs}
 use Rattle.sf_read.specs.RowScans.{HasShape}
 use Rattle.sf_read.proofs.Shapes.{given}
 use Rattle.sf_loops.specs.declared.fault.RecordFault.{RecordFault}
 use Rattle.sf_loops.specs.declared.turn.Turn.{Turn}
 use Rattle.sf_loops.specs.declared.turn.Turn.TheVariants.{Goes, Cut, Ends, Stops}
-use Rattle.sf_loops.specs.Loops.{Advances, IsNext, IsNextRow, Loop, RowAnswers, ended_with}
+use Rattle.sf_loops.specs.Loops.{Advances, IsLoop, IsNext, IsNextRow, Loop, RowAnswers, ended_with}
+use Rattle.sf_loops.specs.Runs.{IsNextRun}
 use Rattle.sf_loops.specs.Turns.{outcome_of, turn_for, turn_of}
 
 ok_is : {A E : Type 0} (a b : A) → (let r : Result A E = Ok a in r ≡ Ok b) → a ≡ b
@@ -64,6 +68,41 @@ done_of {to_come = to_come} {reads = reads} {failures = failures} {N = N} old ne
 pub advances_by : {S : Type 0} (old new : Loop S) (turn other : Turn) (result : Result Bool RecordFault) → other ≡ turn
     → Advances old new turn result → Advances old new other result
 advances_by old new turn other result e h = subst (λ t. Advances old new t result) (sym e) h
+
+-- the next record was done at once, of a loop that is known by another name
+pub next_at_once : {S : Type 0} (to_come : S → Option (List ℕ)) (reads failures : S → ℕ) (N : ℕ) (was old new : Loop S) → was ≡ old
+    → IsNextRun to_come reads failures N was.format was.limit was.ahead new.ahead was.lines new.lines new.report
+    → turn_of was.format new.report ≡ Goes → new.format ≡ was.format → new.limit ≡ was.limit → new.answered ≡ counted_on was.answered
+    → new.over ≡ None → IsNext to_come reads failures N old new (Ok true)
+next_at_once {S} to_come reads failures N was old new same run turn format limit answered over =
+    subst (λ (l : Loop S). IsNext to_come reads failures N l new (Ok true)) same (record {
+      run = run;
+      advances = advances_by was new Goes (turn_of was.format new.report) (Ok true) turn (
+        refl,
+        record { format = format; limit = limit; answered_are = answered; over_is = over },
+      );
+    })
+
+loop_from : {S : Type 0} (old new : Loop S) (r : RunReport) (answered : ℕ) (over : Option (Option RecordFault))
+    → IsLoop (record old { report = r }) new answered over → IsLoop old new answered over
+loop_from old new r answered over h =
+    record { format = h.format; limit = h.limit; answered_are = h.answered_are; over_is = h.over_is }
+
+advances_from : {S : Type 0} (old new : Loop S) (r : RunReport) (turn : Turn) (result : Result Bool RecordFault)
+    → Advances (record old { report = r }) new turn result → Advances old new turn result
+advances_from old new r Goes result h = (h.0, loop_from old new r _ _ h.1)
+advances_from old new r Cut result h = (h.0, loop_from old new r _ _ h.1)
+advances_from old new r Ends result h = (h.0, loop_from old new r _ _ h.1)
+advances_from old new r (Stops why) result h = (h.0, loop_from old new r _ _ h.1)
+
+-- the report that a loop had before doesn't matter
+pub next_from : {S : Type 0} (to_come : S → Option (List ℕ)) (reads failures : S → ℕ) (N : ℕ) (old mid new : Loop S) (r : RunReport)
+    (result : Result Bool RecordFault) → mid ≡ record old { report = r } → IsNext to_come reads failures N mid new result
+    → IsNext to_come reads failures N old new result
+next_from {S} to_come reads failures N old mid new r result is h =
+    let same : IsNext to_come reads failures N (record old { report = r }) new result =
+    subst (λ (l : Loop S). IsNext to_come reads failures N l new result) is h in
+    record { run = same.run; advances = advances_from old new r (turn_of old.format new.report) result same.advances }
 
 -- its report has a value of its kind for each slot of the row
 pub given_row : {S : Type 0} {to_come : S → Option (List ℕ)} {reads failures : S → ℕ} {N : ℕ} (kinds : List Kind) (optional : ℕ → Bool)

@@ -1,5 +1,5 @@
 -- The run over a line that was read.
-use Rattle.std.proofs.Common.{◌≡◌, ℕ, List, [], Option, Some, None, Result, Ok, Err, Bool, refl, sym, ap, subst, ◌∙◌}
+use Rattle.std.proofs.Common.{◌≡◌, ◌≤◌, ℕ, List, [], length, Option, Some, None, Result, Ok, Err, Bool, true, refl, sym, ap, subst, ◌∙◌}
 use Rattle.std.specs.Prelude.{IsSome, if◌then◌else◌}
 use Rattle.sf_base.specs.Data.{Assigned}
 use Rattle.sf_format.specs.Widths.{width_sum}
@@ -15,7 +15,8 @@ use Rattle.sf_format.specs.declared.directive.Directive.{Directive}
 use Rattle.sf_read.specs.Ahead.{Ahead}
 use Rattle.sf_line.specs.declared.line.LineRead.{LineRead}
 use Rattle.sf_line.specs.declared.line.LineRead.TheVariants as reads
-use Rattle.sf_line.specs.Reading.{Reads, UsesLine, is_failed}
+use Rattle.sf_line.specs.declared.line.LineRead.TheVariants.{NoMemory as NoRoom}
+use Rattle.sf_line.specs.Reading.{Outgrows, Reads, UsesLine, is_failed}
 use Rattle.sf_loops.specs.declared.line_fault.LineFault.{LineFault}
 use Rattle.sf_loops.specs.declared.line_fault.LineStop.{LineStop}
 use Rattle.sf_loops.specs.declared.line_fault.LineWhy.{LineWhy}
@@ -48,11 +49,12 @@ scanned_on old mid new text h is = record {
   bounded = λ some. subst (λ (r : RunReport). RunWithin old.format old.limit text End r) (sym is) (h.bounded some);
 }
 
--- nor did its report before matter
-pub scanned_from : {S : Type 0} (old mid new : LineLoop S) (r : RunReport) → mid ≡ record old { report = r } → IsScanned mid new mid.line
+-- nor did its report before matter, nor its room
+pub scanned_from : {S : Type 0} (old mid new : LineLoop S) (r : RunReport) (room : ℕ) → mid ≡ record old { report = r; room = room }
+    → IsScanned mid new mid.line
     → IsScanned old new old.line
-scanned_from {S} old mid new r is h =
-    let same : IsScanned (record old { report = r }) new old.line = subst (λ (l : LineLoop S). IsScanned l new l.line) is h in
+scanned_from {S} old mid new r room is h =
+    let same : IsScanned (record old { report = r; room = room }) new old.line = subst (λ (l : LineLoop S). IsScanned l new l.line) is h in
     record { told = same.told; bounded = same.bounded }
 
 -- the run of the line of a loop that is known by another name
@@ -149,8 +151,10 @@ pub next_by : {S : Type 0} (to_come : S → Option (List ℕ)) (count failures :
     (text : List ℕ) (read : LineRead) (result : Result Bool LineFault) → was ≡ old → new.ahead ≡ ahead
     → Reads to_come was.ahead ahead was.limit text read → UsesLine to_come count N was.ahead ahead was.limit text read
     → failures ahead.source ≡ (if is_failed read then counted_on (failures was.ahead.source) else failures was.ahead.source)
+    → (read ≡ NoRoom → Outgrows to_come was.ahead was.limit was.room) → (result ≡ Ok true → was.room ≤ new.room)
+    → (result ≡ Ok true → length new.line ≤ new.room)
     → (was.over ≡ None → Comes was new read text result) → old.over ≡ None → IsNextLine to_come count failures N old new result
-next_by {S} to_come count failures N was old new ahead text read result same is reading waited failed comes open' =
+next_by {S} to_come count failures N was old new ahead text read result same is reading waited failed refused kept roomy comes open' =
     subst (λ (l : LineLoop S). IsNextLine to_come count failures N l new result) same (record {
       read = read;
       text = text;
@@ -158,4 +162,7 @@ next_by {S} to_come count failures N was old new ahead text read result same is 
       waited = subst (λ (a : Ahead S). UsesLine to_come count N was.ahead a was.limit text read) (sym is) waited;
       failed = ap (λ (a : Ahead S). failures a.source) is ∙ failed;
       comes = comes (ap (λ (l : LineLoop S). l.over) same ∙ open');
+      refused = refused;
+      kept = kept;
+      roomy = roomy;
     })

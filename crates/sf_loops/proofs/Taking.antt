@@ -1,6 +1,9 @@
 -- The run of a record that is held whole.
-use Rattle.std.proofs.Common.{◌≡◌, ℕ, ◌≤◌, inl, true, cond, List, [], ◌++◌, length, take, drop, Option, None, refl, sym, ap, ◌∙◌, arith}
+use Rattle.std.proofs.Common.{◌≡◌, ℕ, ◌<◌, ◌≤◌, inl, Bool, true, false, cond, List, [], ◌++◌, length, take, drop, Option, None, refl, sym}
+use Rattle.std.proofs.Common.{ap, ◌∙◌, arith}
+use Rattle.std.proofs.lemmas.Bool.Decides.{nat_tests}
 use Rattle.std.proofs.lemmas.List.{take-append-drop, take-append-le, length-take-le}
+use Rattle.std.specs.Prelude.{nat_eq}
 use Rattle.std.specs.Io.KnownBytes.{IsAtEnd}
 use Rattle.sf_format.specs.declared.directive.Directive.{Directive}
 use Rattle.sf_run.specs.outcome.Ending.{Ending}
@@ -15,7 +18,19 @@ use Rattle.sf_read.specs.Scan.{is_fault}
 use Rattle.sf_read.proofs.Blocks.{no_reads}
 use Rattle.sf_read.proofs.Holding.{held_scan}
 use Rattle.sf_read.proofs.Reading.{known_parts}
+use Rattle.sf_run.specs.outcome.Outcome.{Outcome}
+use Rattle.sf_loops.specs.declared.turn.Turn.TheVariants.{Goes}
 use Rattle.sf_loops.specs.Runs.{IsNextRun}
+use Rattle.sf_loops.specs.Turns.{turn_for}
+
+some_used : (n : ℕ) → 0 < n → nat_eq n 0 ≡ false
+some_used n h = grind (arith, nat_tests)
+
+-- a run that is Done, met nothing and used some bytes is a record
+pub goes_at_once : (optional : Bool) (o : Outcome) → o.status ≡ Done → o.met ≡ None → 0 < o.used
+    → turn_for optional o o.status o.met ≡ Goes
+goes_at_once optional o status met some =
+    let used : nat_eq o.used 0 ≡ false = some_used o.used some in rw (status, met, used) refl
 
 pub held_run : {S : Type 0} (to_come : S → Option (List ℕ)) (reads failures : S → ℕ) (N : ℕ) (ds : List Directive) (m : ℕ)
     (old new : Ahead S)

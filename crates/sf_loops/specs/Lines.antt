@@ -1,6 +1,6 @@
 -- A loop over the lines of an input, each an input of its own, as C programs have it with fgets and sscanf (C11 7.21.7.2, 7.21.6.7): where
 -- it stands, and what it answers next.
-use Rattle.std.specs.Prelude.{◌≡◌, ℕ, List, [], Bool, true, false, length, Option, Some, None, IsSome, Result, Ok, Err, if◌then◌else◌}
+use Rattle.std.specs.Prelude.{◌≡◌, ◌≤◌, ℕ, List, [], Bool, true, false, length, Option, Some, None, IsSome, Result, Ok, Err, if◌then◌else◌}
 use Rattle.sf_base.specs.Data.{Datum}
 use Rattle.sf_base.specs.declared.values.Kind.{Kind}
 use Rattle.sf_format.specs.declared.directive.Directive.{Directive}
@@ -15,21 +15,23 @@ use Rattle.sf_read.specs.Ahead.{Ahead}
 use Rattle.sf_read.specs.Counts.{counted_on}
 use Rattle.sf_line.specs.declared.line.LineRead.{LineRead}
 use Rattle.sf_line.specs.declared.line.LineRead.TheVariants as reads
-use Rattle.sf_line.specs.Reading.{Reads, UsesLine, is_failed}
+use Rattle.sf_line.specs.declared.line.LineRead.TheVariants.{NoMemory as NoRoom}
+use Rattle.sf_line.specs.Reading.{Outgrows, Reads, UsesLine, is_failed}
 use Rattle.sf_loops.specs.declared.line_fault.LineFault.{LineFault}
 use Rattle.sf_loops.specs.declared.line_fault.LineStop.{LineStop}
 use Rattle.sf_loops.specs.declared.line_fault.LineWhy.{LineWhy}
 use Rattle.sf_loops.specs.declared.line_fault.LineWhy.TheVariants as why
 use Rattle.sf_loops.specs.Turns.{outcome_of}
 
--- What is held and to come, the format, the limit of each line and of each run, how many lines were read, the last of them, the report of
--- the last run, and how the loop has ended, where it has: cleanly, or by a fault.
+-- What is held and to come, the format, the limit of each line and of each run, how many lines were read, the last of them, how many bytes
+-- of a line there is room for, the report of the last run, and how the loop has ended, where it has: cleanly, or by a fault.
 pub record LineLoop (S : Type 0) : Type 0 where
   pub ahead : Ahead S
   pub format : List Directive
   pub limit : ℕ
   pub read : ℕ
   pub line : List ℕ
+  pub room : ℕ
   pub report : RunReport
   pub over : Option (Option LineStop)
 
@@ -94,6 +96,11 @@ pub record IsNextLine {S : Type 0} (to_come : S → Option (List ℕ)) (reads fa
   pub failed : failures new.ahead.source
       ≡ (if is_failed read then counted_on (failures old.ahead.source) else failures old.ahead.source)
   pub comes : Comes old new read text result
+  -- memory for the line is refused only where there is no room for it
+  pub refused : read ≡ NoRoom → Outgrows to_come old.ahead old.limit old.room
+  -- the room of a line that has a report stays for the next one
+  pub kept : result ≡ Ok true → old.room ≤ new.room
+  pub roomy : result ≡ Ok true → length new.line ≤ new.room
 
 -- ---- rows
 

@@ -1,5 +1,5 @@
 //! The run over a line, where that is seen at once to be Done.
-ghost use Rattle.std.specs.Prelude.{◌≡◌, ◌≤◌, ◌++◌, ◌∷◌, ℕ, List, [], IfSome, IsTrue};
+ghost use Rattle.std.specs.Prelude.{◌≡◌, ◌≤◌, ◌++◌, ◌∷◌, ℕ, List, [], IfSome, IsTrue, vec_capacity};
 ghost use Rattle.sf_run.specs.Limits.{RunWithin};
 ghost use Rattle.sf_run.specs.Memory.{capacity_of};
 ghost use Rattle.sf_run.specs.Views.{report_by};
@@ -71,6 +71,7 @@ pub(crate) fn run_at_once(
     ensures run { IfSome result (λ outcome. RunWithin format.now limit line.old.items End
         (report_by outcome store.new.values)) }
     ensures line { line.new.items ≡ line.old.items }
+    ensures kept { vec_capacity line.old ≤ vec_capacity line.new }
     ensures room { capacity_of store.old ≤ capacity_of store.new }
 {
     if line.push(b'\n').is_err() {

@@ -1,5 +1,6 @@
 //! The lines of an input, one after the other, as reports.
-ghost use Rattle.std.specs.Prelude.{◌≡◌, ◌≤◌, ◌<◌, ◌⊎◌, ◌↔◌, [], false, Option, None, Some, IfErr, IfOk, IfSome, IsErrOf, IsSome};
+ghost use Rattle.std.specs.Prelude.{◌≡◌, ◌≤◌, ◌<◌, ◌⊎◌, ◌↔◌, [], true, false, length, Option, None, Some, Ok, IfErr};
+ghost use Rattle.std.specs.Prelude.{IfOk, IfSome, IsErrOf, IsSome};
 ghost use Rattle.sf_format.specs.Proper.{AreKinded, IsAccepted};
 ghost use Rattle.sf_format.specs.Widths.{width_sum};
 ghost use Rattle.sf_run.specs.Limits.{RunTold, RunWithin};
@@ -24,8 +25,9 @@ use std::mem::replace;
 /// and sscanf (C11 7.21.7.2, 7.21.6.7). A newline ends a line and is no part of it; the last line may lack it.
 ///
 /// A line that is no match, or has more bytes than the limit, is reported as a fault, and the loop goes on with the
-/// next line. `N` is how many bytes are read at once, at least 1. Nothing is read while a whole line is held. The
-/// memory of a line and of its values is used again for the next one.
+/// next line. `N` is how many bytes are read at once, at least 1. Nothing is read while a whole line is held, nor once
+/// the source has reported its end. The memory of a line and of its values is used again for the next one: a line that
+/// is no longer than one before it needs no more, unless a line that fails came between them, which takes its text.
 #[derive(Drop)]
 pub struct LineReports<'f, S: Source, const N: usize> {
     alloc: Global,
@@ -40,7 +42,7 @@ pub struct LineReports<'f, S: Source, const N: usize> {
 }
 
 impl<'f, S: Source, const N: usize> Model for LineReports<'f, S, N> {
-    ghost use Rattle.std.specs.Prelude.{◌≤◌, IsSomeAnd, unwrap_or};
+    ghost use Rattle.std.specs.Prelude.{◌≤◌, IsSomeAnd, unwrap_or, vec_capacity};
     ghost use Rattle.sf_format.specs.Widths.{width_sum};
     ghost use Rattle.sf_run.specs.Memory.{capacity_of};
     ghost use Rattle.sf_run.specs.Views.{report_by};
@@ -55,6 +57,7 @@ impl<'f, S: Source, const N: usize> Model for LineReports<'f, S, N> {
       limit = r.limit;
       read = r.read;
       line = r.line.items;
+      room = vec_capacity r.line;
       report = report_by r.outcome (values_in r.store);
       over = r.over;
     } };
@@ -114,7 +117,8 @@ impl<'f, S: Source, const N: usize> LineReports<'f, S, N> {
     fn scan_at_once(&mut self) -> Option<Outcome>
         ensures run { IfSome result (λ _. RunWithin self.old.format self.old.limit self.old.line End self.new.report) }
         ensures outcome { IfSome result (λ outcome. outcome ≡ outcome_of self.new.report) }
-        ensures rest { self.new ≡ record self.old { report = self.new.report } }
+        ensures rest { self.new ≡ record self.old { report = self.new.report; room = self.new.room } }
+        ensures room { self.old.room ≤ self.new.room }
     {
         let Some(store) = &mut self.store else {
             unreachable!();
@@ -152,7 +156,8 @@ impl<'f, S: Source, const N: usize> LineReports<'f, S, N> {
     fn scan(&mut self) -> Outcome
         ensures scanned { IsScanned self.old self.new self.old.line }
         ensures outcome { result ≡ outcome_of self.new.report }
-        ensures rest { self.new ≡ record self.old { report = self.new.report } }
+        ensures rest { self.new ≡ record self.old { report = self.new.report; room = self.new.room } }
+        ensures room { self.old.room ≤ self.new.room }
     {
         match self.scan_at_once() {
             Some(outcome) => outcome,
@@ -163,7 +168,7 @@ impl<'f, S: Source, const N: usize> LineReports<'f, S, N> {
     /// The fault of the line that was read, whose text it takes. The loop goes on after it.
     fn miss(&mut self, why: LineWhy) -> LineFault
         ensures fault { IsLineFault result (counted_on self.old.read) self.old.line why }
-        ensures rest { self.new ≡ record self.old { read = counted_on self.old.read; line = [] } }
+        ensures rest { self.new ≡ record self.old { read = counted_on self.old.read; line = []; room = self.new.room } }
     {
         let number = self.read.saturating_add(1);
         let text = replace(&mut self.line, Vec::new(self.alloc));
@@ -205,6 +210,8 @@ impl<'f, S: Source, const N: usize> LineReports<'f, S, N> {
         ensures scanned { IsScanned self.old self.new self.old.line }
         ensures ahead { self.new.ahead ≡ self.old.ahead }
         ensures judged { self.old.over ≡ None → Judged self.old self.new self.new.report.status self.old.line result }
+        ensures kept { result ≡ Ok true → self.old.room ≤ self.new.room }
+        ensures roomy { result ≡ Ok true → length self.new.line ≤ self.new.room }
         ensures format { self.new.format ≡ self.old.format }
     {
         let outcome = self.scan();
@@ -226,6 +233,8 @@ impl<'f, S: Source, const N: usize> LineReports<'f, S, N> {
         ensures over { (end : Option LineStop) → self.old.over ≡ Some end → (self.new ≡ self.old)
             × LineEndedWith false end result }
         ensures next { self.old.over ≡ None → IsNextLine S.to_come S.reads S.failures N self.old self.new result }
+        ensures no_read { self.old.ahead.at_end ≡ true → self.new.ahead.source ≡ self.old.ahead.source }
+        ensures stays { self.old.ahead.at_end ≡ true → self.new.ahead.at_end ≡ true }
         ensures format { self.new.format ≡ self.old.format }
     {
         match self.over {

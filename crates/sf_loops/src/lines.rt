@@ -1,5 +1,6 @@
 //! The lines of an input, one after the other, as rows.
-ghost use Rattle.std.specs.Prelude.{◌≡◌, ◌≤◌, ◌<◌, ◌⊎◌, ◌↔◌, [], false, Option, None, Some, IfErr, IfOk, IfSome, IsErrOf};
+ghost use Rattle.std.specs.Prelude.{◌≡◌, ◌≤◌, ◌<◌, ◌⊎◌, ◌↔◌, [], true, false, Option, None, Some, IfErr, IfOk, IfSome};
+ghost use Rattle.std.specs.Prelude.{IsErrOf};
 ghost use Rattle.sf_run.specs.declared.feeding.StartFault.TheVariants as start;
 ghost use Rattle.sf_read.specs.RowScans.{HasShape};
 ghost use Rattle.sf_read.specs.Rows.{present, slots_by};
@@ -79,6 +80,8 @@ impl<'f, T: Row, S: Source, const N: usize> Lines<'f, T, S, N> {
             → (self.new ≡ self.old) × LineEndedWith None end result }
         ensures next { self.old.over ≡ None → IsNextLineRow S.to_come S.reads S.failures N T.kinds
             (slots_by T.given T.listed) self.old self.new result }
+        ensures no_read { self.old.ahead.at_end ≡ true → self.new.ahead.source ≡ self.old.ahead.source }
+        ensures stays { self.old.ahead.at_end ≡ true → self.new.ahead.at_end ≡ true }
         ensures listed { IfOk result (λ found. IfSome found
             (λ row. T.listed row ≡ present (slots_by T.given T.listed row))) }
     {

@@ -21,9 +21,9 @@ fn newlines_of(bytes: &[u8], count: usize) -> u32
     (found % (1 << count)).count_ones()
 }
 
-/// Adds the newlines of the first `count` bytes. The count of lines stays at 2^64 - 1.
-#[inline(always)]
-pub(crate) fn count_front(lines: &mut u64, bytes: &[u8], count: usize)
+/// Adds the newlines of the first `count` bytes, sixteen bytes at once. The count of lines stays at 2^64 - 1.
+#[inline(never)]
+fn count_long(lines: &mut u64, bytes: &[u8], count: usize)
     requires { count ≤ length bytes.now }
     ensures { lines.new ≡ lines_after lines.old (take count bytes.now) }
 {
@@ -38,4 +38,18 @@ pub(crate) fn count_front(lines: &mut u64, bytes: &[u8], count: usize)
     }
     let (front, _) = rest.split_at(left);
     count_newlines(lines, front);
+}
+
+/// Adds the newlines of the first `count` bytes. The count of lines stays at 2^64 - 1. Most records are short, and are
+/// looked at without a call.
+#[inline(always)]
+pub(crate) fn count_front(lines: &mut u64, bytes: &[u8], count: usize)
+    requires { count ≤ length bytes.now }
+    ensures { lines.new ≡ lines_after lines.old (take count bytes.now) }
+{
+    if bytes.len() < LANES || count > LANES {
+        count_long(lines, bytes, count);
+        return;
+    }
+    *lines = lines.saturating_add(newlines_of(bytes, count) as u64);
 }

@@ -1,5 +1,6 @@
 //! The records of an input, one after the other, as rows.
-ghost use Rattle.std.specs.Prelude.{◌≡◌, ◌≤◌, ◌<◌, ◌⊎◌, ◌↔◌, [], false, Option, None, Some, IfErr, IfOk, IfSome, IsErrOf};
+ghost use Rattle.std.specs.Prelude.{◌≡◌, ◌≤◌, ◌<◌, ◌⊎◌, ◌↔◌, [], true, false, Option, None, Some, IfErr, IfOk, IfSome};
+ghost use Rattle.std.specs.Prelude.{IsErrOf};
 ghost use Rattle.sf_run.specs.declared.feeding.StartFault.TheVariants as start;
 ghost use Rattle.sf_read.specs.RowScans.{HasShape};
 ghost use Rattle.sf_read.specs.Rows.{present, slots_by};
@@ -15,7 +16,8 @@ use std::marker::{Model, PhantomData};
 /// A loop over the records of an input as rows: tuples of one to six values, or a type of the caller's. It ends where
 /// fscanf would return EOF at the end of the input (C11 7.21.6.2p16), or at the first record that is no match.
 ///
-/// `N` is how many bytes are read at once, at least 1. The store of a record is used again for the next one.
+/// `N` is how many bytes are read at once, at least 1. A source that has reported its end is not read again. The store
+/// of a record is used again for the next one.
 #[derive(Drop)]
 pub struct Records<'f, T: Row, S: Source, const N: usize> {
     reports: Reports<'f, S, N>,
@@ -75,6 +77,8 @@ impl<'f, T: Row, S: Source, const N: usize> Records<'f, T, S, N> {
             → (self.new ≡ self.old) × (result ≡ ended_with None end) }
         ensures next { self.old.over ≡ None → IsNextRow S.to_come S.reads S.failures N T.kinds
             (slots_by T.given T.listed) self.old self.new result }
+        ensures no_read { self.old.ahead.at_end ≡ true → self.new.ahead.source ≡ self.old.ahead.source }
+        ensures stays { self.old.ahead.at_end ≡ true → self.new.ahead.at_end ≡ true }
         ensures listed { IfOk result (λ found. IfSome found
             (λ row. T.listed row ≡ present (slots_by T.given T.listed row))) }
     {

@@ -1,5 +1,6 @@
 //! The records of an input, one after the other, as reports.
-ghost use Rattle.std.specs.Prelude.{◌≡◌, ◌≤◌, ◌<◌, ◌⊎◌, ◌↔◌, [], true, false, Option, None, Some, IfErr, IfOk, IsErrOf};
+ghost use Rattle.std.specs.Prelude.{◌≡◌, ◌≤◌, ◌<◌, ◌⊎◌, ◌↔◌, [], true, false, Option, None, Some, Ok, IfErr, IfOk};
+ghost use Rattle.std.specs.Prelude.{IsErrOf};
 ghost use Rattle.sf_format.specs.Proper.{AreKinded, IsAccepted};
 ghost use Rattle.sf_read.specs.Counts.{counted_on};
 ghost use Rattle.sf_loops.specs.Loops.{IsNext, ended_with, fault_of};
@@ -18,7 +19,8 @@ use std::marker::Model;
 /// A loop over the records of an input, by a format: each run is of what the one before it left. It ends where fscanf
 /// would return EOF at the end of the input (C11 7.21.6.2p16), or at the first record that is no match.
 ///
-/// `N` is how many bytes are read at once, at least 1. The store of a record is used again for the next one.
+/// `N` is how many bytes are read at once, at least 1. A source that has reported its end is not read again. The store
+/// of a record is used again for the next one.
 #[derive(Drop)]
 pub struct Reports<'f, S: Source, const N: usize> {
     alloc: Global,
@@ -102,15 +104,22 @@ impl<'f, S: Source, const N: usize> Reports<'f, S, N> {
         })
     }
 
-    /// Runs the format over the next record.
-    fn scan(&mut self)
-        ensures run { IsNextRun S.to_come S.reads S.failures N self.old.format self.old.limit self.old.ahead
-            self.new.ahead self.old.lines self.new.lines self.new.report }
-        ensures format { self.new.format ≡ self.old.format }
-        ensures limit { self.new.limit ≡ self.old.limit }
-        ensures answered { self.new.answered ≡ self.old.answered }
-        ensures over { self.new.over ≡ self.old.over }
+    /// Goes on to the next record where that is held whole and is Done, as most are. Else the report alone has changed.
+    #[inline(always)]
+    fn advance_at_once(&mut self) -> bool
+        ensures next { result ≡ true → IsNext S.to_come S.reads S.failures N self.old self.new (Ok true) }
+        ensures open { result ≡ true → self.old.over ≡ None }
+        ensures format { result ≡ true → self.new.format ≡ self.old.format }
+        ensures limit { result ≡ true → self.new.limit ≡ self.old.limit }
+        ensures no_read { self.new.ahead.source ≡ self.old.ahead.source }
+        ensures stays { self.new.ahead.at_end ≡ self.old.ahead.at_end }
+        ensures rest { result ≡ false → self.new ≡ record self.old { report = self.new.report } }
+        ensures ended { (end : Option RecordFault) → self.old.over ≡ Some end → self.new ≡ self.old }
     {
+        match self.over {
+            None => {}
+            Some(_) => return false,
+        }
         let Some(store) = &mut self.store else {
             unreachable!();
         };
@@ -121,20 +130,25 @@ impl<'f, S: Source, const N: usize> Reports<'f, S, N> {
             self.limit,
             &mut self.lines,
         ) {
-            Some(outcome) => self.outcome = outcome,
-            None => self.scan_on(),
+            Some(outcome) => {
+                self.outcome = outcome;
+                self.answered = self.answered.saturating_add(1);
+                true
+            }
+            None => false,
         }
     }
 
-    /// As `scan`, by a scanner whatever is held.
-    #[inline(never)]
-    fn scan_on(&mut self)
+    /// Runs the format over the next record, by a scanner whatever is held.
+    fn scan(&mut self)
         ensures run { IsNextRun S.to_come S.reads S.failures N self.old.format self.old.limit self.old.ahead
             self.new.ahead self.old.lines self.new.lines self.new.report }
         ensures format { self.new.format ≡ self.old.format }
         ensures limit { self.new.limit ≡ self.old.limit }
         ensures answered { self.new.answered ≡ self.old.answered }
         ensures over { self.new.over ≡ self.old.over }
+        ensures no_read { self.old.ahead.at_end ≡ true → self.new.ahead.source ≡ self.old.ahead.source }
+        ensures stays { self.old.ahead.at_end ≡ true → self.new.ahead.at_end ≡ true }
     {
         let Some(store) = self.store.take() else {
             unreachable!();
@@ -162,12 +176,15 @@ impl<'f, S: Source, const N: usize> Reports<'f, S, N> {
         }
     }
 
-    /// Goes on to the next record, and says whether there is one; `report` has it then. After the end, or a fault, it
-    /// answers the same again. A record that was complete when a read failed is there, and the fault comes next.
-    pub fn advance(&mut self) -> Result<bool, RecordFault>
+    /// As `advance`, by a scanner whatever is held.
+    #[cold]
+    #[inline(never)]
+    fn advance_on(&mut self) -> Result<bool, RecordFault>
         ensures over { (end : Option RecordFault) → self.old.over ≡ Some end
             → (self.new ≡ self.old) × (result ≡ ended_with false end) }
         ensures next { self.old.over ≡ None → IsNext S.to_come S.reads S.failures N self.old self.new result }
+        ensures no_read { self.old.ahead.at_end ≡ true → self.new.ahead.source ≡ self.old.ahead.source }
+        ensures stays { self.old.ahead.at_end ≡ true → self.new.ahead.at_end ≡ true }
         ensures format { self.new.format ≡ self.old.format }
         ensures limit { self.new.limit ≡ self.old.limit }
     {
@@ -198,6 +215,24 @@ impl<'f, S: Source, const N: usize> Reports<'f, S, N> {
                 Err(fault)
             }
         }
+    }
+
+    /// Goes on to the next record, and says whether there is one; `report` has it then. After the end, or a fault, it
+    /// answers the same again. A record that was complete when a read failed is there, and the fault comes next.
+    #[inline(always)]
+    pub fn advance(&mut self) -> Result<bool, RecordFault>
+        ensures over { (end : Option RecordFault) → self.old.over ≡ Some end
+            → (self.new ≡ self.old) × (result ≡ ended_with false end) }
+        ensures next { self.old.over ≡ None → IsNext S.to_come S.reads S.failures N self.old self.new result }
+        ensures no_read { self.old.ahead.at_end ≡ true → self.new.ahead.source ≡ self.old.ahead.source }
+        ensures stays { self.old.ahead.at_end ≡ true → self.new.ahead.at_end ≡ true }
+        ensures format { self.new.format ≡ self.old.format }
+        ensures limit { self.new.limit ≡ self.old.limit }
+    {
+        if self.advance_at_once() {
+            return Ok(true);
+        }
+        self.advance_on()
     }
 
     /// The report of the last run: after `advance` has answered true, that of the record.

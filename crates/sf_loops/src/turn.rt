@@ -18,22 +18,8 @@ pub(crate) enum Turn {
     Stops(RecordWhy),
 }
 
-/// What the loop does after a run; `optional` says whether items of the format may be missing. After most it goes on,
-/// which is answered first.
-#[inline(always)]
+/// What the loop does after a run; `optional` says whether items of the format may be missing.
 pub(crate) fn next_turn(outcome: Outcome, optional: bool) -> Turn
-    ensures { result ≡ turn_by optional outcome }
-{
-    if let (Status::Done, None) = (outcome.status, outcome.met)
-        && outcome.used > 0
-    {
-        return Turn::Goes;
-    }
-    turn_after(outcome, optional)
-}
-
-#[inline(never)]
-fn turn_after(outcome: Outcome, optional: bool) -> Turn
     ensures { result ≡ turn_by optional outcome }
 {
     match (outcome.status, outcome.met) {

@@ -22,6 +22,10 @@ use std::alloc::Global;
 /// The most records that one loop writes.
 const MOST_RECORDS: u32 = 2147483647;
 
+/// The room that is made at once for the texts of a record where the format leaves their lengths open: that of some
+/// short ones.
+const TEXT_BYTES: u32 = 64;
+
 /// The number of the one format by which records are scanned.
 const ONLY_FORMAT: usize = 1;
 
@@ -149,7 +153,7 @@ pub fn run_records<M: Maker, S: Source, K: Sink, const N: usize>(
 {
     // What this has for each format: it is accepted.
     let _ = format.destinations();
-    let Ok(mut store) = HeapStore::new(alloc, format.width_sum().unwrap_or(0)) else {
+    let Ok(mut store) = HeapStore::new(alloc, format.width_sum().unwrap_or(TEXT_BYTES)) else {
         return ended_by(0, ToolFault::Memory);
     };
     for records in 0..MOST_RECORDS {

@@ -1,28 +1,20 @@
-use Rattle.std.proofs.Common.{ℕ, List, arith, sym, true≢false}
+use Rattle.std.proofs.Common.{[], ◌∷◌, arith, length-append}
 use Rattle.std.specs.List.{flat_map}
 use Rattle.sf_forms.specs.Quotes.{escaped}
-use Rattle.sf_forms.proofs.Filling.{around_length, ends_at, quotes_around}
+use Rattle.sf_forms.proofs.Filling.{written_after}
 use Rattle.sf_forms.proofs.quote.write_quoted.Goals as goal
 
 pub returns-clause-written : goal.returns-clause-written
 returns-clause-written c =
-    quotes_around c.args.buf.now c.write_byte-start.new.buf c.write_each.new.buf c.write_byte.new.buf
-    (flat_map escaped c.args.bytes.now) c.args.at c.write_byte-start.result c.in_ok-end.end
-    c.write_byte.result c.write_byte-start.ensures.written c.in_ok-end.ensures.written c.write_byte.ensures.written
+    written_after c.write_rest.result c.args.buf.now c.write_byte-start.new.buf c.write_rest.new.buf (34 ∷ []) _ c.args.at
+    c.write_byte-start.result c.write_byte-start.ensures.written c.write_rest.ensures.written
 
-pub returns-in_err-end-clause-answers : goal.returns-in_err-end-clause-answers
-returns-in_err-end-clause-answers c room =
-    let text : List ℕ = flat_map escaped c.args.bytes.now in
-    absurd (true≢false (sym (c.in_err-end.ensures.answers (omega (arith, room, around_length text, c.write_byte-start.ensures.end)))))
-
-pub returns-then-end-buf-clause-answers : goal.returns-then-end-buf-clause-answers
-returns-then-end-buf-clause-answers c room =
-    let text : List ℕ = flat_map escaped c.args.bytes.now in
-    absurd (omega (
+pub returns-clause-answers : goal.returns-clause-answers
+returns-clause-answers c room =
+    c.write_rest.ensures.answers (omega (
       arith,
       room,
-      around_length text,
+      length-append (flat_map escaped c.args.bytes.now) (34 ∷ []),
       c.write_byte-start.ensures.end,
-      ends_at c.write_byte-start.new.buf c.write_each.new.buf text c.write_byte-start.result c.in_ok-end.end (omega arith)
-          c.in_ok-end.ensures.within c.in_ok-end.ensures.written,
+      c.write_byte-start.auto.buf,
     ))

@@ -1,11 +1,16 @@
-use Rattle.std.proofs.Common.{◌≡◌, ◌≤◌, ◌+◌, ◌++◌, ◌∷◌, ◌∙◌, ℕ, List, [], cond, length, take, sym, ap, subst, arith}
-use Rattle.std.proofs.lemmas.List.{length-take-le}
+use Rattle.std.proofs.Common.{◌≡◌, ◌≤◌, ◌++◌, ◌∙◌, ℕ, List, cond, drop, length, take, sym, ap, subst, arith}
+use Rattle.std.proofs.lemmas.List.{length-take-le, take-append-drop, take-take}
 use Rattle.sf_print.specs.Sinks.{counted_on}
 use Rattle.sf_lines.specs.Coming.{Came}
 use Rattle.sf_lines.specs.Turns.{work_of}
 use Rattle.sf_lines.proofs.Coming.{turned}
-use Rattle.sf_line.proofs.Held.{takes, with_line_end}
+use Rattle.sf_line.proofs.Held.{takes}
 use Rattle.sf_lines.proofs.turn.take_held.Goals as goal
+
+-- what is looked at begins with the line
+begun : (held : List ℕ) (len seen : ℕ) → len ≤ seen → take seen held ≡ take len held ++ drop len (take seen held)
+begun held len seen most =
+    sym (take-append-drop len (take seen held)) ∙ ap (λ (y : List ℕ). y ++ drop len (take seen held)) (take-take len seen held most)
 
 pub judge-judged-requires : goal.judge-judged-requires
 judge-judged-requires g c =
@@ -15,9 +20,10 @@ judge-judged-requires g c =
     let line : c.split_at-2.result.0.now ≡ take len held = c.split_at-2.ensures.front ∙ ap (take len) c.held-held.ensures.held in
     record {
       front = (
-        10 ∷ [],
-        c.split_at.ensures.front ∙ ap (take (len + 1)) c.held-held.ensures.held
-            ∙ with_line_end held len within c.requires.held.ended ∙ ap (λ (y : List ℕ). y ++ 10 ∷ []) (sym line),
+        drop len (take c.min.result held),
+        c.split_at.ensures.front ∙ ap (take c.min.result) c.held-held.ensures.held
+            ∙ begun held len c.min.result (let low = c.requires.held.within in let least = c.min.ensures in omega (arith, low, least))
+            ∙ ap (λ (y : List ℕ). y ++ drop len (take c.min.result held)) (sym line),
       );
       ignored = c.requires.ignored;
       proper = c.requires.proper;

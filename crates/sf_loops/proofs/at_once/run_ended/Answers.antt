@@ -1,7 +1,6 @@
-use Rattle.std.proofs.Common.{ℕ, ◌≡◌, ◌+◌, ◌∷◌, ◌++◌, ◌∙◌, List, [], length, refl, subst, append-nil, ap, arith}
+use Rattle.std.proofs.Common.{◌≡◌, ◌+◌, ◌∷◌, [], length, refl, subst, arith}
 use Rattle.sf_format.specs.Proper.{AreProper}
 use Rattle.sf_run.specs.outcome.Ending.TheVariants.{End}
-use Rattle.sf_run.specs.Limits.{RunWithin}
 use Rattle.sf_run.specs.Runs.{RunReport}
 use Rattle.sf_run.specs.Views.{report_by}
 use Rattle.sf_read.specs.Unbounded.{EndsUnbounded}

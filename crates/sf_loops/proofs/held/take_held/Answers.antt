@@ -3,7 +3,7 @@ use Rattle.sf_run.specs.Limits.{RunWithin}
 use Rattle.sf_run.specs.Runs.{RunReport}
 use Rattle.sf_run.specs.Views.{report_by}
 use Rattle.sf_read.specs.Counts.{lines_after}
-use Rattle.sf_loops.proofs.Taking.{held_run}
+use Rattle.sf_loops.proofs.Taking.{goes_at_once, held_run}
 use Rattle.sf_loops.proofs.held.take_held.Goals as goal
 
 pub returns-clause-run : goal.returns-clause-run
@@ -18,3 +18,8 @@ returns-clause-run g c =
     c.consume.ensures.held
     c.consume.ensures.source c.consume.ensures.at_end c.consume.ensures.told
     (c.count_front.ensures ∙ ap (λ y. lines_after c.args.lines.now (take report.used y)) c.held-2.ensures.held)
+
+pub returns-clause-goes : goal.returns-clause-goes
+returns-clause-goes g c = λ optional.
+    goes_at_once optional c.in_ok-outcome.outcome c.in_ok-outcome.ensures.done c.in_ok-outcome.ensures.met
+    (omega (arith, c.if-outcome-eq0.false))

@@ -1,4 +1,4 @@
-use Rattle.std.proofs.Common.{ℕ, eqb, w8, arith}
+use Rattle.std.proofs.Common.{eqb, w8, arith}
 use Rattle.std.proofs.lemmas.Simd.{bitmask_splat, length-chunk}
 use lib.Lanes.{chunk}
 use Rattle.sf_loops.proofs.NewlineMasks.{newlines_in_front, one_moved}

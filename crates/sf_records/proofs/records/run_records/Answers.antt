@@ -1,4 +1,4 @@
-use Rattle.std.proofs.Common.{◌≡◌, ◌≤◌, ℕ, Option, None, false, cond, ap, sym, ◌∙◌, refl, arith, true≢false}
+use Rattle.std.proofs.Common.{◌≡◌, ◌≤◌, ℕ, Option, Some, None, false, cond, ap, sym, ◌∙◌, refl, arith, true≢false}
 use Rattle.sf_run.specs.outcome.Ending.{Ending}
 use Rattle.sf_run.specs.outcome.Status.{Status}
 use Rattle.sf_run.specs.outcome.Status.TheVariants.{Done}
@@ -21,8 +21,13 @@ done_fine : (status : Status) → status ≡ Done → is_memory_status status �
 done_fine status done = ap is_memory_status done
 
 -- the room of the store, when it is made and later
-fresh_roomy : (store : Kept) (made sum : ℕ) → store ≡ nothing_kept made → made ≡ sum → sum ≤ capacity_of store
-fresh_roomy store made sum fresh same = rw fresh (omega (arith, same))
+fresh_roomy : (store : Kept) (made sum : ℕ) → store ≡ nothing_kept made → sum ≤ made → sum ≤ capacity_of store
+fresh_roomy store made sum fresh enough = rw fresh (omega (arith, enough))
+
+-- where there is no sum of widths, none is asked for
+least_room : (given sum : Option ℕ) (made other : ℕ) → made ≡ unwrap_or given other → given ≡ sum → unwrap_or sum 0 ≤ made
+least_room given (Some n) made other is same = let e = is ∙ ap (λ (g : Option ℕ). unwrap_or g other) same in omega (arith, e)
+least_room given None made other is same = omega arith
 
 enough_still : {k m n : ℕ} → k ≤ m → m ≤ n → k ≤ n
 enough_still low high = omega (arith, low, high)
@@ -32,7 +37,7 @@ loop-records-init g c = record {
   going = λ t e. begins (g.M.Maker.work c.args.maker.now 1 c.args.format.now) g.S.Source.to_come c.args.format.now c.args.limit t
       c.args.from.now (g.K.Sink.contents c.args.to.now) (g.S.Source.failures c.args.from.now.source) e;
   same = refl;
-  roomy = fresh_roomy _ _ _ c.in-Ok.ensures (c.unwrap_or.ensures ∙ ap (λ sum. unwrap_or sum 0) c.width_sum.ensures);
+  roomy = fresh_roomy _ _ _ c.in-Ok.ensures (least_room _ _ _ _ c.unwrap_or.ensures c.width_sum.ensures);
   unread = λ at_end. refl;
   ended = λ at_end. at_end;
   sound = refl;

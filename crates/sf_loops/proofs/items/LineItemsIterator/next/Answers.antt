@@ -1,9 +1,9 @@
-use Rattle.std.proofs.Common.{refl, arith, ap, inr, ◌≡◌, ◌∙◌, ◌-◌, Ok, Err, Some, None}
+use Rattle.std.proofs.Common.{refl, arith, ap, inr, ◌≡◌, ◌∙◌, ◌-◌}
 use Rattle.std.specs.Prelude.{if◌then◌else◌}
 use Rattle.sf_read.specs.Rows.{slots_by}
 use Rattle.sf_loops.specs.Items.{LinesLeft}
 use Rattle.sf_loops.specs.LineTexts.{goes_on}
-use Rattle.sf_loops.proofs.Given.{line_answers_by, line_row_by}
+use Rattle.sf_loops.proofs.Given.{line_answers_by, line_row_by, stays_by}
 use Rattle.sf_loops.proofs.items.LineItemsIterator.next.Goals as goal
 
 pub returns-in-Ok-Some-clause-steps : goal.returns-in-Ok-Some-clause-steps
@@ -14,6 +14,8 @@ returns-in-Ok-Some-clause-steps g c =
           (ap (λ (r : LinesLeft g.row.S.Denot). r.now) c.self.view_is) c.in-Ok-Some.field-0-is
           (record { over = c.in-Ok-Some.ensures.over; next = c.in-Ok-Some.ensures.next }),
       omega (arith, left, c.if-self-eq0.false),
+      stays_by _ _ _ (ap (λ (r : LinesLeft g.row.S.Denot). r.now.ahead) c.self.view_is) c.in-Ok-Some.ensures.no_read
+          c.in-Ok-Some.ensures.stays,
     )
 
 pub returns-in-Ok-None-clause-steps : goal.returns-in-Ok-None-clause-steps
@@ -23,6 +25,7 @@ returns-in-Ok-None-clause-steps g c = inr (
       (ap (λ (r : LinesLeft g.row.S.Denot). r.now) c.self.view_is) c.in-Ok-None.field-0-is
       (record { over = c.in-Ok-None.ensures.over; next = c.in-Ok-None.ensures.next }),
   refl,
+  stays_by _ _ _ (ap (λ (r : LinesLeft g.row.S.Denot). r.now.ahead) c.self.view_is) c.in-Ok-None.ensures.no_read c.in-Ok-None.ensures.stays,
 )
 
 pub returns-in-Err-clause-steps : goal.returns-in-Err-clause-steps
@@ -33,4 +36,5 @@ returns-in-Err-clause-steps g c = (
       (record { over = c.in-Err.ensures.over; next = c.in-Err.ensures.next }),
   c.left_after-left.ensures.left
       ∙ ap (λ (r : LinesLeft g.row.S.Denot). if goes_on c.in-Err.fault.why then r.left - 1 else 0) c.self.view_is,
+  stays_by _ _ _ (ap (λ (r : LinesLeft g.row.S.Denot). r.now.ahead) c.self.view_is) c.in-Err.ensures.no_read c.in-Err.ensures.stays,
 )

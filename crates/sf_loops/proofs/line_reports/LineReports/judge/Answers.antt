@@ -40,5 +40,7 @@ returns-in_default g c =
           (ap (λ (l : LineLoop g.row.S.Denot). l.read) c.miss.ensures.rest ∙ ap counted_on read)
           (ap (λ (l : LineLoop g.row.S.Denot). l.over) c.miss.ensures.rest ∙ ap (λ (l : LineLoop g.row.S.Denot). l.over) rest ∙ open')
           told));
+      kept = λ e. absurd cc;
+      roomy = λ e. absurd cc;
       format = format;
     }

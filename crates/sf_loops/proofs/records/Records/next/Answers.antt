@@ -3,6 +3,7 @@ use Rattle.sf_run.specs.Runs.{RunReport}
 use Rattle.sf_read.specs.Rows.{AreGivenAs, AreSlotsOf, slots_by}
 use Rattle.sf_read.specs.RowScans.{HasShape}
 use Rattle.sf_loops.specs.Loops.{Loop, RowAnswers}
+use Rattle.sf_loops.proofs.Given.{end_kept}
 use Rattle.sf_loops.proofs.Rows.{as_row, done_of, given_row, over_false, over_fault, over_never}
 use Rattle.sf_loops.proofs.records.Records.next.Goals as goal
 
@@ -98,3 +99,43 @@ pub returns-in-Err-NoMemory-clause-over : goal.returns-in-Err-NoMemory-clause-ov
 returns-in-Err-NoMemory-clause-over g c = λ end h.
     absurd (over_never c.self.inside.reports c.args.self.now c.advance.new.self c.advance.result c.self.view_is c.advance.ensures.over
     (c.in-Ok-true.is ∙ ap Ok c.in-Ok-true.field-0-test) end h)
+
+pub returns-in-Ok-false-clause-no_read : goal.returns-in-Ok-false-clause-no_read
+returns-in-Ok-false-clause-no_read g c =
+    (end_kept _ _ c.advance.new.self.ahead c.advance.new.self.ahead (ap (λ (l : Loop g.row.S.Denot). l.ahead) c.self.view_is)
+    refl c.advance.ensures.no_read c.advance.ensures.stays).no_read
+
+pub returns-in-Ok-false-clause-stays : goal.returns-in-Ok-false-clause-stays
+returns-in-Ok-false-clause-stays g c =
+    (end_kept _ _ c.advance.new.self.ahead c.advance.new.self.ahead (ap (λ (l : Loop g.row.S.Denot). l.ahead) c.self.view_is)
+    refl c.advance.ensures.no_read c.advance.ensures.stays).stays
+
+pub returns-in-Err-clause-no_read : goal.returns-in-Err-clause-no_read
+returns-in-Err-clause-no_read g c =
+    (end_kept _ _ c.advance.new.self.ahead c.advance.new.self.ahead (ap (λ (l : Loop g.row.S.Denot). l.ahead) c.self.view_is)
+    refl c.advance.ensures.no_read c.advance.ensures.stays).no_read
+
+pub returns-in-Err-clause-stays : goal.returns-in-Err-clause-stays
+returns-in-Err-clause-stays g c =
+    (end_kept _ _ c.advance.new.self.ahead c.advance.new.self.ahead (ap (λ (l : Loop g.row.S.Denot). l.ahead) c.self.view_is)
+    refl c.advance.ensures.no_read c.advance.ensures.stays).stays
+
+pub returns-in-Ok-clause-no_read : goal.returns-in-Ok-clause-no_read
+returns-in-Ok-clause-no_read g c =
+    (end_kept _ _ c.advance.new.self.ahead c.advance.new.self.ahead (ap (λ (l : Loop g.row.S.Denot). l.ahead) c.self.view_is)
+    refl c.advance.ensures.no_read c.advance.ensures.stays).no_read
+
+pub returns-in-Ok-clause-stays : goal.returns-in-Ok-clause-stays
+returns-in-Ok-clause-stays g c =
+    (end_kept _ _ c.advance.new.self.ahead c.advance.new.self.ahead (ap (λ (l : Loop g.row.S.Denot). l.ahead) c.self.view_is)
+    refl c.advance.ensures.no_read c.advance.ensures.stays).stays
+
+pub returns-in-Err-NoMemory-clause-no_read : goal.returns-in-Err-NoMemory-clause-no_read
+returns-in-Err-NoMemory-clause-no_read g c =
+    (end_kept _ _ _ _ (ap (λ (l : Loop g.row.S.Denot). l.ahead) c.self.view_is)
+    (ap (λ (l : Loop g.row.S.Denot). l.ahead) c.refuse_row.ensures.over) c.advance.ensures.no_read c.advance.ensures.stays).no_read
+
+pub returns-in-Err-NoMemory-clause-stays : goal.returns-in-Err-NoMemory-clause-stays
+returns-in-Err-NoMemory-clause-stays g c =
+    (end_kept _ _ _ _ (ap (λ (l : Loop g.row.S.Denot). l.ahead) c.self.view_is)
+    (ap (λ (l : Loop g.row.S.Denot). l.ahead) c.refuse_row.ensures.over) c.advance.ensures.no_read c.advance.ensures.stays).stays

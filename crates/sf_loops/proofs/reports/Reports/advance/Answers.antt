@@ -1,43 +1,51 @@
-use Rattle.std.proofs.Common.{◌≡◌, Ok, Err, true, false, sym, ap, ◌∙◌, rules}
-use Rattle.sf_format.specs.Proper.{has_optional}
-use Rattle.sf_loops.specs.declared.turn.Turn.TheVariants.{Goes, Cut, Ends, Stops}
+use Rattle.std.proofs.Common.{◌∙◌, ap}
 use Rattle.sf_loops.specs.Loops.{Loop}
-use Rattle.sf_loops.specs.Turns.{turn_by}
-use Rattle.sf_loops.proofs.Rows.{advances_by}
+use Rattle.sf_loops.proofs.Rows.{next_from}
 use Rattle.sf_loops.proofs.reports.Reports.advance.Goals as goal
 
-pub returns-in-Goes-clause-next : goal.returns-in-Goes-clause-next
-returns-in-Goes-clause-next g c = λ open'. record {
-  run = search rules;
-  advances = advances_by c.args.self.now _ (Goes) _ (Ok true)
-      (ap (λ (l : Loop g.row.S.Denot). turn_by (has_optional l.format) c.self-2.inside.outcome) (sym c.self.view_is)
-      ∙ ap (λ o. turn_by o c.self-2.inside.outcome) (sym c.has_optional-optional.ensures) ∙ sym c.next_turn.ensures ∙ c.in-Goes.is)
-      (search rules);
-}
+pub returns-then-advance_at_once-clause-over : goal.returns-then-advance_at_once-clause-over
+returns-then-advance_at_once-clause-over g c = λ end h.
+    (let open' = c.advance_at_once.ensures.open c.if-advance_at_once.true in absurd cc)
 
-pub returns-in-Cut-clause-next : goal.returns-in-Cut-clause-next
-returns-in-Cut-clause-next g c = λ open'. record {
-  run = search rules;
-  advances = advances_by c.args.self.now _ (Cut) _ (Ok true)
-      (ap (λ (l : Loop g.row.S.Denot). turn_by (has_optional l.format) c.self-2.inside.outcome) (sym c.self.view_is)
-      ∙ ap (λ o. turn_by o c.self-2.inside.outcome) (sym c.has_optional-optional.ensures) ∙ sym c.next_turn.ensures ∙ c.in-Cut.is)
-      (search rules);
-}
+pub returns-then-advance_at_once-clause-next : goal.returns-then-advance_at_once-clause-next
+returns-then-advance_at_once-clause-next g c = λ open'. c.advance_at_once.ensures.next c.if-advance_at_once.true
 
-pub returns-in-Ends-clause-next : goal.returns-in-Ends-clause-next
-returns-in-Ends-clause-next g c = λ open'. record {
-  run = search rules;
-  advances = advances_by c.args.self.now _ (Ends) _ (Ok false)
-      (ap (λ (l : Loop g.row.S.Denot). turn_by (has_optional l.format) c.self-2.inside.outcome) (sym c.self.view_is)
-      ∙ ap (λ o. turn_by o c.self-2.inside.outcome) (sym c.has_optional-optional.ensures) ∙ sym c.next_turn.ensures ∙ c.in-Ends.is)
-      (search rules);
-}
+pub returns-then-advance_at_once-clause-no_read : goal.returns-then-advance_at_once-clause-no_read
+returns-then-advance_at_once-clause-no_read g c = λ ended. c.advance_at_once.ensures.no_read
 
-pub returns-in-Stops-clause-next : goal.returns-in-Stops-clause-next
-returns-in-Stops-clause-next g c = λ open'. record {
-  run = search rules;
-  advances = advances_by c.args.self.now _ (Stops c.in-Stops.why) _ (Err _)
-      (ap (λ (l : Loop g.row.S.Denot). turn_by (has_optional l.format) c.self-2.inside.outcome) (sym c.self.view_is)
-      ∙ ap (λ o. turn_by o c.self-2.inside.outcome) (sym c.has_optional-optional.ensures) ∙ sym c.next_turn.ensures ∙ c.in-Stops.is)
-      (search rules);
-}
+pub returns-then-advance_at_once-clause-stays : goal.returns-then-advance_at_once-clause-stays
+returns-then-advance_at_once-clause-stays g c = λ ended. c.advance_at_once.ensures.stays ∙ ended
+
+pub returns-then-advance_at_once-clause-format : goal.returns-then-advance_at_once-clause-format
+returns-then-advance_at_once-clause-format g c = c.advance_at_once.ensures.format c.if-advance_at_once.true
+
+pub returns-then-advance_at_once-clause-limit : goal.returns-then-advance_at_once-clause-limit
+returns-then-advance_at_once-clause-limit g c = c.advance_at_once.ensures.limit c.if-advance_at_once.true
+
+pub returns-clause-over : goal.returns-clause-over
+returns-clause-over g c = λ end h.
+    let same = c.advance_at_once.ensures.ended end h in
+    let all = c.advance_on.ensures.over end (ap (λ (l : Loop g.row.S.Denot). l.over) same ∙ h) in
+    (all.0 ∙ same, all.1)
+
+pub returns-clause-next : goal.returns-clause-next
+returns-clause-next g c = λ open'.
+    let rest = c.advance_at_once.ensures.rest c.if-advance_at_once.false in
+    next_from g.S.Source.to_come g.S.Source.reads g.S.Source.failures g.row.N c.args.self.now c.advance_at_once.new.self
+    c.advance_on.new.self
+    _ c.advance_on.result rest (c.advance_on.ensures.next (ap (λ (l : Loop g.row.S.Denot). l.over) rest ∙ open'))
+
+pub returns-clause-no_read : goal.returns-clause-no_read
+returns-clause-no_read g c = λ ended.
+    c.advance_on.ensures.no_read (c.advance_at_once.ensures.stays ∙ ended) ∙ c.advance_at_once.ensures.no_read
+
+pub returns-clause-stays : goal.returns-clause-stays
+returns-clause-stays g c = λ ended. c.advance_on.ensures.stays (c.advance_at_once.ensures.stays ∙ ended)
+
+pub returns-clause-format : goal.returns-clause-format
+returns-clause-format g c =
+    c.advance_on.ensures.format ∙ ap (λ (l : Loop g.row.S.Denot). l.format) (c.advance_at_once.ensures.rest c.if-advance_at_once.false)
+
+pub returns-clause-limit : goal.returns-clause-limit
+returns-clause-limit g c =
+    c.advance_on.ensures.limit ∙ ap (λ (l : Loop g.row.S.Denot). l.limit) (c.advance_at_once.ensures.rest c.if-advance_at_once.false)
