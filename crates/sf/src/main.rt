@@ -40,13 +40,13 @@ fn main(rt: HostRuntime) -> ExitCode {
         output: rt.stdout().is_terminal(),
         errors: rt.stderr().is_terminal(),
     };
-    let from = Input::standard(rt.stdin());
+    let mut from = Input::standard(rt.stdin());
     let mut files = Disk::new(&rt);
     let ended = run_program(
         alloc,
         &words,
         terminals,
-        from,
+        &mut from,
         &mut files,
         rt.stdout(),
         rt.stderr(),

@@ -1,11 +1,13 @@
 -- What a job does, and what is done where there is none, as told of the words.
-use Rattle.std.proofs.Common.{◌≡◌, ◌∙◌, ◌≤◌, ◌<◌, ap, arith, get_or, length, ℕ, List, [], ◌∷◌, Bool, Option, None, Some, Err, drop, inl, inr, map, refl, sym, subst, option_map, string_bytes}
+use Rattle.std.proofs.Common.{◌≡◌, ◌∙◌, ◌≤◌, ◌<◌, ap, arith, get_or, length, ℕ, List, [], ◌∷◌, Bool, Option, None, Some, Err, drop, inl}
+use Rattle.std.proofs.Common.{inr, map, refl, sym, subst, option_map, string_bytes}
 use Rattle.std.specs.Prelude.{IfErr}
 use Rattle.sf_format.specs.declared.directive.Profile.{Profile}
 use Rattle.sf_format.specs.declared.unit.Unit.{Unit as PrintUnit}
 use Rattle.sf_format.specs.Grammar.{Spells, SpellsPrint}
 use Rattle.sf_messages.specs.declared.fault.CommandFault.{CommandFault}
-use Rattle.sf_messages.specs.declared.fault.CommandFault.TheVariants.{BadEscape, Format, PrintFormat, Values, Record, Lines, Write, Memory, Pair, Unprintable, NameCount, NameEmpty, NameTwice}
+use Rattle.sf_messages.specs.declared.fault.CommandFault.TheVariants.{BadEscape, Format, PrintFormat, Values, Record, Lines, Write, Memory}
+use Rattle.sf_messages.specs.declared.fault.CommandFault.TheVariants.{Pair, Unprintable, NameCount, NameEmpty, NameTwice}
 use Rattle.sf_pair.specs.declared.fault.PairFault.{PairFault}
 use Rattle.sf_read.specs.Ahead.{Ahead, input_of}
 use Rattle.sf_records.specs.Forms.{writing}
@@ -17,15 +19,18 @@ use Rattle.sf_words.specs.declared.order.Verb.TheVariants as verb
 use Rattle.sf_arguments.specs.declared.word_reading.WordReading.{WordReading}
 use Rattle.sf_jobs.specs.Answers.{Answer}
 use Rattle.sf_jobs.specs.Checks.{IsNoPrintWord, IsNoScanWord, IsScanWord, TellsLine, verdict_status, verdict_text}
-use Rattle.sf_jobs.specs.Commands.{CarriesOutBy, Copies, Counts, IsUnwrittenBy, PrintsBy, PrintsWord, ScansAs, ScansBy, ScansByNames, ScansForm, ScansPrint, ScansWord, ShowsBy, ShowsWord, Unread}
+use Rattle.sf_jobs.specs.Commands.{CarriesOutBy, Copies, Counts, IsUnwrittenBy, PrintsBy, PrintsWord, ScansAs, ScansBy, ScansByNames}
+use Rattle.sf_jobs.specs.Commands.{ScansForm, ScansPrint, ScansWord, ShowsBy, ShowsWord, Unread}
 use Rattle.sf_jobs.specs.Heads.{is_headed, names_text}
 use Rattle.sf_jobs.specs.Jobs.{AreNoTwo, IsJobBy, IsNoJobBy, IsNoPrint, IsNoScan, IsScan}
 use Rattle.sf_jobs.specs.Writings.{IsWriting}
 use Rattle.sf_jobs.specs.declared.formats.ScanText.{ScanText}
 use Rattle.sf_jobs.specs.declared.job.Job.TheVariants as job
 use Rattle.sf_jobs.specs.declared.writing.Writing.TheVariants as written
-use Rattle.sf_jobs.proofs.Answering.{counts_is, print_counts_is, refused_prints, refused_scans, refused_shows, unprinted_is, unread_is, unwritten_is}
-use Rattle.sf_jobs.proofs.Checking.{no_print_counts, no_print_format, no_print_text, no_print_unwritten, no_scan_counts, no_scan_format, no_scan_text, no_scan_unwritten}
+use Rattle.sf_jobs.proofs.Answering.{counts_is, print_counts_is, refused_prints, refused_scans, refused_shows, unprinted_is, unread_is}
+use Rattle.sf_jobs.proofs.Answering.{unwritten_is}
+use Rattle.sf_jobs.proofs.Checking.{no_print_counts, no_print_format, no_print_text, no_print_unwritten, no_scan_counts, no_scan_format}
+use Rattle.sf_jobs.proofs.Checking.{no_scan_text, no_scan_unwritten}
 
 -- ---- words that are formats, and words that are none
 

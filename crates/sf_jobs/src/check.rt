@@ -1,7 +1,8 @@
 //! The check of a print format and a scan format as a pair.
 ghost use Rattle.std.specs.Prelude.{◌≡◌, ◌++◌, ◌≤◌, ◌∷◌, [], ℕ, List, IfOk, IfErr, length, map, string_bytes};
 ghost use Rattle.sf_answer.specs.Escaped.{escaped};
-ghost use Rattle.sf_jobs.specs.Checks.{AnswersUnits, AnswersWord, Checks, ChecksWords, IsNoPrintWord, IsNoScanWord, IsPrintWord, IsScanWord, IsVerdict, TellsLine};
+ghost use Rattle.sf_jobs.specs.Checks.{AnswersUnits, AnswersWord, Checks, ChecksWords, IsNoPrintWord, IsNoScanWord};
+ghost use Rattle.sf_jobs.specs.Checks.{IsPrintWord, IsScanWord, IsVerdict, TellsLine};
 ghost use Rattle.sf_jobs.specs.Checks.{verdict_status, verdict_text};
 ghost use Rattle.sf_jobs.specs.Commands.{ChecksTexts, Counts, IsUnwrittenBy};
 

@@ -3,7 +3,8 @@ ghost use Rattle.std.specs.Prelude.{◌≡◌, ◌∷◌, [], true, if◌then◌
 ghost use Rattle.sf_makers.specs.Names.{AreNames};
 ghost use Rattle.sf_makers.specs.Works.{Writes, sink_failed};
 ghost use Rattle.sf_print.specs.Sinks.{counted_on};
-ghost use Rattle.sf_jobs.specs.Heads.{IsUnnamed, due_header, header_fault, heading_by, is_headed, names_fault, names_text, split};
+ghost use Rattle.sf_jobs.specs.Heads.{IsUnnamed, due_header, header_fault, heading_by, is_headed, names_fault};
+ghost use Rattle.sf_jobs.specs.Heads.{names_text, split};
 
 use sf_format::ScanFormat;
 use sf_makers::{FormMaker, Names, NamesFault, Unwritten};

@@ -1,5 +1,6 @@
 //! What an order of records asks for, with its formats read.
-ghost use Rattle.std.specs.Prelude.{◌≡◌, ◌≤◌, ◌∷◌, drop, [], ℕ, List, Option, Some, None, IfOk, IfErr, length, map, option_map, string_bytes};
+ghost use Rattle.std.specs.Prelude.{◌≡◌, ◌≤◌, ◌∷◌, drop, [], ℕ, List, Option, Some, None, IfOk, IfErr, length, map};
+ghost use Rattle.std.specs.Prelude.{option_map, string_bytes};
 ghost use Rattle.sf_words.specs.Orders.{HasTexts};
 ghost use Rattle.sf_words.specs.declared.order.Verb.TheVariants as verb;
 ghost use Rattle.sf_records.specs.form.OutputForm.{OutputForm};

@@ -1,5 +1,6 @@
 -- What a checked pair reads, by its laws.
-use Rattle.std.proofs.Common.{false, ◌≡◌, ◌<◌, ◌≤◌, inl, ℕ, List, [], ◌++◌, length, Some, sym, ap, subst, ◌∙◌, arith, append-nil, length-append}
+use Rattle.std.proofs.Common.{false, ◌≡◌, ◌<◌, ◌≤◌, inl, ℕ, List, [], ◌++◌, length, Some, sym, ap, subst, ◌∙◌, arith, append-nil}
+use Rattle.std.proofs.Common.{length-append}
 use Rattle.sf_base.specs.Data.{Datum}
 use Rattle.sf_format.specs.declared.directive.Directive.{Directive}
 use Rattle.sf_format.specs.declared.unit.Unit.{Unit as PrintUnit}
@@ -16,7 +17,8 @@ use Rattle.sf_report.specs.Runs.{RunReport}
 use Rattle.sf_pair.specs.Fits.{Fit}
 use Rattle.sf_pair.specs.Formats.{IsChecked}
 use Rattle.sf_pair.specs.Groups.{IsAligned}
-use Rattle.sf_pair.specs.Laws.{AlignedEndsOnNothing, AlignedIsBounded, AlignedMissesNone, AlignedSlotsAgree, PrintsSome, ReadWithin, RoundTrip, read_back}
+use Rattle.sf_pair.specs.Laws.{AlignedEndsOnNothing, AlignedIsBounded, AlignedMissesNone, AlignedSlotsAgree, PrintsSome, ReadWithin}
+use Rattle.sf_pair.specs.Laws.{RoundTrip, read_back}
 use Rattle.sf_pair.specs.Walk.{AlignedIsAccepted}
 
 module _ (us : List PrintUnit) (ds : List Directive) (checked : IsChecked us ds) (accepted : AlignedIsAccepted) where

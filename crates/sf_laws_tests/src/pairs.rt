@@ -1,5 +1,6 @@
 //! Laws of pairs.
-ghost use Rattle.std.specs.Prelude.{◌≡◌, ◌<◌, ◌≤◌, ◌++◌, ℕ, List, [], length, map, true, Some, None, IfOk, IfErr, IfSome};
+ghost use Rattle.std.specs.Prelude.{◌≡◌, ◌<◌, ◌≤◌, ◌++◌, ℕ, List, [], length, map, true, Some, None, IfOk, IfErr};
+ghost use Rattle.std.specs.Prelude.{IfSome};
 ghost use Rattle.sf_base.specs.Data.{Datum, datum_of};
 ghost use Rattle.sf_base.specs.Kept.{texts_in};
 ghost use Rattle.sf_format.specs.declared.directive.Directive.{Directive};

@@ -1,5 +1,6 @@
 -- Texts one after the other, and the line of two or four numbers.
-use Rattle.std.proofs.Common.{◌≡◌, ◌∙◌, ℕ, zero, suc, ◌+◌, ◌<◌, ◌≤◌, List, [], ◌∷◌, ◌++◌, length, take, get_or, length-append, append_assoc, append-nil, arith, refl}
+use Rattle.std.proofs.Common.{◌≡◌, ◌∙◌, ℕ, zero, suc, ◌+◌, ◌<◌, ◌≤◌, List, [], ◌∷◌, ◌++◌, length, take, get_or, length-append, append_assoc}
+use Rattle.std.proofs.Common.{append-nil, arith, refl}
 use Rattle.std.specs.Borrow.{Bor}
 use Rattle.sf_messages.specs.Joined.{joined}
 

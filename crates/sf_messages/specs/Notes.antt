@@ -1,5 +1,6 @@
 -- What is said after the line of a fault, where more is asked for: lines, each after two blanks.
-use Rattle.std.specs.Prelude.{ℕ, ◌+◌, ◌-◌, Bool, true, false, nat_eq, nat_lt, if◌then◌else◌, List, [], ◌∷◌, ◌++◌, drop, length, map, min, take, Option, Some, None, slice_get, unwrap_or, codes}
+use Rattle.std.specs.Prelude.{ℕ, ◌+◌, ◌-◌, Bool, true, false, nat_eq, nat_lt, if◌then◌else◌, List, [], ◌∷◌, ◌++◌, drop, length, map, min}
+use Rattle.std.specs.Prelude.{take, Option, Some, None, slice_get, unwrap_or, codes}
 use Rattle.std.specs.Fmt.{decimal}
 use Rattle.sf_format.specs.declared.fault.FormatFault.{FormatFault}
 use Rattle.sf_format.specs.declared.directive.Directive.{Directive}
@@ -26,7 +27,9 @@ use Rattle.sf_messages.specs.Names.{name_text}
 use Rattle.sf_messages.specs.Newlines.{is_left_white, is_lone_newline, is_newline_taken, is_over_newline, is_white_first}
 use Rattle.sf_arguments.specs.declared.argument_fault.ArgumentFault.{ArgumentFault}
 use Rattle.sf_arguments.specs.declared.argument_fault.ArgumentFault.TheVariants as argument
-use Rattle.sf_messages.specs.Sentences.{escape_sentence, left_white_sentence, lone_newline_sentence, newline_taken_sentence, no_value_text, over_newline_sentence, pair_sentence, range_text, typed_escape, typed_text, values_text, white_first_sentence, why_sentence}
+use Rattle.sf_messages.specs.Sentences.{escape_sentence, left_white_sentence, lone_newline_sentence, newline_taken_sentence, no_value_text}
+use Rattle.sf_messages.specs.Sentences.{over_newline_sentence, pair_sentence, range_text, typed_escape, typed_text, values_text}
+use Rattle.sf_messages.specs.Sentences.{white_first_sentence, why_sentence}
 
 -- a line of its own
 abbrev pub note : List ℕ → List ℕ

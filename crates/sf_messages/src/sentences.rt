@@ -24,7 +24,8 @@ pub(crate) fn escape_sentence() -> &'static str
 pub(crate) fn left_white_sentence() -> &'static str
     ensures { result.now ≡ left_white_sentence }
 {
-    "the record begins with white space: a blank at the format's front passes over it, and %*1[\\n] at its end takes the newline after a record"
+    "the record begins with white space: a blank at the format's front passes over it, and %*1[\\n] at its end takes \
+     the newline after a record"
 }
 
 /// What is done about white space that the first record, or a line, begins with.
@@ -92,7 +93,8 @@ fn unknown_sentence(b: u8, rest: &[u8]) -> &'static str
         b'?' => "what may be missing is marked so in a scan format, by --profile 3",
         b'[' => "a set stands in a scan format alone; of two formats the print format comes first",
         b'-' | b'+' | b' ' | b'#' => {
-            "a flag stands first in a conversion, and in a print format alone; of two formats the print format comes first"
+            "a flag stands first in a conversion, and in a print format alone; of two formats the print format comes \
+             first"
         }
         _ => "no conversion of this profile is written so; %% stands for a percent sign",
     }
@@ -137,14 +139,16 @@ pub(crate) fn push_typed_escape(output: &mut Vec<u8>, rest: &[u8]) -> Result<(),
 pub(crate) fn lone_newline_sentence() -> &'static str
     ensures { result.now ≡ lone_newline_sentence }
 {
-    "the record is the newline after the last one: a blank at the format's front passes over it, and %*1[\\n] at its end takes it"
+    "the record is the newline after the last one: a blank at the format's front passes over it, and %*1[\\n] at its \
+     end takes it"
 }
 
 /// What is done about the newline that a record began with.
 pub(crate) fn newline_taken_sentence() -> &'static str
     ensures { result.now ≡ newline_taken_sentence }
 {
-    "the record begins with the newline after the last one: a blank at the format's front passes over it, and %*1[\\n] at its end takes it"
+    "the record begins with the newline after the last one: a blank at the format's front passes over it, and \
+     %*1[\\n] at its end takes it"
 }
 
 /// What is done about a newline within a record.
@@ -228,7 +232,8 @@ pub(crate) fn pair_sentence(why: PairWhy) -> &'static str
         PairWhy::RunsOn =>
             "what is written next could be read by this directive too: write a byte between them at which it stops",
         PairWhy::OpenEnd =>
-            "nothing is written after this, so what follows could be read as more of it: end the print format with \\n and the scan format with %*1[\\n]",
+            "nothing is written after this, so what follows could be read as more of it: end the print format with \
+             \\n and the scan format with %*1[\\n]",
         PairWhy::LeadingZero => "%i reads a leading zero as octal",
         PairWhy::NotWritten => "nothing is written for %n",
         PairWhy::MayBeMissing => "what may be missing is not written: leave out the ?",

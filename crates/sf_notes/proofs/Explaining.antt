@@ -1,5 +1,6 @@
 -- What is said of a job that has ended, and of a word that is refused.
-use Rattle.std.proofs.Common.{◌≡◌, ◌∙◌, ℕ, Bool, true, false, List, [], ◌∷◌, Option, None, Some, Result, Ok, Err, ap, inl, inr, refl, sym, subst, map, option_map, string_bytes}
+use Rattle.std.proofs.Common.{◌≡◌, ◌∙◌, ℕ, Bool, true, false, List, [], ◌∷◌, Option, None, Some, Result, Ok, Err, ap, inl, inr, refl, sym}
+use Rattle.std.proofs.Common.{subst, map, option_map, string_bytes}
 use Rattle.std.proofs.lemmas.Option.{same_Some}
 use Rattle.sf_format.specs.declared.directive.Profile.{Profile}
 use Rattle.sf_format.specs.declared.unit.Unit.{Unit as PrintUnit}
@@ -7,7 +8,8 @@ use Rattle.sf_format.specs.Grammar.{IsFormat}
 use Rattle.sf_format.specs.Language.{Scan}
 use Rattle.sf_format.specs.Pieces.{Piece, text_of}
 use Rattle.sf_messages.specs.declared.fault.CommandFault.{CommandFault}
-use Rattle.sf_messages.specs.declared.fault.CommandFault.TheVariants.{BadEscape, Format, PrintFormat, Values, Record, Lines, Write, Memory, Pair, Unprintable, NameCount, NameEmpty, NameTwice}
+use Rattle.sf_messages.specs.declared.fault.CommandFault.TheVariants.{BadEscape, Format, PrintFormat, Values, Record, Lines, Write, Memory}
+use Rattle.sf_messages.specs.declared.fault.CommandFault.TheVariants.{Pair, Unprintable, NameCount, NameEmpty, NameTwice}
 use Rattle.sf_messages.specs.declared.fault.FormatName.TheVariants as name
 use Rattle.sf_messages.specs.Notes.{escape_notes, failed_notes}
 use Rattle.sf_pair.specs.declared.fault.PairFault.{PairFault}
@@ -27,7 +29,8 @@ use Rattle.sf_jobs.specs.declared.formats.ScanText.{ScanText}
 use Rattle.sf_jobs.specs.declared.job.Job.{Job}
 use Rattle.sf_jobs.specs.declared.job.Job.TheVariants as job
 use Rattle.sf_jobs.proofs.Working.{no_print, no_scan}
-use Rattle.sf_notes.specs.Explains.{Explains, MaySay, OfBoth, OfWord, SaysClean, SaysFailed, SaysFormat, SaysMore, SaysMoreOfRefused, SaysPair, SaysRefused, told_at, verdict_notes, word_by}
+use Rattle.sf_notes.specs.Explains.{Explains, MaySay, OfBoth, OfWord, SaysClean, SaysFailed, SaysFormat, SaysMore, SaysMoreOfRefused}
+use Rattle.sf_notes.specs.Explains.{SaysPair, SaysRefused, told_at, verdict_notes, word_by}
 
 module _ (profile : Profile) where
   -- ---- records that are no match

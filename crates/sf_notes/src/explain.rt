@@ -1,5 +1,6 @@
 //! What is said after the line of a fault, where the words ask for more.
-ghost use Rattle.std.specs.Prelude.{◌≡◌, ◌++◌, ℕ, [], None, List, Option, IfErr, IfOk, map, option_map, slice_get, string_bytes};
+ghost use Rattle.std.specs.Prelude.{◌≡◌, ◌++◌, ℕ, [], None, List, Option, IfErr, IfOk, map, option_map, slice_get};
+ghost use Rattle.std.specs.Prelude.{string_bytes};
 ghost use Rattle.sf_format.specs.Language.{Scan};
 ghost use Rattle.sf_format.specs.Grammar.{IsFormat};
 ghost use Rattle.std.specs.Option.{ForSome};
@@ -13,8 +14,10 @@ ghost use Rattle.sf_records.specs.form.OutputForm.{OutputForm};
 ghost use Rattle.sf_words.specs.declared.order.Verb.{Verb};
 ghost use Rattle.sf_words.specs.declared.order.Verb.TheVariants.{Copy};
 ghost use Rattle.sf_jobs.specs.CopyFormats.{AreCopies, IsOwnUnpaired};
-ghost use Rattle.sf_notes.specs.Explains.{AreSpansOf, Explains, MaySay, OfBoth, OfWord, SaysClean, SaysFailed, SaysFormat, SaysMore, SaysMoreOfRefused, SaysPair, SaysRefused, IsMoreOfLine};
-ghost use Rattle.sf_notes.specs.Explains.{shown_at, told_at, told_of_line, value_number, value_word, verdict_notes, word_by};
+ghost use Rattle.sf_notes.specs.Explains.{AreSpansOf, Explains, MaySay, OfBoth, OfWord, SaysClean, SaysFailed};
+ghost use Rattle.sf_notes.specs.Explains.{SaysFormat, SaysMore, SaysMoreOfRefused, SaysPair, SaysRefused, IsMoreOfLine};
+ghost use Rattle.sf_notes.specs.Explains.{shown_at, told_at, told_of_line, value_number, value_word, verdict_notes};
+ghost use Rattle.sf_notes.specs.Explains.{word_by};
 
 use sf_arguments::{EscapeFault, unescape};
 use sf_format::{FormatFault, PrintFormat, Profile, ScanFormat, Spans, directive_text};

@@ -1,6 +1,7 @@
 //! Why a fault of a command came, what is said of that, and which file is named with it.
 ghost use Rattle.std.specs.Prelude.{◌≡◌, [], true, Some, IfOk, IfSome, option_map};
-ghost use Rattle.sf_reasons.specs.Faults.{IsWithReason, file_of, is_broken_pipe, is_of_input, is_read_fault, is_unheard};
+ghost use Rattle.sf_reasons.specs.Faults.{IsWithReason, file_of, is_broken_pipe, is_of_input, is_read_fault};
+ghost use Rattle.sf_reasons.specs.Faults.{is_unheard};
 ghost use Rattle.sf_reasons.specs.Faults.{is_write_fault, reason_of};
 
 use crate::words::reason_notes;

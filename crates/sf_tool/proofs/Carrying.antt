@@ -1,5 +1,6 @@
 -- What is done on a source that stands for another, as told of that other.
-use Rattle.std.proofs.Common.{◌≡◌, ◌∙◌, ℕ, false, inl, inr, ap, List, [], ◌∷◌, map, option_map, string_bytes, Bool, Option, None, Some, Result, Ok, Err}
+use Rattle.std.proofs.Common.{◌≡◌, ◌∙◌, ℕ, false, inl, inr, ap, List, [], ◌∷◌, map, option_map, string_bytes, Bool, Option, None, Some}
+use Rattle.std.proofs.Common.{Result, Ok, Err}
 use Rattle.std.specs.Prelude.{IfErr}
 use Rattle.std.specs.declared.io.Error.{Error}
 use Rattle.sf_format.specs.declared.directive.Directive.{Directive}
@@ -10,7 +11,8 @@ use Rattle.sf_lines.specs.declared.end.LinesEnd.{LinesEnd}
 use Rattle.sf_lines.specs.Loops.{Loops as LineLoops}
 use Rattle.sf_lines.specs.Turns.{LineWork}
 use Rattle.sf_messages.specs.declared.fault.CommandFault.{CommandFault}
-use Rattle.sf_messages.specs.declared.fault.CommandFault.TheVariants.{BadEscape, Format, PrintFormat, Values, Record, Lines, Write, Memory, Pair, Unprintable, NameCount, NameEmpty, NameTwice}
+use Rattle.sf_messages.specs.declared.fault.CommandFault.TheVariants.{BadEscape, Format, PrintFormat, Values, Record, Lines, Write, Memory}
+use Rattle.sf_messages.specs.declared.fault.CommandFault.TheVariants.{Pair, Unprintable, NameCount, NameEmpty, NameTwice}
 use Rattle.sf_messages.specs.declared.fault.FormatName.{FormatName}
 use Rattle.sf_places.specs.declared.place.Place.{Place}
 use Rattle.sf_read.specs.Ahead.{Ahead}
@@ -25,12 +27,13 @@ use Rattle.sf_jobs.specs.Answers.{Answer}
 use Rattle.sf_records.specs.Forms.{writing}
 use Rattle.sf_records.specs.form.OutputForm.{OutputForm}
 use Rattle.sf_arguments.specs.declared.word_reading.WordReading.{WordReading}
-use Rattle.sf_jobs.specs.Commands.{CarriesOut, CarriesOutBy, Copies, CopiesBoth, CopiesWords, IsRefusedText, ScansAs, ScansBy, ScansForm, ScansPrint, ScansPrintWords, ScansText, ScansUnder, ScansWord, Unread, form_of, grammar_of, reading_of}
+use Rattle.sf_jobs.specs.Commands.{CarriesOut, CarriesOutBy, Copies, CopiesBoth, CopiesWords, IsRefusedText, ScansAs, ScansBy, ScansForm}
+use Rattle.sf_jobs.specs.Commands.{ScansPrint, ScansPrintWords, ScansText, ScansUnder, ScansWord, Unread, form_of, grammar_of, reading_of}
 use Rattle.sf_jobs.specs.CopyFormats.{line_of}
 use Rattle.sf_jobs.specs.declared.copy_formats.CopyFormats.{CopyFormats}
 use Rattle.sf_records.specs.Copies.{copying}
 use Rattle.sf_tool.specs.Copies.{CopiesPair, CopiesTexts, line_options}
-use Rattle.sf_tool.specs.Exits.{DoesOrder, EndsCopies, EndsLines, EndsScans, unread_of}
+use Rattle.sf_tool.specs.Exits.{DoesOn, DoesOrder, EndsCopies, EndsLines, EndsScans, is_explained, unread_of}
 use Rattle.sf_console.specs.Fronts.{file_name}
 use Rattle.sf_tool.specs.Lines.{RunsForm, RunsLines, RunsUnder, RunsWriting, ScansLines, scanning}
 use Rattle.sf_jobs.specs.declared.writing.Writing.{Writing}
@@ -535,3 +538,18 @@ module _ {T S K E : Type 0} (f : T → S) (contents : K → Option (List ℕ)) (
       (answer, (mid, carries f to_come faults contents write_faults order from from' out mid answer done, more))
   does_order explain (Some options) order place from from' out out' err err' ended done =
       ends_lines explain options order order.verb from from' out out' err err' ended done
+
+  -- what is done on a source, and what is left of it
+  pub does_on : (order : Order) (from from' : T) (out out' : K) (err err' : E) (ended : Answer)
+      → DoesOn contents write_faults hands said unsaid (λ s. to_come (f s)) (λ s. faults (f s)) (λ s. unread (f s)) unwritten watched
+      (Ok order) from from' out out' err err' ended
+      → DoesOn contents write_faults hands said unsaid to_come faults unread unwritten watched (Ok order) (f from) (f from') out out' err
+      err' ended
+  does_on order from from' out out' err err' ended d = record {
+    left = over f d.left;
+    place = d.place;
+    done = does_order (is_explained watched order.notes) order.lines order d.place (unread_of from) d.left out out' err err' ended d.done;
+    placed = d.placed;
+    back = ap f d.back;
+    few = d.few;
+  }

@@ -1,5 +1,6 @@
 -- What is said and answered of the lines.
-use Rattle.std.proofs.Common.{◌≡◌, ◌∙◌, if◌then◌else◌, ℕ, suc, ◌+◌, ◌<◌, true, false, Bool, List, [], ◌∷◌, ◌++◌, length, Option, Some, None, Err, inl, inr, refl, sym, ap, subst, arith, Bor}
+use Rattle.std.proofs.Common.{◌≡◌, ◌∙◌, if◌then◌else◌, ℕ, suc, ◌+◌, ◌<◌, true, false, Bool, List, [], ◌∷◌, ◌++◌, length, Option, Some, None}
+use Rattle.std.proofs.Common.{Err, inl, inr, refl, sym, ap, subst, arith, Bor}
 use Rattle.std.specs.Prelude.{slice_get, ◌-◌}
 use Rattle.std.specs.Option.{ForSome, option_copied}
 use Rattle.std.proofs.lemmas.Option.{same_Some}
@@ -13,7 +14,8 @@ use Rattle.sf_lines.specs.declared.end.LinesFault.{LinesFault}
 use Rattle.sf_lines.specs.declared.end.LinesFault.TheVariants as lines_fault
 use Rattle.sf_lines.specs.Loops.{is_write}
 use Rattle.sf_messages.specs.declared.fault.CommandFault.{CommandFault}
-use Rattle.sf_messages.specs.declared.fault.CommandFault.TheVariants.{BadEscape, Format, Lines, Memory, NameCount, NameEmpty, NameTwice, Pair, PrintFormat, Record, Unprintable, Values, Write}
+use Rattle.sf_messages.specs.declared.fault.CommandFault.TheVariants.{BadEscape, Format, Lines, Memory, NameCount, NameEmpty, NameTwice}
+use Rattle.sf_messages.specs.declared.fault.CommandFault.TheVariants.{Pair, PrintFormat, Record, Unprintable, Values, Write}
 use Rattle.sf_messages.specs.declared.fault.FormatName.{FormatName}
 use Rattle.sf_messages.specs.declared.fault.FormatName.TheVariants as names
 use Rattle.sf_messages.specs.Notes.{escape_notes}

@@ -7,7 +7,8 @@ use Rattle.sf_format.specs.Grammar.{Means, Spells}
 use Rattle.sf_format.specs.Language.{Scan}
 use Rattle.sf_format.proofs.Judgements.{not_both}
 use Rattle.sf_messages.specs.declared.fault.CommandFault.{CommandFault}
-use Rattle.sf_messages.specs.declared.fault.CommandFault.TheVariants.{BadEscape, Format, PrintFormat, Values, Record, Lines, Write, Memory, Pair, Unprintable, NameCount, NameEmpty, NameTwice}
+use Rattle.sf_messages.specs.declared.fault.CommandFault.TheVariants.{BadEscape, Format, PrintFormat, Values, Record, Lines, Write, Memory}
+use Rattle.sf_messages.specs.declared.fault.CommandFault.TheVariants.{Pair, Unprintable, NameCount, NameEmpty, NameTwice}
 use Rattle.sf_messages.specs.declared.fault.FormatName.TheVariants as name
 use Rattle.sf_messages.specs.Notes.{escape_notes, format_notes}
 use Rattle.sf_jobs.specs.Checks.{IsNoScanWord, IsScanWord}

@@ -1,5 +1,6 @@
 -- What one run of the command writes, says and answers.
-use Rattle.std.specs.Prelude.{◌≡◌, ◌≤◌, ◌++◌, ℕ, Bool, List, [], true, false, Option, Some, None, Result, Ok, Err, IfErr, IfOk, IfSome, map, option_map, string_bytes}
+use Rattle.std.specs.Prelude.{◌≡◌, ◌≤◌, ◌++◌, ℕ, Bool, List, [], true, false, Option, Some, None, Result, Ok, Err, IfErr, IfOk, IfSome}
+use Rattle.std.specs.Prelude.{length, map, option_map, string_bytes}
 use Rattle.std.specs.Io.KnownBytes.{Appends}
 use Rattle.std.specs.declared.io.Error.{Error}
 use Rattle.sf_places.specs.Behind.{IsBehind}
@@ -60,6 +61,10 @@ abbrev pub is_explained : Bool → Notes → Bool
 is_explained watched Always = true
 is_explained watched OnTerminal = watched
 is_explained watched Never = false
+
+-- the most bytes that are read ahead
+abbrev pub block_bytes : ℕ
+block_bytes = 16384
 
 -- nothing is held yet
 abbrev pub unread_of : {S : Type 0} → S → Ahead S
@@ -144,16 +149,23 @@ module _ {K E : Type 0} (contents : K → Option (List ℕ)) (write_faults : K �
     Exits watched words place from from' out out' err err' status = (asked : Result Order WordsFault) × (ended : Answer)
         × ExitsBy watched words asked place from from' out out' err err' ended × (status ≡ exit_of ended)
 
-    -- What is done on what a source gives. left: what is held afterwards, and the source then. Where the source tells its bytes, the
-    -- place is that after the bytes which are neither held nor to come then.
-    pub record DoesOn (watched : Bool) (asked : Result Order WordsFault) (from : S) (out out' : K) (err err' : E)
+    -- What is done on what a source gives (from), and leaves (from'). left: what is held afterwards, which is a block at most and is
+    -- dropped, and the source then. Where the source tells its bytes, the place is that after the bytes which are neither held nor to
+    -- come then.
+    pub record DoesOn (watched : Bool) (asked : Result Order WordsFault) (from from' : S) (out out' : K) (err err' : E)
         (ended : Answer) : Type 0 where
       pub left : Ahead S
       pub place : Option Place
       pub done : Does watched asked place (unread_of from) left out out' err err' ended
       pub placed : IfSome place (λ p. (c z : List ℕ) → to_come from ≡ Some (c ++ z) → input_of to_come left ≡ Some z → IsBehind c p)
+      pub back : left.source ≡ from'
+      pub few : length left.held ≤ block_bytes
 
     -- what the command of the words comes to on what a source gives
-    abbrev pub ExitsOn : Bool → List (List ℕ) → S → K → K → E → E → ℕ → Type 0
-    ExitsOn watched words from out out' err err' status = (asked : Result Order WordsFault) × IsRead words asked
-        × (ended : Answer) × DoesOn watched asked from out out' err err' ended × (status ≡ exit_of ended)
+    abbrev pub ExitsOn : Bool → List (List ℕ) → S → S → K → K → E → E → ℕ → Type 0
+    ExitsOn watched words from from' out out' err err' status = (asked : Result Order WordsFault) × IsRead words asked
+        × (ended : Answer) × DoesOn watched asked from from' out out' err err' ended × (status ≡ exit_of ended)
+
+    -- the same, whatever the source then is
+    abbrev pub ExitsSomewhere : Bool → List (List ℕ) → S → K → K → E → E → ℕ → Type 0
+    ExitsSomewhere watched words from out out' err err' status = (from' : S) × ExitsOn watched words from from' out out' err err' status

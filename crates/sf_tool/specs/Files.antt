@@ -1,5 +1,6 @@
 -- The files that words name, read one after the other.
-use Rattle.std.specs.Prelude.{◌≡◌, ◌+◌, ◌++◌, ℕ, zero, suc, Bool, true, false, List, [], ◌∷◌, length, max, Option, Some, None, Result, Ok, Err, codes}
+use Rattle.std.specs.Prelude.{◌≡◌, ◌+◌, ◌++◌, ℕ, zero, suc, Bool, true, false, List, [], ◌∷◌, length, max, Option, Some, None, Result, Ok}
+use Rattle.std.specs.Prelude.{Err, codes}
 use Rattle.std.specs.Option.{option_map_or}
 use Rattle.std.specs.declared.io.Error.{Error}
 use Rattle.sf_messages.specs.declared.fault.CommandFault.{CommandFault}
@@ -54,7 +55,7 @@ Where false A B = B
 module _ {S K E F : Type 0} (opens : F → F → List ℕ → S → Bool → Type 0) (contents : K → Option (List ℕ)) (write_faults : K → ℕ)
     (hands : K → K → Type 0) (said : E → Option (List ℕ)) (unsaid : E → ℕ) (to_come : S → Option (List ℕ)) (read_faults : S → ℕ)
     (why_unread : S → Option Error) (why_unwritten : K → Option Error) (watched : Bool) where
-  -- the run over the file that the order names
+  -- the run over the file that the order names; rest: what it leaves of the file
   pub record RunsFile (order : Order) (files files' : F) (out out' : K) (err err' : E) (turn : Turn) : Type 0 where
     pub name : List ℕ
     pub is_name : file_name order ≡ Some name
@@ -67,8 +68,9 @@ module _ {S K E F : Type 0} (opens : F → F → List ℕ → S → Bool → Typ
     pub mid : K
     pub between : E
     pub ended : Answer
-    pub runs : DoesOn contents write_faults hands said unsaid to_come read_faults why_unread why_unwritten watched (Ok order) source out
-        mid err between ended
+    pub rest : S
+    pub runs : DoesOn contents write_faults hands said unsaid to_come read_faults why_unread why_unwritten watched (Ok order) source rest
+        out mid err between ended
     pub ends : EndsFile hands said unsaid is_open (keeps_going order) name notes ended mid out' between err' turn
 
   -- The files from this place on, of which so many are left: each is read where those before go on. The exit status is the greatest
@@ -82,18 +84,19 @@ module _ {S K E F : Type 0} (opens : F → F → List ℕ → S → Bool → Typ
       × Where turn.goes_on (RunsFiles left order (place + 1) (max worst turn.status) after files' mid out' between err' status)
       ((files' ≡ after) × (out' ≡ mid) × (err' ≡ between) × (status ≡ max worst turn.status)))))
 
-  -- the inputs of an order: the source alone where there are no files
-  abbrev pub RunsInputs : ℕ → Order → S → F → F → K → K → E → E → ℕ → Type 0
-  RunsInputs zero order from files files' out out' err err' status =
+  -- the inputs of an order: the source alone where there are no files; else it isn't read
+  abbrev pub RunsInputs : ℕ → Order → S → S → F → F → K → K → E → E → ℕ → Type 0
+  RunsInputs zero order from from' files files' out out' err err' status =
       (ended : Answer) × DoesOn contents write_faults hands said unsaid to_come read_faults why_unread why_unwritten watched (Ok order)
-      from out out' err err' ended
+      from from' out out' err err' ended
       × (files' ≡ files) × (status ≡ exit_of ended)
-  RunsInputs (suc n) order from files files' out out' err err' status = RunsFiles (suc n) order 0 0 files files' out out' err err' status
+  RunsInputs (suc n) order from from' files files' out out' err err' status =
+      RunsFiles (suc n) order 0 0 files files' out out' err err' status × (from' ≡ from)
 
   -- what was read of the words is done: an order on its inputs, or nothing is read
-  abbrev pub RunsAsked : Result Order WordsFault → S → F → F → K → K → E → E → ℕ → Type 0
-  RunsAsked (Ok order) from files files' out out' err err' status =
-      RunsInputs (length order.files.items) order from files files' out out' err err' status
-  RunsAsked (Err fault) from files files' out out' err err' status =
+  abbrev pub RunsAsked : Result Order WordsFault → S → S → F → F → K → K → E → E → ℕ → Type 0
+  RunsAsked (Ok order) from from' files files' out out' err err' status =
+      RunsInputs (length order.files.items) order from from' files files' out out' err err' status
+  RunsAsked (Err fault) from from' files files' out out' err err' status =
       (ended : Answer) × Declines contents write_faults hands said unsaid fault out out' err err' ended
-      × (files' ≡ files) × (status ≡ exit_of ended)
+      × (from' ≡ from) × (files' ≡ files) × (status ≡ exit_of ended)

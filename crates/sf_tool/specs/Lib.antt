@@ -4,3 +4,4 @@ pub mod Files
 pub mod Laws
 pub mod Lines
 pub mod Programs
+pub mod Rooms

@@ -4,7 +4,8 @@ use Rattle.std.specs.declared.io.Error.{Error}
 use Rattle.std.specs.declared.io.traits.Write as write
 use Rattle.sf_blocks.specs.declared.block_sink.BlockSink.{BlockSink}
 use Rattle.sf_blocks.specs.declared.unblocked.Unblocked.{Unblocked}
-use Rattle.sf_blocks.specs.Blocks.{HoldsNothing, faults_of, handed_to, has_failed_flush, last_error_of, taken_by, waiting_in, write_failures, writer_of}
+use Rattle.sf_blocks.specs.Blocks.{HoldsNothing, faults_of, handed_to, has_failed_flush, last_error_of, taken_by, waiting_in}
+use Rattle.sf_blocks.specs.Blocks.{write_failures, writer_of}
 use Rattle.sf_messages.specs.Texts.{error_line}
 use Rattle.sf_messages.specs.declared.fault.CommandFault.TheVariants.{Memory, Write}
 use Rattle.sf_words.specs.declared.order.Order.{Order}
@@ -51,11 +52,12 @@ module _ {W E : Type 0} (w : write.Ghosts W) (e : write.Ghosts E) where
       ⊎ (has_failed_flush out' ≡ true)
       × Reports e watched explain (last_error_of out') (write_failures out) err err' × (status' ≡ 3))
 
-  -- The program on its streams. The writers are given back (out', err'). `opens` says what comes of opening a file.
+  -- The program on its streams: what is left of its source (from'), and its writers, given back (out', err'). `opens` says what comes
+  -- of opening a file.
   -- opened: the output's sink at the start; it holds nothing back where each record is awaited.
   pub record RunsOn {S F : Type 0} (opens : F → F → List ℕ → S → Bool → Type 0) (to_come : S → Option (List ℕ))
-      (read_faults : S → ℕ) (why_unread : S → Option Error) (words : List (List ℕ)) (terminals : Terminals) (from : S) (files files' : F)
-      (out out' : W)
+      (read_faults : S → ℕ) (why_unread : S → Option Error) (words : List (List ℕ)) (terminals : Terminals) (from from' : S)
+      (files files' : F) (out out' : W)
       (first last : Unblocked E) (status : ℕ) : Type 0 where
     pub asked : Result Order WordsFault
     pub opened : BlockSink W w
@@ -68,25 +70,25 @@ module _ {W E : Type 0} (w : write.Ghosts W) (e : write.Ghosts E) where
     pub fresh : has_failed_flush opened ≡ false
     pub read : IsRead words asked
     pub runs : RunsAsked opens taken_by write_failures HandsOn (handed_to e) faults_of to_come read_faults why_unread last_error_of
-        terminals.errors asked from files files' opened ran first said answer
+        terminals.errors asked from from' files files' opened ran first said answer
     pub at_once : IsAwaited terminals.output asked → HoldsNothing opened
     pub closes : Closes terminals.errors (is_explained_by terminals.errors asked) ran closed said last answer status
     pub back : out' ≡ writer_of closed
 
   -- there is no memory for the output's block: that is said, and nothing was read or written
-  abbrev pub IsRefusedBlock : {F : Type 0} → F → F → W → W → Unblocked E → Unblocked E → ℕ → Type 0
-  IsRefusedBlock files files' out out' first last status =
-      (files' ≡ files) × (out' ≡ out) × SaysText (handed_to e) faults_of (error_line Memory) first last × (status ≡ 4)
+  abbrev pub IsRefusedBlock : {S F : Type 0} → S → S → F → F → W → W → Unblocked E → Unblocked E → ℕ → Type 0
+  IsRefusedBlock from from' files files' out out' first last status =
+      (from' ≡ from) × (files' ≡ files) × (out' ≡ out) × SaysText (handed_to e) faults_of (error_line Memory) first last × (status ≡ 4)
 
   -- what the program does, from the bytes that its streams tell at the start to those that they tell at the end
   pub record RunsProgram {S F : Type 0} (opens : F → F → List ℕ → S → Bool → Type 0) (to_come : S → Option (List ℕ))
-      (read_faults : S → ℕ) (why_unread : S → Option Error) (words : List (List ℕ)) (terminals : Terminals) (from : S) (files files' : F)
-      (out out' : W) (err err' : E)
+      (read_faults : S → ℕ) (why_unread : S → Option Error) (words : List (List ℕ)) (terminals : Terminals) (from from' : S)
+      (files files' : F) (out out' : W) (err err' : E)
       (status : ℕ) : Type 0 where
     pub first : Unblocked E
     pub last : Unblocked E
     pub start : handed_to e first ≡ e.contents err
     pub sound : faults_of first ≡ 0
     pub end : handed_to e last ≡ e.contents err'
-    pub does : RunsOn opens to_come read_faults why_unread words terminals from files files' out out' first last status
-        ⊎ IsRefusedBlock files files' out out' first last status
+    pub does : RunsOn opens to_come read_faults why_unread words terminals from from' files files' out out' first last status
+        ⊎ IsRefusedBlock from from' files files' out out' first last status

@@ -145,7 +145,8 @@ fn run_file<S: LastError, K: Sink, E, C: Console<K, E> + Reasons<S>, F: Opener<S
     let Opened { source, is_open } = files.open(name);
     let why = C::why_unread(&source);
     let notes = reason_alone(alloc, is_explained(watched, order.notes), why);
-    let answer = run_source::<S, K, E, C>(alloc, watched, order, source, out, err);
+    let mut source = source;
+    let answer = run_source::<S, K, E, C>(alloc, watched, order, &mut source, out, err);
     end_file::<K, E, C>(is_open, keeps_going(order), name, &notes, answer, out, err)
 }
 
@@ -181,7 +182,7 @@ pub(crate) fn run_inputs<S: LastError, K: Sink, E, C: Console<K, E> + Reasons<S>
     alloc: Global,
     watched: bool,
     order: Order,
-    from: S,
+    from: &mut S,
     files: &mut F,
     out: &mut K,
     err: &mut E,
@@ -189,7 +190,8 @@ pub(crate) fn run_inputs<S: LastError, K: Sink, E, C: Console<K, E> + Reasons<S>
     requires limit { order.limit ≤ 2147483647 }
     requires texts { HasTextsFor order.lines order.verb (map string_bytes order.texts.items) }
     ensures { RunsInputs F.Opens K.contents K.failures C.Hands C.said C.unsaid S.to_come S.failures C.why_unread C.why
-        watched (length order.files.items) order from files.old files.new out.old out.new err.old err.new result }
+        watched (length order.files.items) order from.old from.new files.old files.new out.old out.new err.old err.new
+        result }
 {
     let mut order = order;
     if order.files.is_empty() {

@@ -2,11 +2,14 @@
 ghost use Rattle.std.specs.Prelude.{◌≡◌, ◌≤◌, ◌<◌, None, Some, Ok, true, false, length, map, string_bytes};
 ghost use Rattle.sf_words.specs.Orders.{HasTexts, HasTextsFor};
 ghost use Rattle.sf_words.specs.declared.order.Verb.TheVariants.{Copy};
-ghost use Rattle.sf_tool.specs.Exits.{CanRun, Declines, Does, DoesOn, DoesOrder, EndsCopies, EndsLines, EndsRefused, EndsScans};
-ghost use Rattle.sf_tool.specs.Exits.{Exits, ExitsOn, Helps, is_explained};
+ghost use Rattle.sf_tool.specs.Exits.{CanRun, Declines, Does, DoesOn, DoesOrder, EndsCopies, EndsLines, EndsRefused};
+ghost use Rattle.sf_tool.specs.Exits.{EndsScans};
+ghost use Rattle.sf_tool.specs.Exits.{Exits, ExitsOn, ExitsSomewhere, Helps, is_explained};
+ghost use Rattle.sf_tool.specs.Rooms.{TakesAWord};
 
 use crate::copies::copy_by_formats;
 use crate::lines::scan_lines;
+use crate::loans::{ByNamed, Name, Named, Tied};
 use sf_console::{Apart, Console, Lent, Reasons, end, end_known, exit_of, say};
 use sf_jobs::{RefusedWord, form_of, grammar_of, lines_job, prepare, prepare_copies, run};
 use sf_messages::CommandFault;
@@ -309,63 +312,88 @@ pub fn run_words<S: Source, K: Sink, E: Sink, const N: usize>(
     exit_of(run_ahead::<S, K, E, Apart, Apart, N>(alloc, false, &asked, from, out, err))
 }
 
+/// The answer of a run on a source, which is given back with what the run left in it.
+#[derive(Drop)]
+struct Ran<R: Drop> {
+    answer: Result<u8, CommandFault>,
+    source: R,
+}
+
 /// Carries out an order of records with an account of the lines of its input, so that the place in the input can be
 /// told.
-fn run_placed<S: Source, K: Sink, E, C: Console<K, E> + Reasons<S>, I: Input>(
+fn run_placed<R: Named, K: Sink, E, C: Console<K, E>, Q: Reasons<R>, B: Name + Input>(
     alloc: Global,
     watched: bool,
     order: &Order,
-    from: &mut S,
+    from: R,
     out: &mut K,
     err: &mut E,
-) -> Result<u8, CommandFault>
-    requires input { I.input ≡ S.to_come from.old }
+) -> Ran<R>
+    requires small { TakesAWord R.row }
+    requires named { B.name ≡ R.name_of from }
+    requires input { B.input ≡ R.to_come from }
     requires records { order.now.lines ≡ None }
     requires explained { is_explained watched order.now.notes ≡ true }
     requires limit { order.now.limit ≤ 2147483647 }
     requires texts { HasTexts order.now.verb (map string_bytes order.now.texts.items) }
-    ensures { DoesOn K.contents K.failures C.Hands C.said C.unsaid S.to_come S.failures C.why_unread C.why watched
-        (Ok order.now) from.old out.old out.new err.old err.new result }
+    ensures same { R.name_of result.source ≡ R.name_of from }
+    ensures does { DoesOn K.contents K.failures C.Hands C.said C.unsaid R.to_come R.failures Q.why_unread C.why watched
+        (Ok order.now) from result.source out.old out.new err.old err.new result.answer }
 {
     let job = match prepare(alloc, order) {
         Ok(job) => job,
         Err(refused) => {
-            return end_refused::<S, K, E, C, C>(
-                alloc, watched, true, order, from, out, err, refused,
+            let answer = end_refused::<R, K, E, C, Q>(
+                alloc, watched, true, order, &from, out, err, refused,
             );
+            return Ran {
+                answer,
+                source: from,
+            };
         }
     };
-    let mut ahead = Lookahead::<Placed<&mut S, I>, BLOCK_BYTES>::new(Placed::new(from));
+    let placed = Placed::<Tied<R, B>, B>::new(Tied::new(from));
+    let mut ahead = Lookahead::<Placed<Tied<R, B>, B>, BLOCK_BYTES>::new(placed);
     let answer = run(alloc, &job, order, &mut ahead, out);
     let held = ahead.held();
     let place = ahead.source().place_before(held);
     let notes = notes_of_job(alloc, true, order, &job, Left { place, held }, answer);
-    let source = &**ahead.source().source();
-    end_known::<S, K, E, C, C>(
+    let source = ahead.source().source();
+    let answer = end_known::<Tied<R, B>, K, E, C, ByNamed<Q>>(
         alloc, watched, true, order, source, out, err, answer, &notes,
-    )
+    );
+    Ran {
+        answer,
+        source: ahead.into_source().into_source().into_source(),
+    }
 }
 
 /// Does what an order asks for on what a source gives, block by block.
-fn run_unplaced<S: Source, K: Sink, E, C: Console<K, E> + Reasons<S>>(
+fn run_unplaced<R: Named, K: Sink, E, C: Console<K, E>, Q: Reasons<R>, B: Name>(
     alloc: Global,
     watched: bool,
     order: &Order,
-    from: S,
+    from: R,
     out: &mut K,
     err: &mut E,
-) -> Result<u8, CommandFault>
+) -> Ran<R>
+    requires small { TakesAWord R.row }
+    requires named { B.name ≡ R.name_of from }
     requires limit { order.now.limit ≤ 2147483647 }
     requires texts { HasTextsFor order.now.lines order.now.verb (map string_bytes order.now.texts.items) }
-    ensures { DoesOn K.contents K.failures C.Hands C.said C.unsaid S.to_come S.failures C.why_unread C.why watched
-        (Ok order.now) from out.old out.new err.old err.new result }
+    ensures same { R.name_of result.source ≡ R.name_of from }
+    ensures does { DoesOn K.contents K.failures C.Hands C.said C.unsaid R.to_come R.failures Q.why_unread C.why watched
+        (Ok order.now) from result.source out.old out.new err.old err.new result.answer }
 {
-    let mut source = from;
-    let mut ahead = Lookahead::<&mut S, BLOCK_BYTES>::new(&mut source);
+    let mut ahead = Lookahead::<Tied<R, B>, BLOCK_BYTES>::new(Tied::new(from));
     let explain = is_explained(watched, order.notes);
-    run_order::<&mut S, K, E, C, Lent<C>, BLOCK_BYTES>(
+    let answer = run_order::<Tied<R, B>, K, E, C, ByNamed<Q>, BLOCK_BYTES>(
         alloc, watched, explain, order, &mut ahead, out, err,
-    )
+    );
+    Ran {
+        answer,
+        source: ahead.into_source().into_source(),
+    }
 }
 
 /// Does what an order asks for on what a source gives. An account of its lines is kept only where it is asked for.
@@ -373,21 +401,26 @@ pub(crate) fn run_source<S: Source, K: Sink, E, C: Console<K, E> + Reasons<S>>(
     alloc: Global,
     watched: bool,
     order: &Order,
-    from: S,
+    from: &mut S,
     out: &mut K,
     err: &mut E,
 ) -> Result<u8, CommandFault>
     requires limit { order.now.limit ≤ 2147483647 }
     requires texts { HasTextsFor order.now.lines order.now.verb (map string_bytes order.now.texts.items) }
     ensures { DoesOn K.contents K.failures C.Hands C.said C.unsaid S.to_come S.failures C.why_unread C.why watched
-        (Ok order.now) from out.old out.new err.old err.new result }
+        (Ok order.now) from.old from.new out.old out.new err.old err.new result }
 {
     match order.lines {
         None if is_explained(watched, order.notes) => {
-            let mut source = from;
-            run_placed::<S, K, E, C, Brand>(alloc, watched, order, &mut source, out, err)
+            run_placed::<&mut S, K, E, C, Lent<C>, Brand>(
+                alloc, watched, order, from, out, err,
+            ).answer
         }
-        _ => run_unplaced::<S, K, E, C>(alloc, watched, order, from, out, err),
+        _ => {
+            run_unplaced::<&mut S, K, E, C, Lent<C>, Brand>(
+                alloc, watched, order, from, out, err,
+            ).answer
+        }
     }
 }
 
@@ -396,18 +429,35 @@ pub(crate) fn run_asked<S: Source, K: Sink, E, C: Console<K, E> + Reasons<S>>(
     alloc: Global,
     watched: bool,
     asked: &Asked,
-    from: S,
+    from: &mut S,
     out: &mut K,
     err: &mut E,
 ) -> Result<u8, CommandFault>
     requires { CanRun asked.now }
     ensures { DoesOn K.contents K.failures C.Hands C.said C.unsaid S.to_come S.failures C.why_unread C.why watched
-        asked.now from out.old out.new err.old err.new result }
+        asked.now from.old from.new out.old out.new err.old err.new result }
 {
     match asked {
         Ok(order) => run_source::<S, K, E, C>(alloc, watched, order, from, out, err),
         Err(fault) => decline::<K, E, C>(fault, out, err),
     }
+}
+
+/// As `tool`, on a source that is lent. What it still gives afterwards begins at most a block after what was used.
+pub fn tool_over<S: Source, K: Sink, E: Sink>(
+    alloc: Global,
+    words: &[String],
+    from: &mut S,
+    out: &mut K,
+    err: &mut E,
+) -> u8
+    ensures { ExitsOn K.contents K.failures (λ before after. after ≡ before) E.contents E.failures S.to_come
+        S.failures
+        (λ source. None) (λ out. None) false (map string_bytes words.now) from.old from.new out.old out.new err.old
+        err.new result }
+{
+    let asked = read_words(alloc, words);
+    exit_of(run_asked::<S, K, E, Apart>(alloc, false, &asked, from, out, err))
 }
 
 /// Runs the command of the words, which are those after the program's name, on what the source gives, and answers its
@@ -425,10 +475,10 @@ pub fn tool<S: Source, K: Sink, E: Sink>(
     out: &mut K,
     err: &mut E,
 ) -> u8
-    ensures { ExitsOn K.contents K.failures (λ before after. after ≡ before) E.contents E.failures S.to_come
+    ensures { ExitsSomewhere K.contents K.failures (λ before after. after ≡ before) E.contents E.failures S.to_come
         S.failures
         (λ source. None) (λ out. None) false (map string_bytes words.now) from out.old out.new err.old err.new result }
 {
-    let asked = read_words(alloc, words);
-    exit_of(run_asked::<S, K, E, Apart>(alloc, false, &asked, from, out, err))
+    let mut lent = from;
+    tool_over(alloc, words, &mut lent, out, err)
 }

@@ -6,10 +6,11 @@ mod files;
 mod invocation;
 pub mod laws;
 mod lines;
+mod loans;
 mod program;
 
 pub use files::{Opened, Opener};
-pub use invocation::{run_words, tool};
+pub use invocation::{run_words, tool, tool_over};
 pub use program::{Ended, Terminals, run_program};
 pub use sf_arguments::{ArgumentFault, WordReading, print_values, print_words};
 pub use sf_jobs::carry_out;

@@ -1,6 +1,7 @@
 //! The lines of an input, each scanned by the formats of an order.
 ghost use Rattle.std.specs.Borrow.{GName};
-ghost use Rattle.std.specs.Prelude.{◌≡◌, ◌≤◌, ◌<◌, ◌-◌, ◌++◌, ℕ, List, Some, true, false, IfOk, IfErr, length, map, option_map, refl, slice_get, string_bytes};
+ghost use Rattle.std.specs.Prelude.{◌≡◌, ◌≤◌, ◌<◌, ◌-◌, ◌++◌, ℕ, List, Some, true, false, IfOk, IfErr, length, map};
+ghost use Rattle.std.specs.Prelude.{option_map, refl, slice_get, string_bytes};
 ghost use Rattle.sf_format.specs.declared.directive.Directive.{Directive};
 ghost use Rattle.sf_lines.specs.declared.end.LineFault.{LineFault};
 ghost use Rattle.sf_jobs.specs.Commands.{form_of, grammar_of};
@@ -10,16 +11,17 @@ ghost use Rattle.sf_jobs.specs.Writings.{IsWriting, SuitsAll};
 ghost use Rattle.sf_arguments.specs.Escapes.{Unescapes};
 ghost use Rattle.sf_notes.specs.Explains.{OfWord};
 ghost use Rattle.sf_console.specs.Fronts.{file_name};
-ghost use Rattle.sf_tool.specs.Lines.{RunsForm, RunsLines, RunsUnder, RunsWriting, SaysBy, SaysLines, ScansLines, SomeIsSaid, SomeIsSaidBy, answer_by};
+ghost use Rattle.sf_tool.specs.Lines.{KnowsSpans, RunsForm, RunsLines, RunsUnder, RunsWriting, SaysBy, SaysLines};
+ghost use Rattle.sf_tool.specs.Lines.{ScansLines, SomeIsSaid, SomeIsSaidBy, answer_by};
 
 use sf_arguments::unescape;
 use sf_console::{Console, file_name, write_told};
-use sf_format::{Profile, ScanFormat};
+use sf_format::{Profile, ScanFormat, Spans};
 use sf_jobs::{LinesJob, Writing, grammar_of, header_fault, is_headed, named_maker, write_header};
 use sf_lines::{LineFault, LineFormats, LinesEnd, LinesOptions, Teller, run_lines};
 use sf_makers::{FormMaker, Maker, PrintMaker};
 use sf_messages::{CommandFault, line_fault_line};
-use sf_notes::more_of_line;
+use sf_notes::{known_spans, more_of_line};
 use sf_print::Sink;
 use sf_read::{Lookahead, Source};
 use sf_records::OutputForm;
@@ -29,7 +31,7 @@ use std::marker::PhantomData;
 
 /// What is said of lines that are no match.
 #[derive(Clone, Copy)]
-pub(crate) struct Voice<'t> {
+pub(crate) struct Voice<'t, 's> {
     /// Whether nothing is said.
     quiet: bool,
     /// Whether more is said of a line, by the last format and its bytes.
@@ -38,6 +40,8 @@ pub(crate) struct Voice<'t> {
     profile: Profile,
     /// The bytes of the last format, where more is said.
     text: &'t [u8],
+    /// Where the directives stand in these bytes, where that is known.
+    spans: Option<&'s Spans>,
     /// The last format.
     format: &'t ScanFormat,
     /// The name of the file that is read, if it has one.
@@ -52,8 +56,9 @@ struct LineNotes<'e, 'v, K: Sink, E, C: Console<K, E>> {
     err: &'e mut E,
     of: PhantomData<(K, C)>,
     failed: bool,
-    voice: &'v Voice<'v>,
+    voice: &'v Voice<'v, 'v>,
     ghost some: { SomeIsSaidBy voice.now },
+    ghost known: { KnowsSpans voice.now },
 }
 
 impl<K: Sink, E, C: Console<K, E>> Teller<K> for LineNotes<'_, '_, K, E, C> {
@@ -86,7 +91,7 @@ impl<K: Sink, E, C: Console<K, E>> Teller<K> for LineNotes<'_, '_, K, E, C> {
             self.alloc,
             voice.explain,
             voice.profile,
-            None,
+            voice.spans,
             voice.text,
             voice.format,
             line,
@@ -176,7 +181,7 @@ fn lines_told<M: Maker, S: Source, K: Sink, E, C: Console<K, E>, const N: usize>
     alloc: Global,
     maker: &mut M,
     formats: &LineFormats<'_>,
-    voice: &Voice<'_>,
+    voice: &Voice<'_, '_>,
     options: LineOptions,
     limit: u32,
     from: &mut Lookahead<S, N>,
@@ -186,6 +191,7 @@ fn lines_told<M: Maker, S: Source, K: Sink, E, C: Console<K, E>, const N: usize>
     requires limit { limit ≤ 2147483647 }
     requires some { 0 < length formats.now.tried.now }
     requires said { SomeIsSaidBy voice.now }
+    requires known { KnowsSpans voice.now }
     ensures { (telling : ℕ → List ℕ → LineFault → List ℕ) → SaysBy voice.now telling
         → RunsLines S.to_come S.failures K.contents K.failures C.said C.unsaid (M.work maker.old) options limit
         formats.now.ignored.now formats.now.tried.now telling from.old from.new out.old out.new err.old err.new result }
@@ -226,11 +232,14 @@ pub(crate) fn lines_with<M: Maker, S: Source, K: Sink, E, C: Console<K, E>, cons
         order.now.limit formats.now.ignored.now formats.now.tried.now telling from.old from.new out.old out.new
         err.old err.new result }
 {
+    let profile = grammar_of(order.profile);
+    let spans = known_spans(alloc, explain, profile, text);
     let voice = Voice {
         quiet: options.quiet,
         explain,
-        profile: grammar_of(order.profile),
+        profile,
         text,
+        spans: spans.as_ref(),
         format: &formats.tried[formats.tried.len() - 1],
         file: file_name(order),
     };

@@ -1,10 +1,12 @@
 //! The program: the command of its words, on its streams.
 ghost use Rattle.std.specs.Prelude.{◌≡◌, ◌↔◌, ℕ, map, string_bytes, true};
-ghost use Rattle.sf_blocks.specs.Blocks.{faults_of, handed_to, has_failed_flush, last_error_of, taken_by, write_failures, writer_of};
+ghost use Rattle.sf_blocks.specs.Blocks.{faults_of, handed_to, has_failed_flush, last_error_of, taken_by};
+ghost use Rattle.sf_blocks.specs.Blocks.{write_failures, writer_of};
 ghost use Rattle.sf_messages.specs.Texts.{error_line};
 ghost use Rattle.sf_tool.specs.Exits.{CanRun};
 ghost use Rattle.sf_tool.specs.Files.{RunsAsked};
-ghost use Rattle.sf_tool.specs.Programs.{Closes, IsAwaited, Reports, RunsOn, RunsProgram, SaysUnwritten, is_explained_by};
+ghost use Rattle.sf_tool.specs.Programs.{Closes, IsAwaited, Reports, RunsOn, RunsProgram, SaysUnwritten};
+ghost use Rattle.sf_tool.specs.Programs.{is_explained_by};
 ghost use Rattle.sf_console.specs.Hands.{HandsOn};
 ghost use Rattle.sf_console.specs.Saying.{SaysText};
 
@@ -155,15 +157,15 @@ fn run_asked_inputs<S: LastError, W: Write + Drop, E: Write + Drop, F: Opener<S>
     alloc: Global,
     watched: bool,
     asked: Asked,
-    from: S,
+    from: &mut S,
     files: &mut F,
     output: &mut BlockSink<W>,
     errors: &mut Unblocked<E>,
 ) -> u8
     requires { CanRun asked }
     ensures { RunsAsked F.Opens taken_by write_failures HandsOn (handed_to ⟦<E as Write>⟧) faults_of S.to_come
-        S.failures S.last_error last_error_of watched asked from files.old files.new output.old output.new errors.old
-        errors.new result }
+        S.failures S.last_error last_error_of watched asked from.old from.new files.old files.new output.old output.new
+        errors.old errors.new result }
 {
     match asked {
         Ok(order) => run_inputs::<S, BlockSink<W>, Unblocked<E>, InOrder, F>(
@@ -180,7 +182,7 @@ fn run_open<S: LastError, W: Write + Drop, E: Write + Drop, F: Opener<S>>(
     alloc: Global,
     watched: bool,
     asked: Asked,
-    from: S,
+    from: &mut S,
     files: &mut F,
     output: BlockSink<W>,
     errors: &mut Unblocked<E>,
@@ -189,7 +191,7 @@ fn run_open<S: LastError, W: Write + Drop, E: Write + Drop, F: Opener<S>>(
     ensures { (ran : BlockSink W ⟦<W as Write>⟧) × ((closed : BlockSink W ⟦<W as Write>⟧)
         × ((said : Unblocked E) × ((answer : ℕ)
         × RunsAsked F.Opens taken_by write_failures HandsOn (handed_to ⟦<E as Write>⟧) faults_of S.to_come S.failures
-        S.last_error last_error_of watched asked from files.old files.new output ran errors.old said answer
+        S.last_error last_error_of watched asked from.old from.new files.old files.new output ran errors.old said answer
         × Closes ⟦<W as Write>⟧ ⟦<E as Write>⟧ watched (is_explained_by watched asked) ran closed said errors.new
         answer result.status
         × (result.output ≡ writer_of closed)))) }
@@ -216,7 +218,8 @@ fn run_open<S: LastError, W: Write + Drop, E: Write + Drop, F: Opener<S>>(
 }
 
 /// Runs the program of the words, which are those after its name, on its streams, and gives its writers back with its
-/// exit status. `from` is its standard input; `files` opens the files that the words name. A message goes to the error
+/// exit status. `from` is its standard input, of which it takes a block at most after what the command used, and none
+/// where the words name files; `files` opens these. A message goes to the error
 /// output at once, after all that was written to the output before it. At a terminal, or where the words ask for it,
 /// each record goes to the output at once; else they go in blocks. The output is flushed before the end; where that or
 /// an earlier flush fails, the status is 3, and one line reports it. The other statuses are those of `tool`.
@@ -227,14 +230,14 @@ pub fn run_program<S: LastError, W: Write + Drop, E: Write + Drop, F: Opener<S>>
     alloc: Global,
     words: &[String],
     terminals: Terminals,
-    from: S,
+    from: &mut S,
     files: &mut F,
     output: W,
     errors: E,
 ) -> Ended<W, E>
     ensures { RunsProgram ⟦<W as Write>⟧ ⟦<E as Write>⟧ F.Opens S.to_come S.failures S.last_error
-        (map string_bytes words.now) terminals from files.old files.new output result.output errors result.errors
-        result.status }
+        (map string_bytes words.now) terminals from.old from.new files.old files.new output result.output errors
+        result.errors result.status }
 {
     let asked = read_words(alloc, words);
     let mut errors = Unblocked::new(errors);

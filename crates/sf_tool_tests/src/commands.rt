@@ -93,7 +93,8 @@ static READINGS: [Reading; 8] = [
         ["1\n", "2\n\n", " x"],
         false,
         "1\n2\n",
-        "sf: record 3: matching failure at 1, used 3, assigned 0\n  directive 1: \"%d\", d i32 width - slot 1\n  at line 4, column 2 of the input\n  there stood \"x\"\n",
+        "sf: record 3: matching failure at 1, used 3, assigned 0\n  directive 1: \"%d\", d i32 width - slot 1\n  at \
+         line 4, column 2 of the input\n  there stood \"x\"\n",
         1,
     ),
     (
@@ -101,7 +102,9 @@ static READINGS: [Reading; 8] = [
         ["1,", "\ng", ""],
         false,
         "",
-        "sf: record 1: matching failure at 3, used 3, assigned 1\n  directive 3: \"%5x\", x u32 width 5 slot 2\n  at line 2, column 1 of the input\n  there stood \"g\"\n  the record goes over a newline: sf scan --lines ends each record with its line\n",
+        "sf: record 1: matching failure at 3, used 3, assigned 1\n  directive 3: \"%5x\", x u32 width 5 slot 2\n  at \
+         line 2, column 1 of the input\n  there stood \"g\"\n  the record goes over a newline: sf scan --lines ends \
+         each record with its line\n",
         1,
     ),
     (
@@ -125,7 +128,8 @@ static READINGS: [Reading; 8] = [
         ["1;2", "2:", ""],
         false,
         "1;",
-        "sf: record 2: matching failure at 2, used 2, assigned 1\n  directive 2: \";\", byte \";\"\n  at line 1, column 5 of the input\n  there stood \":\"\n",
+        "sf: record 2: matching failure at 2, used 2, assigned 1\n  directive 2: \";\", byte \";\"\n  at line 1, \
+         column 5 of the input\n  there stood \":\"\n",
         1,
     ),
     (
@@ -188,7 +192,8 @@ fn lent_input_has_no_place(rt: HostRuntime) -> Result<(), Fail> {
     let mut from = Lookahead::<SliceSource<'_>, 4096>::new(SliceSource::new(b"x"));
     let answer = lent(rt.alloc(), &words, &mut from);
     let said =
-        "sf: record 1: matching failure at 1, used 0, assigned 0\n  directive 1: \"%d\", d i32 width - slot 1\n  there stood \"x\"\n";
+        "sf: record 1: matching failure at 1, used 0, assigned 0\n  directive 1: \"%d\", d i32 width - slot 1\n  \
+         there stood \"x\"\n";
     answer.is(&rt, "", said, 1, &"lent");
     Ok(())
 }

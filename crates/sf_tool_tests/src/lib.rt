@@ -6,6 +6,8 @@ mod commands;
 #[cfg(test)]
 mod faults;
 #[cfg(test)]
+mod left;
+#[cfg(test)]
 mod loops;
 #[cfg(test)]
 mod memory;

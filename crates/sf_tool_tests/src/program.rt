@@ -300,7 +300,8 @@ static CASES: [Case; 25] = [
         input: b"",
         writes: u64::MAX,
         failure: ErrorKind::Other,
-        log: "esf: egonee: ecan't be opened\ne  No such file or directory\nesf: eboxe: erecord 1: read fault\ne  at line 1, column 1 of the input\n  Is a directory\no3\n",
+        log: "esf: egonee: ecan't be opened\ne  No such file or directory\nesf: eboxe: erecord 1: read fault\ne  at \
+              line 1, column 1 of the input\n  Is a directory\no3\n",
         status: 3,
     },
     Case {
@@ -453,13 +454,15 @@ fn run_case(rt: &impl Abort, alloc: Global, case: &Case) -> Result<(), Fail> {
         log: &log,
         letter: b'e',
     };
-    let from = Page::new(case.input, false);
+    let mut from = Page::new(case.input, false);
     let terminals = Terminals {
         output: case.terminal,
         errors: case.watched,
     };
     let mut shelf = Shelf;
-    let ended = run_program(alloc, &words, terminals, from, &mut shelf, output, errors);
+    let ended = run_program(
+        alloc, &words, terminals, &mut from, &mut shelf, output, errors,
+    );
     is(rt, &ended.status, &case.status, &case.words);
     let found = log.into_inner();
     is(

@@ -1,11 +1,15 @@
 -- The subcommand that a command without a fault enters has no fault either.
-use Rattle.std.proofs.Common.{◌≡◌, ℕ, Bool, true, false, not, cond, ◌&&◌, List, [], ◌∷◌, length, Option, Some, None, refl, sym, ap, subst, arith, true≢false, codes}
+use Rattle.std.proofs.Common.{◌≡◌, ℕ, Bool, true, false, not, cond, ◌&&◌, List, [], ◌∷◌, length, Option, Some, None, refl, sym, ap, subst}
+use Rattle.std.proofs.Common.{arith, true≢false, codes}
 use Rattle.std.specs.Prelude.{find, fold, is_some}
 use Rattle.std.specs.Option.{option_map, option_map_or}
 use Rattle.std.specs.Str.{bytes_eq}
 use Rattle.clap.specs.Lexer.{long_of, short_of}
 use Rattle.clap.specs.Kinds.{or_else}
-use Rattle.clap.specs.Walk.{answers_to, stop_after, Held, Names, Outcome, Row, Rule, Step, Text, Waiting, Walk, after_flag, after_step, arg_by_index, arg_by_long, bundle, done, idle, long_met, long_or_other, next, nothing_held, option, plain, plain_word, positional, refused, short_or_plain, subcommand, subcommand_met, subcommand_or_other, to_positional, trailing, value, waits, walk_from, walked, walked_from, word_met}
+use Rattle.clap.specs.Walk.{answers_to, stop_after, Held, Names, Outcome, Row, Rule, Step, Text, Waiting, Walk, after_flag, after_step}
+use Rattle.clap.specs.Walk.{arg_by_index, arg_by_long, bundle, done, idle, long_met, long_or_other, next, nothing_held, option, plain}
+use Rattle.clap.specs.Walk.{plain_word, positional, refused, short_or_plain, subcommand, subcommand_met, subcommand_or_other, to_positional}
+use Rattle.clap.specs.Walk.{trailing, value, waits, walk_from, walked, walked_from, word_met}
 use Rattle.clap.specs.Simple.{App, Shape, entered, label_of, names_of, rows_at}
 use Rattle.clap.specs.Faults.{built_fault, entered_fault, level_fault, other_fault, step_fault, turn_fault, walk_fault, word_fault}
 use Rattle.clap.specs.declared.error.ErrorKind.TheVariants as kind

@@ -7,7 +7,8 @@ use Rattle.std.proofs.lemmas.List.{append_assoc}
 use Rattle.clap.specs.Kinds.{or_else}
 use Rattle.clap.specs.Lexer.{long_of}
 use Rattle.clap.specs.Simple.{Shape, subcommand_of}
-use Rattle.clap.specs.Walk.{Held, Row, Step, Text, Walk, after_step, finished, idle, long_or_other, next, nothing_held, option, short_or_plain, trailing, walk, walk_from, walked, word_met}
+use Rattle.clap.specs.Walk.{Held, Row, Step, Text, Walk, after_step, finished, idle, long_or_other, next, nothing_held, option}
+use Rattle.clap.specs.Walk.{short_or_plain, trailing, walk, walk_from, walked, word_met}
 use Rattle.clap.specs.Faults.{bundle_fault, fault_of, flag_word_fault, step_fault, turn_fault, walk_fault, word_fault}
 use Rattle.clap.proofs.OnLiterals.{clap_on_literals}
 use Rattle.sf_words.specs.Hyphens.{begins_with_hyphen, clap_words, joined}

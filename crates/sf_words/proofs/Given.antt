@@ -1,5 +1,6 @@
 -- What the getters of the matches answer, by the rows.
-use Rattle.std.proofs.Common.{◌≡◌, ◌≢◌, ◌⊎◌, inl, inr, ◌∙◌, ap, sym, subst, refl, Bool, true, false, not, cond, ◌==◌, ◌&&◌, ◌||◌, map, true≢false, ℕ, List, [], ◌∷◌, ◌++◌, length, Option, Some, None, Result, Ok, codes, arith, ◌≤◌, ◌<◌, ◌^◌}
+use Rattle.std.proofs.Common.{◌≡◌, ◌≢◌, ◌⊎◌, inl, inr, ◌∙◌, ap, sym, subst, refl, Bool, true, false, not, cond, ◌==◌, ◌&&◌, ◌||◌, map}
+use Rattle.std.proofs.Common.{true≢false, ℕ, List, [], ◌∷◌, length, Option, Some, None, Result, Ok, codes, arith, ◌≤◌, ◌<◌, ◌^◌}
 use Rattle.std.specs.Borrow.{Bor}
 use Rattle.std.specs.Prelude.{find, if◌then◌else◌, option_and_then, option_map, unwrap_or}
 use Rattle.std.specs.Str.{bytes_eq}
@@ -18,7 +19,9 @@ use Rattle.clap.specs.Words.{IsAmong, Kinds, Row}
 use Rattle.clap.specs.declared.error.ErrorKind.{ErrorKind}
 use Rattle.clap.specs.declared.error.ErrorKind.TheVariants as kind
 use Rattle.sf_words.specs.Misuses.{misuse_kind}
-use Rattle.sf_words.specs.Orders.{HasLines, HasTexts, HasTextsFor, IsRefusal, IsRefusalOf, IsWidth, column_faults, conflict_faults, form_faults, format_faults, has_line_option, is_full, is_request, is_set, is_true, line_faults, number_by, number_in, own_faults, texts_by, values_at, verb_text}
+use Rattle.sf_words.specs.Orders.{HasLines, HasTexts, HasTextsFor, IsRefusal, IsRefusalOf, IsWidth, column_faults, conflict_faults}
+use Rattle.sf_words.specs.Orders.{form_faults, format_faults, has_line_option, is_full, is_request, is_set, is_true, line_faults, number_by}
+use Rattle.sf_words.specs.Orders.{number_in, own_faults, texts_by, values_at, verb_text}
 use Rattle.sf_words.specs.declared.misuse.Misuse.{Misuse}
 use Rattle.sf_words.specs.declared.misuse.Misuse.TheVariants.{Form, NoLines, Together, PlainNames, TagAlone, NoFormat}
 use Rattle.sf_words.specs.declared.order.LineOptions.{LineOptions}

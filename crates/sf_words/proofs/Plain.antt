@@ -1,5 +1,6 @@
 -- Words that don't begin with `-`.
-use Rattle.std.proofs.Common.{◌≡◌, ◌∙◌, ◌<◌, ◌^◌, ℕ, Bool, true, false, true≢false, cond, List, [], ◌∷◌, ◌++◌, length, Option, Some, None, is_some, refl, sym, ap, subst, arith, append-nil, codes}
+use Rattle.std.proofs.Common.{◌≡◌, ◌∙◌, ◌<◌, ◌^◌, ℕ, Bool, true, false, true≢false, cond, List, [], ◌∷◌, ◌++◌, length, Option, Some, None}
+use Rattle.std.proofs.Common.{is_some, refl, sym, ap, subst, arith, append-nil, codes}
 use Rattle.std.specs.Prelude.{fold}
 use Rattle.std.specs.List.{AllByRecursion}
 use Rattle.std.specs.Option.{option_map_or}
@@ -8,8 +9,11 @@ use Rattle.std.proofs.lemmas.List.{append_assoc}
 use Rattle.clap.specs.Kinds.{or_else}
 use Rattle.clap.specs.Lexer.{long_of, short_of}
 use Rattle.clap.specs.Simple.{Shape, built, built_leaf, entered, inherited, marked_built, on_top, rows_at, subcommand_of, with_leaf_noted}
-use Rattle.clap.specs.Walk.{Held, Row, Rule, Step, Text, Waiting, Walk, after_step, arg_by_index, finished, idle, long_or_other, nothing_held, option, positional, short_or_plain, to_positional, trailing, value, walk, walk_from, walked, word_met}
-use Rattle.clap.specs.Faults.{bundle_fault, entered_fault, fault_of, flag_word_fault, level_fault, step_fault, turn_fault, walk_fault, word_fault}
+use Rattle.clap.specs.Walk.{Held, Row, Rule, Step, Text, Waiting, Walk, after_step, arg_by_index, finished, idle, long_or_other}
+use Rattle.clap.specs.Walk.{nothing_held, option, positional, short_or_plain, to_positional, trailing, value, walk, walk_from, walked}
+use Rattle.clap.specs.Walk.{word_met}
+use Rattle.clap.specs.Faults.{bundle_fault, entered_fault, fault_of, flag_word_fault, level_fault, step_fault, turn_fault, walk_fault}
+use Rattle.clap.specs.Faults.{word_fault}
 use Rattle.clap.proofs.FaultLemmas.{stopped_fault}
 use Rattle.clap.proofs.OnLiterals.{clap_on_literals}
 use Rattle.clap.proofs.WalkLemmas.{walk_stopped}

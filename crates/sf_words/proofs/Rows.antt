@@ -1,5 +1,6 @@
 -- The rows of a level without a fault: each is of one of its rules, and where that reads one value, the row has one, which passed.
-use Rattle.std.proofs.Common.{◌≡◌, ◌⊎◌, ◌∙◌, ◌<◌, ℕ, Bool, true, false, not, cond, ◌&&◌, ◌||◌, ◌==◌, List, [], ◌∷◌, ◌++◌, length, nat_lt, ◌+◌, min, Option, Some, None, refl, sym, ap, subst, arith, true≢false, inl, inr, append-nil}
+use Rattle.std.proofs.Common.{◌≡◌, ◌⊎◌, ◌∙◌, ◌<◌, ℕ, Bool, true, false, not, cond, ◌&&◌, ◌||◌, ◌==◌, List, [], ◌∷◌, ◌++◌, length, nat_lt}
+use Rattle.std.proofs.Common.{◌+◌, min, Option, Some, None, refl, sym, ap, subst, arith, true≢false, inl, inr, append-nil}
 use Rattle.std.specs.Prelude.{find}
 use Rattle.std.specs.List.{AllByRecursion}
 use Rattle.std.specs.Str.{bytes_eq}
@@ -9,7 +10,9 @@ use Rattle.clap.specs.Facts.{parser_of_value, unwrap_or_range}
 use Rattle.clap.specs.Kinds.{Kinds, range_kinds, request_kinds, value_kinds}
 use Rattle.clap.specs.Matches.{count_text}
 use Rattle.clap.specs.Simple.{Shape}
-use Rattle.clap.specs.Walk.{Row, Rule, Text, action_of, at_row, counted, default_rows, finished, count_of, has_row, is_empty, more_values, most_values, new_count, nothing_held, reading_by, stronger, used, used_as, values_or_missing, walk, with_count, with_default, with_values, without}
+use Rattle.clap.specs.Walk.{Row, Rule, Text, action_of, at_row, counted, default_rows, finished, count_of, has_row, is_empty, more_values}
+use Rattle.clap.specs.Walk.{most_values, new_count, nothing_held, reading_by, stronger, used, used_as, values_or_missing, walk, with_count}
+use Rattle.clap.specs.Walk.{with_default, with_values, without}
 use Rattle.clap.specs.Faults.{action_fault, default_fault, given_default_fault, level_fault, repeat_fault, use_fault, values_fault}
 use Rattle.clap.specs.declared.builder.action.ArgAction.{ArgAction}
 use Rattle.clap.specs.declared.builder.action.ArgAction.TheVariants as action

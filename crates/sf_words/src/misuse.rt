@@ -5,10 +5,10 @@ ghost use Rattle.sf_words.specs.Misuses.{misuse_kind, misuse_kinds};
 ghost use Rattle.sf_words.specs.Options.{is_given_by};
 ghost use Rattle.sf_words.specs.Conflicts.{AreConflicts, are_both_given};
 ghost use Rattle.sf_words.specs.Orders.{IsRefusal, column_faults, form_given, format_faults, has_conflict};
-ghost use Rattle.sf_words.specs.Orders.{has_line_option, has_texts, is_given, is_set, own_faults, verb_text};
+ghost use Rattle.sf_words.specs.Orders.{has_line_option, has_texts, is_form, is_given, is_set, own_faults, verb_text};
 
 use crate::help;
-use crate::options::{CommandOption, OptionValue, all_options};
+use crate::options::{CommandOption, FORMS, OptionValue, all_options};
 use crate::order::{Verb, WordsFault};
 use clap::ArgMatches;
 use clap::parser::ValueSource;
@@ -82,6 +82,18 @@ pub(crate) fn form_given<'a>(given: &ArgMatches<'a>) -> &'a str
     ensures { result.now ≡ form_given (rows_of (found_of given.now)) }
 {
     given.get_str("output").unwrap_or("plain")
+}
+
+/// Whether a form has this name.
+fn is_form(name: &str) -> bool
+    ensures { result ≡ is_form name.now }
+{
+    for form in FORMS {
+        if name == *form {
+            return true;
+        }
+    }
+    false
 }
 
 /// Whether an argument was given texts.
@@ -177,9 +189,9 @@ fn format_misuse<'a>(given: &ArgMatches<'_>) -> Option<Misuse<'a>>
 pub(crate) fn misuse_of<'a>(verb: Verb, given: &ArgMatches<'a>) -> Option<Misuse<'a>>
     ensures { misuse_kinds result ≡ own_faults (verb_text verb) (rows_of (found_of given.now)) }
 {
-    match form_given(given) {
-        "plain" | "tsv" | "json" | "csv" => {}
-        other => return Some(Misuse::Form(other)),
+    let form = form_given(given);
+    if !is_form(form) {
+        return Some(Misuse::Form(form));
     }
     if !is_set(given, "lines") {
         if let Some(option) = line_option(given) {
@@ -222,38 +234,56 @@ fn push_argument(text: &mut String, id: &str) -> Result<(), AllocError> {
     Ok(())
 }
 
-/// Two arguments that are not taken together, as clap writes them.
-fn push_conflict(text: &mut String, conflict: &Conflict) -> Result<(), AllocError> {
+/// An argument that is not taken so, as clap writes it: `how` stands before the other one.
+fn push_refused(text: &mut String, one: &str, how: &str, other: &str) -> Result<(), AllocError> {
     text.push_str("the argument '")?;
-    push_argument(text, conflict.one)?;
-    text.push_str("' cannot be used with '")?;
-    push_argument(text, conflict.other)?;
+    push_argument(text, one)?;
+    write!(text, "' cannot be used {how} '")?;
+    push_argument(text, other)?;
     text.push_str("'")
 }
 
-/// An option that is not taken without `--lines`.
-fn push_no_lines(text: &mut String, option: &CommandOption) -> Result<(), AllocError> {
+/// The names of forms, as clap writes the values that an option takes.
+fn push_forms(text: &mut String, forms: &[&str]) -> Result<(), AllocError> {
+    text.push_str("\n  [possible values: ")?;
+    let mut between = "";
+    for form in forms {
+        write!(text, "{between}{form}")?;
+        between = ", ";
+    }
+    text.push_str("]")
+}
+
+/// A name that no form has.
+fn push_no_form(text: &mut String, name: &str) -> Result<(), AllocError> {
+    write!(text, "invalid value '{name}' for '")?;
+    push_argument(text, "output")?;
+    text.push_str("'")?;
+    push_forms(text, FORMS)
+}
+
+/// Names of values in the plain form, which has none.
+fn push_plain_names(text: &mut String) -> Result<(), AllocError> {
     text.push_str("the argument '")?;
-    push_option(text, option)?;
-    text.push_str("' cannot be used without '--lines'")
+    push_argument(text, "names")?;
+    write!(text, "' cannot be used with '--output {}'", FORMS[0])?;
+    push_forms(text, &FORMS[1..])
 }
 
 /// The text of a misuse, in the form of those of clap.
 fn text_of(alloc: Global, verb: Verb, misuse: Misuse<'_>) -> Result<String, AllocError> {
     let mut text = String::from_str(alloc, "error: ")?;
     match misuse {
-        Misuse::Form(form) => write!(
-            text,
-            "invalid value '{form}' for '--output <FORM>'\n  [possible values: plain, tsv, json, csv]"
+        Misuse::Form(name) => push_no_form(&mut text, name)?,
+        Misuse::NoLines(option) => push_refused(&mut text, option.name, "without", "lines")?,
+        Misuse::Together(conflict) => push_refused(
+            &mut text,
+            conflict.one,
+            "with",
+            conflict.other,
         )?,
-        Misuse::NoLines(option) => push_no_lines(&mut text, option)?,
-        Misuse::Together(conflict) => push_conflict(&mut text, conflict)?,
-        Misuse::PlainNames => text.push_str(
-            "the argument '--names <NAMES>' cannot be used with '--output plain'\n  [possible values: tsv, json, csv]",
-        )?,
-        Misuse::TagAlone => {
-            text.push_str("the argument '--tag' cannot be used without '-e <FORMAT>'")?
-        }
+        Misuse::PlainNames => push_plain_names(&mut text)?,
+        Misuse::TagAlone => push_refused(&mut text, "tag", "without", "formats")?,
         Misuse::NoFormat => text.push_str(
             "the following required arguments were not provided:\n  <FORMAT>",
         )?,

@@ -1,7 +1,8 @@
 //! The options of the command, in one table: `clap`'s line, the help and the misuses of `--lines` come of it.
 ghost use Rattle.std.specs.Prelude.{◌≡◌, false};
 ghost use Rattle.clap.specs.Words.{rule_of};
-ghost use Rattle.sf_words.specs.Options.{AreOptions, is_line_option, is_of, long_rule, option_rule, short_rule, value_rule};
+ghost use Rattle.sf_words.specs.Options.{AreOptions, is_line_option, is_of, long_rule, option_rule, short_rule};
+ghost use Rattle.sf_words.specs.Options.{value_rule};
 
 use crate::order::Verb;
 use clap::builder::ValueParser;
@@ -65,6 +66,9 @@ pub(crate) struct CommandOption {
     /// The line of the help.
     pub help: &'static str,
 }
+
+/// The names of the forms in which the values of a record are written, the plain one first.
+pub(crate) const FORMS: &[&str] = &["plain", "tsv", "json", "csv"];
 
 /// The table.
 static OPTIONS: [CommandOption; 19] = [

@@ -5,7 +5,8 @@ ghost use Rattle.clap.specs.Words.{first_of, found_of, one_of, rows_of, subcomma
 ghost use Rattle.clap.specs.Walk.{texts};
 ghost use Rattle.sf_words.specs.Orders.{HasLines, IsOrder, IsOrderOf, IsRefusal, IsRefusalOf, IsWidth};
 ghost use Rattle.sf_words.specs.Orders.{entered_faults, faults_of, files_by, form_given, is_form, is_set, notes_by};
-ghost use Rattle.sf_words.specs.Orders.{number_by, number_in, output_text, profile_number, scan_formats, texts_by, values_at};
+ghost use Rattle.sf_words.specs.Orders.{number_by, number_in, output_text, profile_number, scan_formats, texts_by};
+ghost use Rattle.sf_words.specs.Orders.{values_at};
 ghost use Rattle.sf_words.specs.Orders.{verb_text};
 ghost use Rattle.sf_words.specs.Taken.{IsTaken, IsVerb, IsWithin};
 

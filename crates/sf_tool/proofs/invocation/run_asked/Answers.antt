@@ -1,4 +1,4 @@
-use Rattle.std.proofs.Common.{refl, None, subst}
+use Rattle.std.proofs.Common.{refl, None, rules, subst}
 use Rattle.sf_tool.specs.Exits.{CanRun, unread_of}
 use Rattle.sf_tool.proofs.invocation.run_asked.Goals as goal
 
@@ -10,8 +10,10 @@ returns-in-Ok g c = rw c.in-Ok.is c.run_source.ensures
 
 pub returns-in-Err : goal.returns-in-Err
 returns-in-Err g c = rw c.in-Err.is (record {
-  left = unread_of c.args.from;
+  left = unread_of c.args.from.now;
   place = None;
   done = (refl, c.decline.ensures);
   placed = tt;
+  back = refl;
+  few = search rules;
 })

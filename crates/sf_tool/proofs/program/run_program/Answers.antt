@@ -42,5 +42,5 @@ returns-in-Err g c = record {
   start = c.new-errors.ensures.contents;
   sound = c.new-errors.ensures.failures;
   end = sym c.into_writer-in-Err.ensures;
-  does = inr (refl, c.in-Err.ensures.back, c.say_fault.ensures, c.status.ensures);
+  does = inr (refl, refl, c.in-Err.ensures.back, c.say_fault.ensures, c.status.ensures);
 }

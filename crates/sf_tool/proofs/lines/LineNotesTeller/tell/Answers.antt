@@ -7,7 +7,7 @@ use Rattle.sf_tool.proofs.Lining.{says_more}
 use Rattle.sf_tool.proofs.lines.LineNotesTeller.tell.Goals as goal
 
 pub more_of_line-requires : goal.more_of_line-requires
-more_of_line-requires g c = λ x is. absurd (cc)
+more_of_line-requires g c = c.args.self.now.known
 
 pub returns-clause-told : goal.returns-clause-told
 returns-clause-told g c telling says =

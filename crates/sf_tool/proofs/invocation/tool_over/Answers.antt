@@ -1,6 +1,6 @@
 use Rattle.std.proofs.Common.{map, string_bytes}
 use Rattle.sf_tool.proofs.Asking.{can_run, was_read}
-use Rattle.sf_tool.proofs.invocation.tool.Goals as goal
+use Rattle.sf_tool.proofs.invocation.tool_over.Goals as goal
 
 pub run_asked-requires : goal.run_asked-requires
 run_asked-requires g c = can_run (map string_bytes c.args.words.now) c.read_words-asked.result c.read_words-asked.ensures.order
