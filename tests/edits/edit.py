@@ -4,10 +4,13 @@ r"""An edit: a wrong body that the prover must refuse. A file tests/edits/CRATE/
     in: step                     the next texts are looked for in the body of this function alone
     old: self.left               a text that stands there exactly once
     new: None                    what stands in its place; further pairs apply to what the earlier ones made
+    by: laws::says               of a definition: the function whose proof must be refused
 
 An edit changes the body of one function, or a table (a `static`, a `const`), or a definition that a law holds to account: of specs/,
 or of an `impl` for its trait (`ghost says = { .. }`). It changes no clause: an edit of what is promised shows nothing of the code.
 """
+import functools
+import glob
 import os
 import re
 
@@ -16,6 +19,7 @@ NO_CODE = re.compile(r"""//[^\n]*|/\*.*?\*/|b?"(?:[^"\\]|\\.)*"|b?'(?:\\[^\n]{1,
 CLAUSES = ("requires", "ensures", "ghost")
 
 
+@functools.lru_cache(maxsize=None)
 def without_text(text):
     """The source with each letter of its comments and strings blank, so that each place stays where it is."""
     return NO_CODE.sub(lambda it: re.sub(r"[^\n]", " ", it[0]), text)
@@ -61,22 +65,73 @@ def definitions(text):
         yield head.end() - 1, closing(text, head.end() - 1)
 
 
+def generics(head):
+    """The head of a block without what stands in angle brackets, and the words that stand in each of them."""
+    text, depth, words = "", 0, []
+    for at, letter in enumerate(head):
+        depth += letter == "<"
+        if not depth:
+            text += letter
+        elif letter == "<" and depth == 1:
+            words.append("")
+        words[-1:] = [words[-1] + letter] if depth else words[-1:]
+        depth -= letter == ">" and head[at - 1] != "-"
+    return text, [re.findall(r"(?<!')\b[A-Za-z]\w*", it) for it in words]
+
+
+BLOCK = re.compile(r"^[ \t]*(?:pub\s+)?(?:unsafe\s+)?(impl|trait)\b([^{;]*)\{", re.M)
+PLAIN = re.compile(r"\s*(?:\w+::)*([A-Z]\w*)\s*")
+
+
+def block_at(text, at):
+    """The type and the trait of the `impl` in which a place of a source stands. Of a trait the first is empty, as the second is of an
+    `impl` of a type alone, and both are of a place in no block. None: what stands there is no plain name, or a type at given arguments."""
+    text = without_text(text)
+    for block in BLOCK.finditer(text):
+        if block.end() <= at < closing(text, block.end() - 1):
+            head, words = generics(re.split(r"\bwhere\b", block[2])[0])
+            if block[1] == "trait":
+                names = PLAIN.fullmatch(head.split(":")[0])
+                return names and ("", names[1])
+            own = words.pop(0) if block[2].startswith("<") else []
+            names = [it and it[1] for it in map(PLAIN.fullmatch, re.split(r"\bfor\b", head)[::-1])]
+            return (*names, "")[:2] if all(names) and not {it for some in words for it in some} - {*own} else None
+    return "", ""
+
+
+def module_of(file):
+    return [it for it in file[len("src/") : -len(".rt")].split("/") if it not in ("lib", "main", "mod")]
+
+
+@functools.lru_cache(maxsize=None)
+def types_of(folder):
+    """The modules in which a crate declares a type of each name."""
+    found = {}
+    for file in glob.glob(f"{folder}/src/**/*.rt", recursive=True):
+        with open(file, encoding="utf-8") as it:
+            for name in re.findall(r"\b(?:struct|enum)\s+(\w+)", without_text(it.read())):
+                found.setdefault(name, []).append(module_of(os.path.relpath(file, folder)))
+    return found
+
+
 class BadEdit(Exception):
     """Why an edit can't be applied, or shows nothing."""
 
 
 class Edit:
     """A wrong body. `texts` has each changed file before and after; `place` is the file and the function that it changes, or None
-    where it changes a definition. `bad` says why it can't be applied."""
+    where it changes a definition. `asks` is what a check must judge: a function, its module where its name is not known, or, of a
+    definition that names nothing, None. `bad` says why it can't be applied."""
 
     def __init__(self, crate, folder, path):
         self.name, self.folder, self.how = f"{crate}/{os.path.basename(path)}", folder, ""
-        self.crate, self.texts, self.bad, self.place, self.spans = crate, {}, None, None, []
+        self.crate, self.texts, self.bad, self.place, self.spans, self.by, self.asks = crate, {}, None, None, [], None, None
         try:
             with open(path, encoding="utf-8") as it:
                 self.apply(it.read().split("\n"))
             self.spans = [self.span(file, *both) for file, both in self.texts.items()]
             self.place = self.changed()
+            self.asks = self.asked()
         except BadEdit as why:
             self.bad = str(why)
 
@@ -88,6 +143,8 @@ class Edit:
                 file, function = self.file_of(value.strip()), None
             elif key == "in":
                 function = value.strip()
+            elif key == "by":
+                self.by = value.strip()
             elif key == "old":
                 old = value
             elif key == "new":
@@ -131,11 +188,32 @@ class Edit:
             raise BadEdit("what it changes is neither the body of one function nor a definition")
         return (file, inside[0]) if inside else None
 
-    def names(self):
-        """What a check may call the function, for any type of the module, and what stands inside it. A round has one edit of them."""
+    def asked(self):
+        """What a check must judge, by the name that it prints."""
+        if not self.place:
+            return self.by and f"{self.crate}::{self.by}"
+        if self.by:
+            raise BadEdit("it names a function to be refused, and changes one")
         file, name = self.place
-        module = [it for it in file[len("src/") : -len(".rt")].split("/") if it not in ("lib", "main", "mod")]
-        return re.compile("::".join([self.crate, *module]) + rf"(::[^:]+)?::{name}(::.*)?")
+        text, at = self.texts[file][0], self.spans[0][1]
+        block = block_at(text, at)
+        module = module_of(file) if block is None or not block[0] else self.home(block[0])
+        self.is_function = block is not None and module is not None
+        path = [*module, *filter(None, ["".join(block)]), name] if self.is_function else module_of(file)
+        return "::".join([self.crate, *path]) if path else None
+
+    def home(self, name):
+        """The module of a type of the crate, or None where it has none of that name, or several."""
+        found = types_of(self.folder).get(name, [])
+        return found[0] if len(found) == 1 else None
+
+    def names(self):
+        """What a check may call the function, and what stands inside it; of one whose name is not known, for any type of its module. A
+        round has one edit of them."""
+        if not self.place or self.is_function:
+            return re.compile(rf"{re.escape(self.asks)}(::.*)?")
+        file, name = self.place
+        return re.compile("::".join([self.crate, *module_of(file)]) + rf"(::[^:]+)?::{name}(::.*)?")
 
 
 def replaced(text, file, function, old, new):

@@ -1,4 +1,7 @@
-"""The runner itself, tried over a crate that is made up: a wrong body among right ones is refused, and nothing else is."""
+"""The runner itself, tried over a crate that is made up: the wrong bodies are refused, each for its own function, and nothing else is.
+
+The crate is taken as `rt ci` leaves one: proved, with nothing kept of its proof.
+"""
 import os
 
 import kit
@@ -9,6 +12,8 @@ SOURCE = """//! Numbers that follow one another.
 #![tactic(auto)]
 
 ghost use Rattle.std.specs.Prelude.{◌≡◌, ◌+◌, ◌<◌};
+
+pub mod steps;
 
 /// The next number.
 pub fn next(n: u8) -> u8
@@ -37,7 +42,69 @@ pub fn third(n: u8) -> u8
 }
 """
 
-# Each edit, and how what is said of it must begin. `same` is harmless, in a caller of what `twice` makes wrong.
+STEPS = """//! Steps of a width.
+ghost use Rattle.std.specs.Prelude.{◌≡◌};
+
+/// The widest step.
+pub const WIDEST: u8 = 9;
+
+/// The width of the widest step.
+pub fn widest() -> u8
+    ensures { result ≡ 9 }
+{
+    WIDEST
+}
+
+/// A step.
+pub struct Step {
+    /// How wide it is.
+    pub width: u8,
+}
+
+impl Step {
+    /// How wide it is.
+    pub fn size(&self) -> u8
+        ensures { result ≡ self.now.width }
+    {
+        self.width
+    }
+}
+
+/// What has a width.
+pub trait Wide {
+    /// How wide it is.
+    fn width(&self) -> u8;
+}
+
+impl Wide for Step {
+    fn width(&self) -> u8
+        ensures { result ≡ self.now.width }
+    {
+        Step::size(self)
+    }
+}
+
+impl Wide for u8 {
+    fn width(&self) -> u8
+        ensures { result ≡ self.now }
+    {
+        *self
+    }
+}
+
+/// The widths of what is not shown.
+pub mod hidden {
+    /// The width of a hidden step.
+    pub fn width() -> u8
+        ensures { result ≡ 3 }
+    {
+        1 + 2
+    }
+}
+"""
+
+# Each edit, and how what is said of it must begin. `same` is harmless, in a caller of what `twice` makes wrong. Of the three functions
+# `width` one is of a trait for a type, one can be named by its module alone, and the last has another name than the runner finds.
 EDITS = {
     "next.twice": ("in: next\nold: n + 1\nnew: n * 1", "low::next: "),
     "after_next.same": ("old: let following = next(n);\nnew: let following: u8 = next(n);", "NOT REFUSED"),
@@ -46,6 +113,15 @@ EDITS = {
     "third.text_is_there_twice": ("old: next(following)\nnew: following", "BAD EDIT"),
     "third.clause_changed": ("old: result ≡ n + 3\nnew: result ≡ result", "BAD EDIT"),
     "third.nothing_changed": ("in: third\nold: next(following)\nnew: next(following)", "BAD EDIT"),
+    "third.judged_by_another": ("in: third\nold: next(following)\nnew: following\nby: next", "BAD EDIT"),
+    "third.stays": ("in: third\nold: next(following)\nnew: following", "low::third: "),
+    "steps.size.none_of_a_step": ("in: size\nold: self.width\nnew: 0", "low::steps::Step::size: "),
+    "steps.width.none_of_a_wide_step": ("in: width\nold: Step::size(self)\nnew: 0", "low::steps::StepWide::width: "),
+    "steps.width.none_of_a_number": ("in: width\nold: *self\nnew: 0", "low::steps::U8Wide::width: "),
+    "steps.width.none_of_a_hidden_step": ("in: width\nold: 1 + 2\nnew: 1 + 1", "low::steps::hidden::width: "),
+    "steps.widest.eight": ("old: u8 = 9;\nnew: u8 = 8;\nby: steps::widest", "alone: low::steps::widest: "),
+    "steps.widest.judged_by_another": ("old: u8 = 9;\nnew: u8 = 8;\nby: steps::Step::size", "NOT REFUSED by"),
+    "steps.widest.judged_by_none": ("old: u8 = 9;\nnew: u8 = 8;\nby: steps::narrowest", "NOT REFUSED by"),
 }
 
 
@@ -59,8 +135,9 @@ def made_up(root):
     """Writes the crate and its edits, and answers these."""
     written(f"{root}/crates.txt", "low:\n")
     written(f"{root}/crates/low/src/lib.rt", SOURCE)
+    written(f"{root}/crates/low/src/steps.rt", STEPS)
     for name, (lines, _) in EDITS.items():
-        written(f"{root}/{name}.edit", f"file: src/lib.rt\n{lines}\n")
+        written(f"{root}/{name}.edit", f"file: src/{'steps' if name.startswith('steps.') else 'lib'}.rt\n{lines}\n")
     return {name: Edit("low", f"{root}/crates/low", f"{root}/{name}.edit") for name in EDITS}
 
 
@@ -71,13 +148,15 @@ def tried(room, with_prover=True, by_command=False):
     edits, refused = made_up(root), []
     if with_prover:
         os.makedirs(f"{room}/tries")
-        tries = Tries(kit.chosen(root, room, by_command=by_command), "low", f"{room}/tries")
+        prover = kit.chosen(root, room, by_command=by_command)
+        prover.is_proved = lambda crate: True
+        tries = Tries(prover, "low", f"{room}/tries")
         refused = tries.all([it for it in edits.values() if not it.bad]) if tries.prepare() else []
         print(f"== the runner itself: {len(edits)} edits of a crate that is made up, {tries.checks} checks", *tries.notes, sep="\n")
     judged, failed = {name: it for name, it in edits.items() if it.bad or with_prover}, 0
     for name, edit in judged.items():
         found, wanted = f"BAD EDIT: {edit.bad}" if edit.bad else edit.how, EDITS[name][1]
-        if not found.startswith(wanted) or (edit in refused) != wanted.startswith("low::"):
+        if not found.startswith(wanted) or (edit in refused) != wanted.startswith(("low::", "alone: ")):
             failed += 1
             print(f"the runner itself: {name}: wanted {wanted}.., found: {found[:200]}")
     return len(judged) - failed, failed

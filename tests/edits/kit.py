@@ -37,7 +37,8 @@ def sources(folder, to, texts):
 
 
 class Said:
-    """What a check said: its exit status, its lines, and how long it was at each function, the longest first."""
+    """What a check said: its exit status, its lines, the seconds of a processor that it took, and how long it was at each function, the
+    longest first."""
 
     def __init__(self, words, folder):
         self.lines, self.times, last = [], [], time.monotonic()
@@ -50,6 +51,8 @@ class Said:
                     last = time.monotonic()
                 elif line.strip():
                     self.lines.append(line.rstrip("\n"))
+            _, status, used = os.wait4(running.pid, 0)
+            running.returncode, self.processor = os.waitstatus_to_exitcode(status), used.ru_utime + used.ru_stime
         self.status, self.lines = running.returncode, self.lines or [""]
         self.times.sort(reverse=True)
 
@@ -94,6 +97,10 @@ class ByCommand:
                 return False
         return True
 
+    def is_proved(self, crate):
+        """Whether it is known without a check that the crate is proved as it stands."""
+        return False
+
     def kept(self, crate):
         """What earlier checks of the crate kept, if anything."""
         kept = f"{self.folder(crate)}/out/incremental"
@@ -115,12 +122,26 @@ class ByCommand:
             return said
 
 
+def remembered(method):
+    """A method of a crate that answers at once what it answered before: the sources of a clone stay as they are while its edits are tried."""
+    answers = {}
+
+    def call(crate):
+        if crate.folder not in answers:
+            answers[crate.folder] = method(crate)
+        return answers[crate.folder]
+
+    return call
+
+
 class OverLibraries(ByCommand):
     """By rt's own module."""
 
     def __init__(self, root, room, rtlib, after_ci):
         super().__init__(root, room)
         self.rtlib, self.after_ci = rtlib, after_ci
+        # It sums the sources of a crate once for each path of crates.txt that leads there, which are thousands.
+        rtlib.Crate.stamp = remembered(rtlib.Crate.stamp)
         self.crates = {it.name: it for it in rtlib.crates_below(root)}
         # Its first call sets a signal's handler, which only the main thread may.
         rtlib.guarded()
@@ -128,6 +149,11 @@ class OverLibraries(ByCommand):
     def build(self, crates):
         below = {it.name: it for name in crates for it in self.crates[name].below()}
         return self.after_ci or not any(it.build_rlib(["--jobs", "1"], anew=False) for it in below.values() if not it.is_built())
+
+    def is_proved(self, crate):
+        """`rt ci` has left a library where it proved the crate, without the stamp by which rt tells of what text a library is."""
+        made = os.path.dirname(self.crates[crate].rlib)
+        return self.after_ci and os.path.isfile(f"{made}/{crate}.rlib/format") and not os.path.isfile(f"{made}/stamp")
 
     def kept(self, crate):
         is_built = all(it.is_built() for it in self.crates[crate].below())
@@ -141,7 +167,7 @@ class OverLibraries(ByCommand):
             return Said([*self.rtlib.guarded(), self.rtlib.RATTLE, "check", *words], copy)
 
 
-NEEDED = ("RATTLE", "Crate.below", "Crate.build_rlib", "Crate.is_built", "Crate.words", "crates_below", "guarded")
+NEEDED = ("RATTLE", "Crate.below", "Crate.build_rlib", "Crate.is_built", "Crate.stamp", "Crate.words", "crates_below", "guarded")
 
 
 def rtlib_of(rt):

@@ -3,7 +3,11 @@
 A round is one check of a crate with an edit in each of many functions, past what is refused (`--allow-holes`). Callers see contracts
 alone, and an edit changes a body alone, so that the goals of each function are those that it has with its own edit alone. An edit
 counts as refused only where the function that it changes is refused for itself: a declaration of its own proof, or a goal that the
-search left there. What a round can't judge is tried alone.
+search left there. What a round can't judge is tried alone, and so is an edit of a definition, which names the function that it shows.
+
+A round asks for the functions that it changes (`--only`), and the prover then reads these and those that they call. So a crate that
+`rt ci` has proved isn't proved once more before its rounds, and each of them keeps for the next what it proved. The whole crate is
+proved only for an edit that no function of its own refuses.
 """
 import contextlib
 import os
@@ -16,6 +20,7 @@ from edit import applied
 from kit import linked
 
 PROVED = ("no holes", "proved", "depends on a hole")
+REFUSED = ("not proved", "no proof")
 # Lines of `rattle check --allow-holes`, such as
 #   fn sf_base::runs::cut: not proved; it stands on `Rattle.sf_base.proofs.runs.cut.Answers.stops`, which antt refuses
 #   fn sf_base::runs::cut: no proof: .. `search` did not prove `returns`
@@ -23,6 +28,8 @@ PROVED = ("no holes", "proved", "depends on a hole")
 FUNCTION = re.compile(r"fn (\S+): (.*)")
 ERROR = re.compile(r"(?:\./)?(src/\S+?):(\d+):\d+: error")
 DECLARATION = re.compile(r"`Rattle\.(\w+)\.proofs\.([^`]+)`")
+# What it says where `--only` has a name that the crate lacks, or that several functions have.
+NO_SUCH = re.compile(r"rattle: error: .*(?:has no function|several functions are named)")
 CALLED = re.compile(r"(?:calls|passes|a call of|the block|and) `([^`]+)`")
 
 
@@ -37,10 +44,16 @@ def is_own(how, names):
 
 
 def refusal(said, edit):
-    """The line that refuses the edit's function for itself, if one does."""
+    """The line that refuses the edit's function for itself, if one does; of a definition, the line that refuses the function that it names,
+    for itself or for a lemma."""
     names = edit.names()
-    found = filter(None, map(FUNCTION.fullmatch, said.lines))
-    return next((it[0][3:] for it in found if names.fullmatch(it[1]) and is_own(it[2], names)), None)
+    found = [it for it in map(FUNCTION.fullmatch, said.lines) if it and names.fullmatch(it[1])]
+    return next((it[0][3:] for it in found if (is_own(it[2], names) if edit.place else it[2].startswith(REFUSED))), None)
+
+
+def has_ended(said):
+    """Whether a check past what is refused came to its end."""
+    return any(re.match(r"(?:only=\d+ )?holes=", it) for it in said.lines[-6:])
 
 
 class Tries:
@@ -48,39 +61,61 @@ class Tries:
 
     def __init__(self, kit, crate, room):
         self.kit, self.crate, self.kept, self.room = kit, crate, f"{room}/kept", room
-        self.notes, self.times, self.checks, self.began = [], [], 0, time.monotonic()
+        self.notes, self.times, self.checks, self.began, self.processor = [], [], 0, time.monotonic(), 0.0
+        # (whether the crate was proved as it stands, and its proofs lie in `kept`)
+        self.is_whole = False
 
     def check(self, texts, kept, *flags):
         said = self.kit.check(self.crate, texts, kept, *flags)
         self.checks += 1
+        self.processor += said.processor
         self.times = sorted(self.times + said.times, reverse=True)
         return said
 
     def prepare(self):
-        """Proves the crate as it stands, over what earlier checks kept, and keeps what it proves. Answers whether it is proved."""
+        """Takes what earlier checks kept of the crate. Answers whether it is proved as it stands."""
         own = self.kit.kept(self.crate)
         if own:
             linked(own, self.kept)
         os.makedirs(self.kept, exist_ok=True)
-        said = self.check({}, self.kept)
-        if said.status:
-            self.notes += ["the crate as it stands is not proved:", *said.lines[-12:]]
-        return said.status == 0
+        return self.kit.is_proved(self.crate) or self.proved()
+
+    def proved(self):
+        """Proves the crate as it stands, once, and keeps what it proves. Answers whether it is proved."""
+        if not self.is_whole:
+            said = self.check({}, self.kept)
+            self.is_whole = not said.status
+            self.notes += ["the crate as it stands is not proved:", *said.lines[-12:]] if said.status else []
+        return self.is_whole
 
     @contextlib.contextmanager
-    def copy(self):
-        """A copy of the kept work."""
+    def over(self):
+        """The kept work, to which a check adds what it proves. Once the whole crate is proved there: a copy, so that it stays."""
+        if not self.is_whole:
+            yield self.kept
+            return
         copy = tempfile.mkdtemp(dir=self.room)
         linked(self.kept, copy)
         yield copy
         shutil.rmtree(copy, ignore_errors=True)
 
+    def asked(self, edits, texts):
+        """A check of what the edits ask for, past what is refused; of the whole crate, where it has no function of such a name."""
+        names = dict.fromkeys(it.asks for it in edits)
+        flags = [] if None in names else [word for name in names for word in ("--only", name)]
+        with self.over() as kept:
+            said = self.check(texts, kept, "--allow-holes", *flags)
+        if said.status == 2 and edits[0].place and flags and any(map(NO_SUCH.match, said.lines)):
+            for it in edits:
+                it.asks, it.is_function = None, False
+            return self.asked(edits, texts) if self.proved() else said
+        return said
+
     def round(self, edits):
         """Tries edits at once. Answers those that are refused, and those to be tried alone."""
         texts, lines = applied(edits)
-        with self.copy() as kept:
-            said = self.check(texts, kept, "--allow-holes")
-        if not any(it.startswith("holes=") for it in said.lines[-3:]):
+        said = self.asked(edits, texts)
+        if not has_ended(said):
             # What the front end refuses is tried alone, and the others once more without it.
             errors = filter(None, map(ERROR.match, said.lines))
             wrong = {lines.get((it[1], int(it[2]))) for it in errors}
@@ -92,9 +127,25 @@ class Tries:
         return [it for it in edits if it.how], [it for it in edits if not it.how]
 
     def alone(self, edit):
-        """Tries an edit by itself, and answers whether it is refused."""
-        with self.copy() as kept:
-            said = self.check({file: now for file, (_, now) in edit.texts.items()}, kept)
+        """Tries an edit by itself, and answers whether it is refused: by the function that it changes or names, or else by the crate."""
+        texts = {file: now for file, (_, now) in edit.texts.items()}
+        if edit.asks:
+            said = self.asked([edit], texts)
+            how = refusal(said, edit) if has_ended(said) else None
+            if how:
+                edit.how = f"alone: {how}"
+                return True
+            if edit.by:
+                edit.how = f"NOT REFUSED by {edit.by}: {said.last()}"
+                return False
+            if said.status == 1 and not has_ended(said):
+                edit.how = f"BAD EDIT: {said.last()}"
+                return False
+        if not self.proved():
+            edit.how = "the crate as it stands is not proved"
+            return False
+        with self.over() as kept:
+            said = self.check(texts, kept)
         if said.status == 1 and said.last().startswith("logic=not-proved"):
             told = (it for it in said.lines if re.match(r"(note: )?\S+:\d+:\d+:", it))
             edit.how = "alone: " + next(told, said.last())

@@ -36,7 +36,8 @@ echo "fn $crate::one: proved"
 is fails && { echo "error: something is not proved"; exit 1; }
 is waits && { echo "rt: waiting for another rt to finish in $crate"; sleep 2.5; }
 [ -e "$room/slow" ] && sleep "$(cat "$room/slow")"
-is endless && { echo $$ >"$room/process of $crate"; exec sleep 1000; }
+# (its file appears whole, or, when it is stopped before, not at all)
+is endless && { echo $$ >"$room/new of $crate"; mv "$room/new of $crate" "$room/process of $crate"; exec sleep 1000; }
 mkdir -p out/incremental out/rlib
 if [ "$*" = lib ]; then
     touch out/rlib/stamp
