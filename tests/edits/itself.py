@@ -6,7 +6,7 @@ import os
 
 import kit
 from edit import Edit
-from rounds import Tries
+from rounds import Tries, is_own
 
 SOURCE = """//! Numbers that follow one another.
 #![tactic(auto)]
@@ -124,6 +124,18 @@ EDITS = {
     "steps.widest.judged_by_none": ("old: u8 = 9;\nnew: u8 = 8;\nby: steps::narrowest", "NOT REFUSED by"),
 }
 
+# What is said of the function `low::next`, and whether it is refused by that for its own proof.
+SAID = {
+    "no holes": False,
+    "depends on a hole in `Rattle.low.proofs.next.Answers.returns`": False,
+    "could not tell": False,
+    "not proved; it calls `low::third`, whose theorem is not proved": False,
+    "not proved": True,
+    "not proved; it stands on `Rattle.low.proofs.next.Answers.returns`, which antt refuses": True,
+    "not proved; it stands on `Rattle.low.proofs.third.Answers.returns`, which antt refuses": False,
+    "no proof: expected answers in ./proofs/next/Answers.antt; `search` did not prove `returns`": True,
+}
+
 
 def written(path, text):
     os.makedirs(os.path.dirname(path), exist_ok=True)
@@ -159,4 +171,8 @@ def tried(room, with_prover=True, by_command=False):
         if not found.startswith(wanted) or (edit in refused) != wanted.startswith(("low::", "alone: ")):
             failed += 1
             print(f"the runner itself: {name}: wanted {wanted}.., found: {found[:200]}")
-    return len(judged) - failed, failed
+    for how, wanted in SAID.items():
+        if is_own(how, edits["next.twice"].names()) != wanted:
+            failed += 1
+            print(f"the runner itself: wanted {wanted} of what is said: {how}")
+    return len(judged) + len(SAID) - failed, failed

@@ -20,6 +20,8 @@ from edit import applied
 from kit import linked
 
 PROVED = ("no holes", "proved", "depends on a hole")
+# (the prover ran out of memory or steps: that shows nothing of the function)
+UNTOLD = "could not tell"
 REFUSED = ("not proved", "no proof")
 # Lines of `rattle check --allow-holes`, such as
 #   fn sf_base::runs::cut: not proved; it stands on `Rattle.sf_base.proofs.runs.cut.Answers.stops`, which antt refuses
@@ -35,7 +37,7 @@ CALLED = re.compile(r"(?:calls|passes|a call of|the block|and) `([^`]+)`")
 
 def is_own(how, names):
     """Whether a function is refused for its own proof: a declaration of it, or a goal that the search left."""
-    if how.startswith(PROVED):
+    if how.startswith(PROVED) or how.startswith(UNTOLD):
         return False
     if "did not prove" in how:
         return True
