@@ -1,24 +1,13 @@
 -- A line that is held whole, with its newline.
-use Rattle.std.proofs.Common.{◌≡◌, ℕ, ◌+◌, ◌≤◌, true, false, true≢false, List, [], ◌∷◌, ◌++◌, length, take, drop, Option}
-use Rattle.std.proofs.Common.{inl, refl, sym, ap, ap₂, subst, ◌==◌, ◌∙◌, arith, append_assoc, length-append}
-use Rattle.std.proofs.Math.Seq.{take-append_seam}
-use Rattle.std.proofs.lemmas.List.{length-take-le, take_all}
+use Rattle.std.proofs.Common.{◌≡◌, ℕ, ◌+◌, true, false, true≢false, List, [], ◌∷◌, ◌++◌, length, take, drop, Option}
+use Rattle.std.proofs.Common.{inl, refl, sym, ap, ap₂, subst, ◌==◌, ◌∙◌, arith, append_assoc}
+use Rattle.std.proofs.lemmas.List.{take_all}
 use Rattle.sf_read.specs.Ahead.{Ahead}
 use Rattle.sf_line.specs.Cut.{IsLine}
 use Rattle.sf_line.specs.Reading.{IsHeld, Took}
 use Rattle.sf_line.proofs.Gathering.{loses}
 
 -- ---- the line
-
--- the bytes up to its newline
-pub with_line_end : (held : List ℕ) (len : ℕ) → len ≤ length held → held ≡ take len held ++ 10 ∷ drop (len + 1) held
-    → take (len + 1) held ≡ take len held ++ 10 ∷ []
-with_line_end held len within is =
-    let line : List ℕ = take len held ++ 10 ∷ [] in
-    let size : length line ≡ len + 1 = let sum = length-append (take len held) (10 ∷ []) in let few =
-    length-take-le len held within in omega (arith, sum, few) in
-    let all : held ≡ line ++ drop (len + 1) held = is ∙ sym (append_assoc (take len held) (10 ∷ []) (drop (len + 1) held)) in
-    ap (take (len + 1)) all ∙ ap (λ (n : ℕ). take n (line ++ drop (len + 1) held)) (sym size) ∙ take-append_seam line (drop (len + 1) held)
 
 -- it was taken, with its newline
 pub takes : {S : Type 0} (to_come : S → Option (List ℕ)) (old new : Ahead S) (len : ℕ) → IsHeld old.held len → old.at_end ≡ false

@@ -147,9 +147,8 @@ pub fn held_line<S: Source, const N: usize>(from: &Lookahead<S, N>, limit: usize
 
 /// Reads the next line of what the lookahead holds and its source gives, without its newline, in place of what was read
 /// last, as fgets reads one (C11 7.21.7.2). Of a line of more than `limit` bytes these first ones are read, and the
-/// others passed over; by the limit 0 each line is passed over. No memory is taken where the vector has room for
-/// the line, or for
-/// `limit` bytes; where it is refused, the answer is NoMemory, and what was read of the line is lost.
+/// others passed over; by the limit 0 each line is passed over. No memory is taken where the vector has room for the
+/// line, or for `limit` bytes; where it is refused, the answer is NoMemory, and what was read of the line is lost.
 pub fn next_line<S: Source, const N: usize>(
     from: &mut Lookahead<S, N>,
     line: &mut Vec<u8>,

@@ -26,7 +26,7 @@ use std::alloc::Global;
 
 /// How many bytes after a line are looked at with it: its newline and some of the next line, so that the last item of
 /// the line is read at once, as the others are.
-const BYTES_BEHIND: usize = 17;
+const BYTES_AFTER: usize = 17;
 
 /// Takes the next line, of so many bytes, and judges it where it stands.
 #[inline(always)]
@@ -63,7 +63,7 @@ fn take_held<M: Maker, E: Teller<K>, S: Source, K: Sink, const N: usize>(
     ensures ended { from.new.at_end ≡ from.old.at_end }
 {
     let held = from.held();
-    let (seen, _) = held.split_at(held.len().min(len + BYTES_BEHIND));
+    let (seen, _) = held.split_at(held.len().min(len + BYTES_AFTER));
     let (line, _) = held.split_at(len);
     let judged = judge(
         alloc, store, line, seen, number, to, maker, teller, formats, options,

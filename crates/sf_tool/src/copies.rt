@@ -6,7 +6,7 @@ ghost use Rattle.sf_jobs.specs.CopyFormats.{IsOwnUnpaired, line_of};
 ghost use Rattle.sf_tool.specs.Copies.{CopiesAligned, CopiesPair, line_options};
 ghost use Rattle.sf_console.specs.Fronts.{file_name};
 
-use crate::lines::lines_with;
+use crate::lines::{LineScan, lines_with};
 use sf_console::Console;
 use sf_jobs::CopyFormats;
 use sf_lines::LineFormats;
@@ -51,14 +51,19 @@ fn copy_by_pair<S: Source, K: Sink, E, C: Console<K, E>, const N: usize>(
 {
     let mut maker = CopyMaker::new(pair);
     let line = formats.line();
-    let lines = LineFormats {
+    let tried = LineFormats {
         ignored: &[],
         tried: slice::from_ref(&line.format),
     };
     let how = line_options(options, formats);
-    lines_with::<CopyMaker<'_, '_>, S, K, E, C, N>(
-        alloc, explain, &mut maker, &lines, &line.text, order, how, from, out, err,
-    )
+    let scan = LineScan {
+        explain,
+        formats: &tried,
+        text: &line.text,
+        order,
+        options: how,
+    };
+    lines_with::<CopyMaker<'_, '_>, S, K, E, C, N>(alloc, &scan, &mut maker, from, out, err)
 }
 
 /// Copies the lines of what the lookahead holds and its source gives by the formats, where they are a pair, and answers

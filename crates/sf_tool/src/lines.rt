@@ -48,6 +48,24 @@ pub(crate) struct Voice<'t, 's> {
     file: Option<&'t str>,
 }
 
+/// How an order scans its lines, and by which format and bytes more is said of one that is no match.
+#[derive(Clone, Copy)]
+pub(crate) struct LineScan<'t> {
+    /// Whether more is said of a line, by the last format and its bytes.
+    pub(crate) explain: bool,
+    /// By which formats lines are scanned.
+    pub(crate) formats: &'t LineFormats<'t>,
+    /// The bytes of the last format, where more is said.
+    pub(crate) text: &'t [u8],
+    pub(crate) order: &'t Order,
+    pub(crate) options: LineOptions,
+    ghost limit: { order.now.limit ≤ 2147483647 },
+    ghost some: { 0 < length formats.now.tried.now },
+    ghost said: { (ds : List Directive)
+        → slice_get formats.now.tried.now (length formats.now.tried.now - 1) ≡ Some ds
+        → SomeIsSaid (file_name order.now) (grammar_of order.now.profile) options.quiet explain text.now ds },
+}
+
 /// Says of each line that is no match what is to be said, as it comes. Where the error output has failed, nothing more
 /// is said.
 #[derive(Drop)]
@@ -206,167 +224,128 @@ fn lines_told<M: Maker, S: Source, K: Sink, E, C: Console<K, E>, const N: usize>
     loop_lines(alloc, maker, formats, options, limit, from, out, &mut notes)
 }
 
-/// Scans the lines by the formats, and writes what the maker makes of them; `text` has the bytes of the last format
-/// where more is said of lines.
+/// Scans the lines, and writes what the maker makes of them.
 pub(crate) fn lines_with<M: Maker, S: Source, K: Sink, E, C: Console<K, E>, const N: usize>(
     alloc: Global,
-    explain: bool,
+    scan: &LineScan<'_>,
     maker: &mut M,
-    formats: &LineFormats<'_>,
-    text: &[u8],
-    order: &Order,
-    options: LineOptions,
     from: &mut Lookahead<S, N>,
     out: &mut K,
     err: &mut E,
 ) -> Result<u8, CommandFault>
-    requires limit { order.now.limit ≤ 2147483647 }
-    requires some { 0 < length formats.now.tried.now }
-    requires said { (ds : List Directive)
-        → slice_get formats.now.tried.now (length formats.now.tried.now - 1) ≡ Some ds
-        → SomeIsSaid (file_name order.now) (grammar_of order.now.profile) options.quiet explain text.now ds }
     ensures { (ds : List Directive) (telling : ℕ → List ℕ → LineFault → List ℕ)
-        → slice_get formats.now.tried.now (length formats.now.tried.now - 1) ≡ Some ds
-        → SaysLines (file_name order.now) (grammar_of order.now.profile) options.quiet explain text.now ds telling
-        → RunsLines S.to_come S.failures K.contents K.failures C.said C.unsaid (M.work maker.old) options
-        order.now.limit formats.now.ignored.now formats.now.tried.now telling from.old from.new out.old out.new
-        err.old err.new result }
+        → slice_get scan.now.formats.now.tried.now (length scan.now.formats.now.tried.now - 1) ≡ Some ds
+        → SaysLines (file_name scan.now.order.now) (grammar_of scan.now.order.now.profile) scan.now.options.quiet
+        scan.now.explain scan.now.text.now ds telling
+        → RunsLines S.to_come S.failures K.contents K.failures C.said C.unsaid (M.work maker.old) scan.now.options
+        scan.now.order.now.limit scan.now.formats.now.ignored.now scan.now.formats.now.tried.now telling
+        from.old from.new out.old out.new err.old err.new result }
 {
-    let profile = grammar_of(order.profile);
-    let spans = known_spans(alloc, explain, profile, text);
+    let profile = grammar_of(scan.order.profile);
+    let spans = known_spans(alloc, scan.explain, profile, scan.text);
+    let formats = scan.formats;
     let voice = Voice {
-        quiet: options.quiet,
-        explain,
+        quiet: scan.options.quiet,
+        explain: scan.explain,
         profile,
-        text,
+        text: scan.text,
         spans: spans.as_ref(),
         format: &formats.tried[formats.tried.len() - 1],
-        file: file_name(order),
+        file: file_name(scan.order),
     };
     lines_told::<M, S, K, E, C, N>(
         alloc,
         maker,
         formats,
         &voice,
-        options,
-        order.limit,
+        scan.options,
+        scan.order.limit,
         from,
         out,
         err,
     )
 }
 
-/// Writes the header, where it is due, and then scans the lines by the formats; `text` has the bytes of the last format
-/// where more is said of lines.
+/// Writes the header, where it is due, and then scans the lines.
 fn lines_under<S: Source, K: Sink, E, C: Console<K, E>, const N: usize>(
     alloc: Global,
-    explain: bool,
+    scan: &LineScan<'_>,
     maker: &mut FormMaker<'_>,
-    formats: &LineFormats<'_>,
-    text: &[u8],
-    order: &Order,
-    options: LineOptions,
     from: &mut Lookahead<S, N>,
     out: &mut K,
     err: &mut E,
 ) -> Result<u8, CommandFault>
-    requires limit { order.now.limit ≤ 2147483647 }
-    requires some { 0 < length formats.now.tried.now }
-    requires said { (ds : List Directive)
-        → slice_get formats.now.tried.now (length formats.now.tried.now - 1) ≡ Some ds
-        → SomeIsSaid (file_name order.now) (grammar_of order.now.profile) options.quiet explain text.now ds }
     ensures { (ds : List Directive) (telling : ℕ → List ℕ → LineFault → List ℕ)
-        → slice_get formats.now.tried.now (length formats.now.tried.now - 1) ≡ Some ds
-        → SaysLines (file_name order.now) (grammar_of order.now.profile) options.quiet explain text.now ds telling
-        → RunsUnder S.to_come S.failures K.contents K.failures C.said C.unsaid (is_headed order.now.file) maker.old
-        options order.now.limit
-        formats.now.ignored.now formats.now.tried.now telling from.old from.new out.old out.new err.old err.new result }
+        → slice_get scan.now.formats.now.tried.now (length scan.now.formats.now.tried.now - 1) ≡ Some ds
+        → SaysLines (file_name scan.now.order.now) (grammar_of scan.now.order.now.profile) scan.now.options.quiet
+        scan.now.explain scan.now.text.now ds telling
+        → RunsUnder S.to_come S.failures K.contents K.failures C.said C.unsaid (is_headed scan.now.order.now.file)
+        maker.old scan.now.options scan.now.order.now.limit scan.now.formats.now.ignored.now
+        scan.now.formats.now.tried.now telling from.old from.new out.old out.new err.old err.new result }
 {
-    if let Err(why) = write_header(maker, is_headed(order), out) {
+    if let Err(why) = write_header(maker, is_headed(scan.order), out) {
         return Err(header_fault(why));
     }
-    lines_with::<FormMaker<'_>, S, K, E, C, N>(
-        alloc, explain, maker, formats, text, order, options, from, out, err,
-    )
+    lines_with::<FormMaker<'_>, S, K, E, C, N>(alloc, scan, maker, from, out, err)
 }
 
-/// Scans the lines by the formats, and writes their records in this form, under the order's names, where it has any.
+/// Scans the lines, and writes their records in this form, under the order's names, where it has any.
 fn lines_in_form<S: Source, K: Sink, E, C: Console<K, E>, const N: usize>(
     alloc: Global,
-    explain: bool,
+    scan: &LineScan<'_>,
     form: OutputForm,
-    formats: &LineFormats<'_>,
-    text: &[u8],
-    order: &Order,
-    options: LineOptions,
     from: &mut Lookahead<S, N>,
     out: &mut K,
     err: &mut E,
 ) -> Result<u8, CommandFault>
-    requires limit { order.now.limit ≤ 2147483647 }
-    requires some { 0 < length formats.now.tried.now }
-    requires said { (ds : List Directive)
-        → slice_get formats.now.tried.now (length formats.now.tried.now - 1) ≡ Some ds
-        → SomeIsSaid (file_name order.now) (grammar_of order.now.profile) options.quiet explain text.now ds }
     ensures { (ds : List Directive) (telling : ℕ → List ℕ → LineFault → List ℕ)
-        → slice_get formats.now.tried.now (length formats.now.tried.now - 1) ≡ Some ds
-        → SaysLines (file_name order.now) (grammar_of order.now.profile) options.quiet explain text.now ds telling
-        → RunsForm S.to_come S.failures K.contents K.failures C.said C.unsaid form order.now.tag
-        (is_headed order.now.file) (names_text order.now)
-        options order.now.limit formats.now.ignored.now formats.now.tried.now telling from.old from.new out.old
-        out.new err.old err.new result }
+        → slice_get scan.now.formats.now.tried.now (length scan.now.formats.now.tried.now - 1) ≡ Some ds
+        → SaysLines (file_name scan.now.order.now) (grammar_of scan.now.order.now.profile) scan.now.options.quiet
+        scan.now.explain scan.now.text.now ds telling
+        → RunsForm S.to_come S.failures K.contents K.failures C.said C.unsaid form scan.now.order.now.tag
+        (is_headed scan.now.order.now.file) (names_text scan.now.order.now) scan.now.options
+        scan.now.order.now.limit scan.now.formats.now.ignored.now scan.now.formats.now.tried.now telling
+        from.old from.new out.old out.new err.old err.new result }
 {
+    let order = scan.order;
     match &order.names {
         None => {
             let mut maker = FormMaker::headed(alloc, form, None, order.tag);
-            lines_with::<FormMaker<'_>, S, K, E, C, N>(
-                alloc, explain, &mut maker, formats, text, order, options, from, out, err,
-            )
+            lines_with::<FormMaker<'_>, S, K, E, C, N>(alloc, scan, &mut maker, from, out, err)
         }
         Some(names) => {
-            let mut maker = named_maker(alloc, form, names.as_str(), order.tag, formats.tried)?;
-            lines_under::<S, K, E, C, N>(
-                alloc, explain, &mut maker, formats, text, order, options, from, out, err,
-            )
+            let tried = scan.formats.tried;
+            let mut maker = named_maker(alloc, form, names.as_str(), order.tag, tried)?;
+            lines_under::<S, K, E, C, N>(alloc, scan, &mut maker, from, out, err)
         }
     }
 }
 
-/// Scans the lines by the formats, and writes their records so.
+/// Scans the lines, and writes their records so.
 fn lines_by<S: Source, K: Sink, E, C: Console<K, E>, const N: usize>(
     alloc: Global,
-    explain: bool,
+    scan: &LineScan<'_>,
     writing: &Writing,
-    formats: &LineFormats<'_>,
-    text: &[u8],
-    order: &Order,
-    options: LineOptions,
     from: &mut Lookahead<S, N>,
     out: &mut K,
     err: &mut E,
 ) -> Result<u8, CommandFault>
-    requires limit { order.now.limit ≤ 2147483647 }
-    requires some { 0 < length formats.now.tried.now }
-    requires said { (ds : List Directive)
-        → slice_get formats.now.tried.now (length formats.now.tried.now - 1) ≡ Some ds
-        → SomeIsSaid (file_name order.now) (grammar_of order.now.profile) options.quiet explain text.now ds }
     ensures { (ds : List Directive) (telling : ℕ → List ℕ → LineFault → List ℕ)
-        → slice_get formats.now.tried.now (length formats.now.tried.now - 1) ≡ Some ds
-        → SaysLines (file_name order.now) (grammar_of order.now.profile) options.quiet explain text.now ds telling
-        → RunsWriting S.to_come S.failures K.contents K.failures C.said C.unsaid order.now.tag
-        (is_headed order.now.file) (names_text order.now)
-        writing.now options order.now.limit formats.now.ignored.now formats.now.tried.now telling from.old from.new
-        out.old out.new err.old err.new result }
+        → slice_get scan.now.formats.now.tried.now (length scan.now.formats.now.tried.now - 1) ≡ Some ds
+        → SaysLines (file_name scan.now.order.now) (grammar_of scan.now.order.now.profile) scan.now.options.quiet
+        scan.now.explain scan.now.text.now ds telling
+        → RunsWriting S.to_come S.failures K.contents K.failures C.said C.unsaid scan.now.order.now.tag
+        (is_headed scan.now.order.now.file) (names_text scan.now.order.now) writing.now scan.now.options
+        scan.now.order.now.limit scan.now.formats.now.ignored.now scan.now.formats.now.tried.now telling
+        from.old from.new out.old out.new err.old err.new result }
 {
     match writing {
-        Writing::Form(form) => lines_in_form::<S, K, E, C, N>(
-            alloc, explain, *form, formats, text, order, options, from, out, err,
-        ),
+        Writing::Form(form) => {
+            lines_in_form::<S, K, E, C, N>(alloc, scan, *form, from, out, err)
+        }
         Writing::Print(print) => {
             let mut maker = PrintMaker::new(print);
-            lines_with::<PrintMaker<'_>, S, K, E, C, N>(
-                alloc, explain, &mut maker, formats, text, order, options, from, out, err,
-            )
+            lines_with::<PrintMaker<'_>, S, K, E, C, N>(alloc, scan, &mut maker, from, out, err)
         }
     }
 }
@@ -401,20 +380,16 @@ pub(crate) fn scan_lines<S: Source, K: Sink, E, C: Console<K, E>, const N: usize
         out.old out.new err.old err.new result }
 {
     let text = text_of_last(alloc, explain, last_word(&order.texts))?;
-    let lines = LineFormats {
+    let formats = LineFormats {
         ignored: &job.formats.ignored,
         tried: &job.formats.tried,
     };
-    lines_by::<S, K, E, C, N>(
-        alloc,
+    let scan = LineScan {
         explain,
-        &job.writing,
-        &lines,
-        &text,
+        formats: &formats,
+        text: &text,
         order,
         options,
-        from,
-        out,
-        err,
-    )
+    };
+    lines_by::<S, K, E, C, N>(alloc, &scan, &job.writing, from, out, err)
 }

@@ -14,8 +14,8 @@ use Rattle.sf_tool.specs.Lines.{RunsLines, SaysLines, SomeIsSaid}
 use Rattle.sf_tool.proofs.Copying.{said_by, some_said_by}
 use Rattle.sf_tool.proofs.copies.copy_by_pair.Goals as goal
 
-pub lines_with-requires : goal.lines_with-requires
-lines_with-requires g c =
+pub invariant_of-scan : goal.invariant_of-scan
+invariant_of-scan g c =
     let order = c.args.order.now in
     let formats = c.args.formats.now in
     let profile = grammar_of order.profile in
@@ -35,7 +35,7 @@ lines_with-requires g c =
     let both = subst (λ (fs : List (List Directive)). (0 < length fs) × ((ds : List Directive) → slice_get fs (length fs - 1) ≡ Some ds
     → SomeIsSaid (file_name order) profile c.line_options-how.result.quiet explain c.deref.result.now ds)) (sym tried)
     (omega arith, said) in
-    (search rules, (c.requires.limit, both))
+    record { limit = c.requires.limit; some = both.0; said = both.1 }
 
 pub returns : goal.returns
 returns g c =

@@ -32,8 +32,8 @@ returns-in_err-text g c =
     subst (λ fault. AreRefused profile form print passed words fault) (sym c.in_err-text.ensures.err) none in
     search (rules, bad)
 
-pub lines_by-requires : goal.lines_by-requires
-lines_by-requires g c =
+pub invariant_of-scan : goal.invariant_of-scan
+invariant_of-scan g c =
     let order = c.args.order.now in
     let texts = order.texts.items in
     let words : List (List ℕ) = map string_bytes texts in
@@ -58,7 +58,8 @@ lines_by-requires g c =
     → SomeIsSaid (file_name order) profile quiet explain c.deref-4.result.now ds) =
     λ tried same. subst (λ fs. (0 < length fs) × ((ds : List Directive) → slice_get fs (length fs - 1) ≡ Some ds
     → SomeIsSaid (file_name order) profile quiet explain c.deref-4.result.now ds)) (sym same) (some, said) in
-    (search rules, (c.requires.limit, both c.deref-3.result.now c.deref-3.ensures.value))
+    let (tried, last) = both c.deref-3.result.now c.deref-3.ensures.value in
+    record { limit = c.requires.limit; some = tried; said = last }
 
 pub returns : goal.returns
 returns g c =
