@@ -3,7 +3,7 @@ ghost use Rattle.std.specs.Prelude.{◌≡◌, ◌↔◌, IsSome, IfSome};
 ghost use Rattle.sf_base.specs.declared.values.Kind.{Kind};
 ghost use Rattle.sf_base.specs.Data.{Datum, datum_of, kind_of};
 
-use crate::{ScanInt, Value};
+use crate::{Kind, ScanInt, Value};
 
 /// A type that a value can be taken as: one of the eight integers, `f32` or `f64`, or a text of bytes, which is lent.
 pub trait Taken<'a>: Sized {
@@ -12,6 +12,10 @@ pub trait Taken<'a>: Sized {
 
     // A destination that was given this was given such a value.
     ghost is_of: { Self → Datum → Type 0 };
+
+    /// The kind of the values that are taken as this type.
+    fn taken_kind() -> Kind
+        ensures { result ≡ kind };
 
     /// The value as this type. None where it is of another kind.
     fn taken(value: Value<'a>) -> Option<Self>
@@ -27,6 +31,12 @@ impl<T: ScanInt> Taken<'_> for T {
 
     ghost is_of = { λ n d. Number T.own_kind (T.integer n) ≡ d };
 
+    #[inline(always)]
+    fn taken_kind() -> Kind {
+        T::kind()
+    }
+
+    #[inline(always)]
     fn taken(value: Value<'_>) -> Option<T> {
         T::from_value(value)
     }
@@ -40,6 +50,13 @@ impl<'a> Taken<'a> for &'a [u8] {
     ghost kind = { Text };
 
     ghost is_of = { λ text d. Bytes text.now ≡ d };
+
+    #[inline(always)]
+    fn taken_kind() -> Kind
+        ensures { result ≡ Text }
+    {
+        Kind::Text
+    }
 
     fn taken(value: Value<'a>) -> Option<&'a [u8]> {
         match value {
@@ -59,6 +76,11 @@ impl Taken<'_> for f32 {
 
     ghost is_of = { λ x d. f32_in d ≡ Some x };
 
+    #[inline(always)]
+    fn taken_kind() -> Kind {
+        Kind::F32
+    }
+
     fn taken(value: Value<'_>) -> Option<f32> {
         value.f32()
     }
@@ -73,6 +95,11 @@ impl Taken<'_> for f64 {
     ghost kind = { F64 };
 
     ghost is_of = { λ x d. f64_in d ≡ Some x };
+
+    #[inline(always)]
+    fn taken_kind() -> Kind {
+        Kind::F64
+    }
 
     fn taken(value: Value<'_>) -> Option<f64> {
         value.f64()

@@ -80,7 +80,7 @@ impl Kind {
     {
         let below = negative & (magnitude > 0);
         if signed {
-            if magnitude - u64::from(below) > greatest {
+            if magnitude > greatest + u64::from(below) {
                 return None;
             }
             return Some(Number {

@@ -17,6 +17,7 @@ pub mod Faults
 pub mod Reading
 pub mod Spans
 pub mod Widths
+pub mod Unbounded
 pub mod Profiles
 pub mod Laws
 pub mod Classes

@@ -1,9 +1,10 @@
 //! Scan formats.
-ghost use Rattle.std.specs.Prelude.{◌≡◌, ◌≤◌, ◌↔◌, IsSome, length, map, IfOk, IfErr, IfSome};
+ghost use Rattle.std.specs.Prelude.{◌≡◌, ◌≤◌, ◌↔◌, IsSome, length, map, IfOk, IfErr, IfSome, IsTrue, unwrap_or};
 ghost use Rattle.sf_format.specs.Layout.{items_assigned, items_taken, row_of};
 ghost use Rattle.sf_format.specs.Slots.{AreSlots};
 ghost use Rattle.sf_format.specs.Proper.{AreKinded, AreProper, AreSized, IsAccepted, destinations_of, has_optional};
 ghost use Rattle.sf_format.specs.Proper.{is_optional, is_optional_for, kind_at, may_miss};
+ghost use Rattle.sf_format.specs.Unbounded.{EndsUnbounded};
 ghost use Rattle.sf_format.specs.Widths.{width_sum, stored_width};
 ghost use Rattle.sf_format.specs.Grammar.{Spells};
 ghost use Rattle.sf_format.specs.Faults.{Fault, IsRefused, TellsFault, TakesSpelled};
@@ -22,7 +23,7 @@ use std::alloc::Global;
 use std::marker::Model;
 
 /// A scan format: its directives, each with its row, the count of its destinations, the sum of their widths, and what a
-/// run of it counts that is Done.
+/// run of it counts that is Done. `reserve` is the sum of their widths, or 0 where there is none.
 #[derive(Debug, Drop)]
 pub struct ScanFormat {
     directives: Vec<Directive>,
@@ -32,11 +33,14 @@ pub struct ScanFormat {
     assigned: u8,
     converted: u16,
     optional: bool,
+    reserve: u32,
+    unbounded: bool,
 }
 
 impl Model for ScanFormat {
-    ghost use Rattle.std.specs.Prelude.{◌≡◌, List, length, map};
+    ghost use Rattle.std.specs.Prelude.{◌≡◌, IsTrue, List, length, map, unwrap_or};
     ghost use Rattle.sf_format.specs.declared.directive.Directive.{Directive};
+    ghost use Rattle.sf_format.specs.Unbounded.{EndsUnbounded};
     ghost use Rattle.sf_format.specs.Layout.{items_assigned, items_taken, row_of};
     ghost use Rattle.sf_format.specs.Proper.{IsAccepted, destinations_of, has_optional};
     ghost use Rattle.sf_format.specs.Widths.{width_sum};
@@ -53,6 +57,8 @@ impl Model for ScanFormat {
       assigned : f.assigned ≡ items_assigned f.directives.items;
       converted : f.converted ≡ items_taken f.directives.items;
       optional : f.optional ≡ has_optional f.directives.items;
+      reserve : f.reserve ≡ unwrap_or (width_sum f.directives.items) 0;
+      unbounded : IsTrue f.unbounded → EndsUnbounded f.directives.items;
     } };
 }
 
@@ -146,6 +152,23 @@ fn sum_of_widths(directives: &[Directive]) -> Option<u32>
     Some(sum)
 }
 
+/// Whether the last directive is a conversion without a `?` whose item ends only where a byte doesn't match.
+fn ends_unbounded(directives: &[Directive]) -> bool
+    ensures { IsTrue result → EndsUnbounded directives.now }
+{
+    match directives.last() {
+        Some(Directive::Conv(conversion)) => {
+            conversion.width.is_none()
+                && !conversion.optional
+                && matches!(
+                    conversion.shape,
+                    Shape::Int(_) | Shape::Text | Shape::Set(_)
+                )
+        }
+        _ => false,
+    }
+}
+
 impl ScanFormat {
     /// The format that the text spells. Memory is taken only for a text that spells one.
     pub fn parse(alloc: Global, profile: Profile, text: &[u8]) -> Result<ScanFormat, FormatFault>
@@ -160,6 +183,8 @@ impl ScanFormat {
         let assigned = items_assigned(&directives);
         let converted = items_taken(&directives);
         let optional = has_optional(&directives);
+        let reserve = widths.unwrap_or(0);
+        let unbounded = ends_unbounded(&directives);
         Ok(ScanFormat {
             directives,
             rows,
@@ -168,6 +193,8 @@ impl ScanFormat {
             assigned,
             converted,
             optional,
+            reserve,
+            unbounded,
         })
     }
 
@@ -250,5 +277,21 @@ impl ScanFormat {
         ensures { result ≡ width_sum self.now }
     {
         self.widths
+    }
+
+    /// As `width_sum`, and 0 where there is none: how many bytes of texts a run is given room for before it begins.
+    #[inline(always)]
+    pub fn reserve(&self) -> u32
+        ensures { result ≡ unwrap_or (width_sum self.now) 0 }
+    {
+        self.reserve
+    }
+
+    /// Whether the last directive is a conversion without a `?` whose item ends only where a byte doesn't match.
+    #[inline(always)]
+    pub fn ends_unbounded(&self) -> bool
+        ensures { IsTrue result → EndsUnbounded self.now }
+    {
+        self.unbounded
     }
 }

@@ -61,6 +61,11 @@ pub record LongDigits (radix : ℕ) (bytes : List ℕ) : Type 0 where
   pub digits : DigitsOf radix bytes count number
   pub large : 2 ^ 64 ≤ number
 
+-- the bytes begin with no digit of the radix
+pub record NoDigits (radix : ℕ) (bytes : List ℕ) : Type 0 where
+  pub number : ℕ
+  pub digits : DigitsOf radix bytes 0 number
+
 -- how far an integer is read with so many bytes of a sign
 abbrev pub signed_as : ℕ → Bool → Progress
 signed_as zero negative = Start

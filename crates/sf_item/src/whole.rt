@@ -9,7 +9,7 @@ ghost use Rattle.sf_format.specs.declared.directive.Shape.TheVariants.{Chars, Se
 ghost use Rattle.sf_format.specs.Layout.{most_of};
 ghost use Rattle.sf_item.specs.Radices.{first_radix};
 ghost use Rattle.sf_item.specs.Wholes.{DigitsOf, EndsWithin, HasPrefixAt, HexOpening, IsCutBy, ItemWithin, LongDigits};
-ghost use Rattle.sf_item.specs.Wholes.{NoItemWithin, NoneEndsWithin, ReadsIn, SignOf, ZeroFirst};
+ghost use Rattle.sf_item.specs.Wholes.{NoDigits, NoItemWithin, NoneEndsWithin, ReadsIn, SignOf, ZeroFirst};
 
 use crate::digits::{FIRST_HEX, first_hex_digits, value_of};
 use crate::eight::{LANES, first_digits};
@@ -194,11 +194,20 @@ fn longer_decimal(digits: &[u8], piece: &[u8], first: usize, before: u64) -> Opt
     requires eight { first ≤ LANES }
     requires read { ReadsIn 10 0 (take first piece.now) before }
     requires small { before < 10 ^ first }
-    ensures { MatchOption result (LongDigits 10 digits.now) (λ r. DigitsOf 10 digits.now r.1 r.0) }
+    ensures digits { MatchOption result (LongDigits 10 digits.now ⊎ NoDigits 10 digits.now)
+        (λ r. DigitsOf 10 digits.now r.1 r.0) }
+    ensures some { IfSome result (λ r. 0 < r.1) }
 {
     let (number, count) = further_digits(piece, digits.len(), first, before);
+    if count == 0 {
+        return None;
+    }
     if count == SURE_DECIMAL && is_digit_at(digits, count, 10) {
-        return long_decimal(digits);
+        let (long, all) = long_decimal(digits)?;
+        if all == 0 {
+            return None;
+        }
+        return Some((long, all));
     }
     Some((number, count))
 }
@@ -211,7 +220,8 @@ fn short_decimal(digits: &[u8], piece: &[u8], before: u64) -> Option<(u64, usize
     requires eight { LANES ≤ length digits.now }
     requires read { ReadsIn 10 0 (take LANES piece.now) before }
     requires small { before < 10 ^ LANES }
-    ensures { IfSome result (λ r. DigitsOf 10 digits.now r.1 r.0) }
+    ensures digits { IfSome result (λ r. DigitsOf 10 digits.now r.1 r.0) }
+    ensures some { IfSome result (λ r. 0 < r.1) }
 {
     let mut number = before;
     for i in LANES..DIGITS_OF_32_BITS + 1 {
@@ -227,11 +237,14 @@ fn short_decimal(digits: &[u8], piece: &[u8], before: u64) -> Option<(u64, usize
     None
 }
 
-/// As `long_number`, for the decimal digits that the piece begins with. The piece may go on after them.
+/// As `long_number`, for the decimal digits that the piece begins with, one at least; None also where there is none.
+/// The piece may go on after them.
 #[inline(always)]
 fn decimal_number(digits: &[u8], piece: &[u8]) -> Option<(u64, usize)>
     requires { digits.now ≡ take (length digits.now) piece.now }
-    ensures { MatchOption result (LongDigits 10 digits.now) (λ r. DigitsOf 10 digits.now r.1 r.0) }
+    ensures digits { MatchOption result (LongDigits 10 digits.now ⊎ NoDigits 10 digits.now)
+        (λ r. DigitsOf 10 digits.now r.1 r.0) }
+    ensures some { IfSome result (λ r. 0 < r.1) }
 {
     let (number, first) = first_digits(piece, digits.len());
     if 0 < first && first < LANES {
@@ -308,7 +321,7 @@ fn decimal_in(front: &[u8], piece: &[u8]) -> Option<WholeInteger>
         return None;
     };
     let bytes = start + count;
-    if count == 0 || bytes == piece.len() {
+    if bytes == piece.len() {
         return None;
     }
     Some(WholeInteger {
@@ -403,7 +416,7 @@ pub fn whole_auto(base: Base, width: Option<u16>, piece: &[u8]) -> Option<WholeI
         return None;
     };
     let last = start + count;
-    if last == start || last == piece.len() {
+    if last == piece.len() {
         return None;
     }
     Some(WholeInteger {

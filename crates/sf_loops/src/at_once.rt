@@ -1,32 +1,14 @@
 //! The run over a line, where that is seen at once to be Done.
-ghost use Rattle.std.specs.Prelude.{◌≡◌, ◌≤◌, ◌++◌, ◌∷◌, ℕ, List, [], IfSome, IsTrue, vec_capacity};
+ghost use Rattle.std.specs.Prelude.{◌≡◌, ◌≤◌, ◌++◌, ◌∷◌, ℕ, List, [], IfSome, vec_capacity};
 ghost use Rattle.sf_run.specs.Limits.{RunWithin};
 ghost use Rattle.sf_run.specs.Memory.{capacity_of};
 ghost use Rattle.sf_run.specs.Views.{report_by};
 ghost use Rattle.sf_run.specs.outcome.Ending.TheVariants.{End};
-ghost use Rattle.sf_read.specs.Unbounded.{EndsUnbounded};
 
 use sf_base::HeapStore;
-use sf_format::{Directive, ScanFormat, Shape};
+use sf_format::ScanFormat;
 use sf_run::laws::{done_runs_stay, open_inputs_are_used};
 use sf_run::{Ending, Outcome, quick_run};
-
-/// Whether the last directive is a conversion without a `?` whose item ends only where a byte doesn't match.
-fn ends_unbounded(directives: &[Directive]) -> bool
-    ensures { IsTrue result → EndsUnbounded directives.now }
-{
-    match directives.last() {
-        Some(Directive::Conv(conversion)) => {
-            conversion.width.is_none()
-                && !conversion.optional
-                && matches!(
-                    conversion.shape,
-                    Shape::Int(_) | Shape::Text | Shape::Set(_)
-                )
-        }
-        _ => false,
-    }
-}
 
 /// Runs the format over a text that has its newline here, as over the line alone. None where that isn't seen at once to
 /// be Done: then the store may keep something.
@@ -40,7 +22,7 @@ fn run_ended(
         → IfSome result (λ outcome. RunWithin format.now limit line End (report_by outcome store.new.values)) }
     ensures room { capacity_of store.old ≤ capacity_of store.new }
 {
-    let directives = format.directives();
+    let _directives = format.directives();
     let outcome = quick_run(store, format, limit, ended)?;
     done_runs_stay();
     open_inputs_are_used();
@@ -48,7 +30,7 @@ fn run_ended(
     if left > 1 {
         return Some(outcome);
     }
-    if left == 0 || !ends_unbounded(directives) {
+    if left == 0 || !format.ends_unbounded() {
         return None;
     }
     Some(Outcome {

@@ -34,7 +34,7 @@ use Rattle.sf_report.proofs.Machines.{by_option, can_take_one, keeps_all, not_fu
 use Rattle.sf_report.proofs.Openness.{counted-used, holds_by}
 use Rattle.sf_report.proofs.Inputs.{open_of, open_all}
 use Rattle.sf_report.proofs.Told.{run_told, met_within}
-use Rattle.sf_read.specs.Unbounded.{GoesOn, EndsUnbounded}
+use Rattle.sf_format.specs.Unbounded.{GoesOn, EndsUnbounded}
 
 -- ---- the item goes on
 

@@ -1,6 +1,6 @@
 //! Scans of whole texts.
 ghost use Rattle.std.specs.Prelude.{◌≡◌, ◌<◌, ◌≤◌, ◌+◌, ◌++◌, ◌∷◌, ◌↔◌, ◌⊎◌, ℕ, List, [], length, take, unwrap_or};
-ghost use Rattle.std.specs.Prelude.{IfOk, IfErr, IfSome, IsErrOf, IsOk, IsSome, IsTrue};
+ghost use Rattle.std.specs.Prelude.{IfOk, IfErr, IfSome, IsErrOf, IsOk, IsSome};
 ghost use Rattle.sf_base.specs.Kept.{buffer_of, nothing_kept};
 ghost use Rattle.sf_format.specs.declared.directive.Directive.{Directive};
 ghost use Rattle.sf_format.specs.Proper.{destinations_of};
@@ -12,10 +12,9 @@ ghost use Rattle.sf_run.specs.Scanner.{kept_by, standing};
 ghost use Rattle.sf_run.specs.Standing.{After};
 ghost use Rattle.sf_run.specs.Views.{report_by};
 ghost use Rattle.sf_read.specs.Reading.{IsFresh};
-ghost use Rattle.sf_read.specs.Unbounded.{EndsUnbounded};
 
 use sf_base::{HeapStore, Store};
-use sf_format::{Directive, ScanFormat, Shape};
+use sf_format::ScanFormat;
 use sf_run::laws::{done_runs_stay, open_inputs_are_used};
 use sf_run::{
     Ending, MOST_BYTES, Outcome, Scanned, Scanner, StartFault, quick_run, quick_run_into,
@@ -31,23 +30,6 @@ const SHORT: usize = 47;
 
 /// How many bytes a short text is laid down in.
 const SHORT_BLOCK: usize = 64;
-
-/// Whether the last directive is a conversion without a `?` whose item ends only where a byte doesn't match.
-fn ends_unbounded(directives: &[Directive]) -> bool
-    ensures { IsTrue result → EndsUnbounded directives.now }
-{
-    match directives.last() {
-        Some(Directive::Conv(conversion)) => {
-            conversion.width.is_none()
-                && !conversion.optional
-                && matches!(
-                    conversion.shape,
-                    Shape::Int(_) | Shape::Text | Shape::Set(_)
-                )
-        }
-        _ => false,
-    }
-}
 
 /// Moves a text to the front of the block by its first `W` bytes and its last `W` ones, which may overlap: a move of a
 /// constant length takes no call.
@@ -118,7 +100,7 @@ fn scan_with_newline<K: Store, const N: usize>(
     ensures texts { IfSome result (λ _. HoldsValues (K.kept store.new)) }
     ensures room { capacity_of (K.kept store.old) ≤ capacity_of (K.kept store.new) }
 {
-    let directives = format.directives();
+    let _directives = format.directives();
     let mut block = [0; N];
     lay_down(text, &mut block);
     let outcome = quick_run_into(store, format, limit, &block)?;
@@ -128,7 +110,7 @@ fn scan_with_newline<K: Store, const N: usize>(
     if used < text.len() {
         return Some(outcome);
     }
-    if used > text.len() || !ends_unbounded(directives) {
+    if used > text.len() || !format.ends_unbounded() {
         return None;
     }
     Some(Outcome {
@@ -280,7 +262,7 @@ pub fn sscan(
     if limit > MOST_BYTES {
         return Err(StartFault::BadLimit);
     }
-    let Ok(mut store) = HeapStore::new(alloc, format.width_sum().unwrap_or(0)) else {
+    let Ok(mut store) = HeapStore::new(alloc, format.reserve()) else {
         return Err(StartFault::NoMemory);
     };
     if let Some(outcome) = scan_at_once(&mut store, text, format, limit) {
@@ -310,7 +292,7 @@ pub fn sscan_over(
     ensures as_much { IfOk result (λ s. capacity_of store ≤ capacity_of s.kept) }
 {
     store.clear();
-    let reserve = format.width_sum().unwrap_or(0) as usize;
+    let reserve = format.reserve() as usize;
     if limit <= MOST_BYTES
         && reserve <= store.room()
         && let Some(outcome) = scan_at_once(&mut store, text, format, limit)

@@ -1,11 +1,11 @@
 //! What a run came to, with its values.
 ghost use Rattle.std.specs.Prelude.{◌≡◌, ◌↔◌, IsSome, IsSomeAnd, IfSome, Some};
 ghost use Rattle.std.specs.Option.{option_map};
-ghost use Rattle.sf_base.specs.Data.{datum_of, datum_of_shown, datum_at, kind_of};
+ghost use Rattle.sf_base.specs.Data.{datum_of, datum_of_number, datum_of_shown, datum_at, kind_of};
 ghost use Rattle.sf_report.specs.Runs.{c_return};
 
 use crate::outcome::{Outcome, Status};
-use sf_base::{Shown, Store, Taken, Value};
+use sf_base::{Number, Shown, Store, Taken, Value};
 use std::marker::Model;
 
 /// What a run that has ended came to, with the store of its values.
@@ -90,6 +90,19 @@ impl<'r, S: Store> Model for Report<'r, S> {
     ghost view = { λ r. report_by r.outcome (S.kept r.store.now).values };
 }
 
+/// A number as `T`, where that is the type of its kind. The kind is looked at first: then the value is made by the one
+/// way that its kind has.
+#[inline(always)]
+fn number_as<'r, T: Taken<'r>>(number: Number) -> Option<T>
+    ensures exactly { IsSome result ↔ (kind_of (datum_of_number number) ≡ T.kind) }
+    ensures value { IfSome result (λ taken. T.is_of taken (datum_of_number number)) }
+{
+    if number.kind != T::taken_kind() {
+        return None;
+    }
+    T::taken(number.value())
+}
+
 impl<'r, S: Store> Report<'r, S> {
     ghost use Rattle.sf_report.specs.Views.{report_by};
 
@@ -136,7 +149,11 @@ impl<'r, S: Store> Report<'r, S> {
         ensures exactly { IsSome result ↔ (option_map kind_of (datum_at slot self.now.values) ≡ Some T.kind) }
         ensures value { IfSome result (λ taken. IsSomeAnd (datum_at slot self.now.values) (T.is_of taken)) }
     {
-        T::taken(self.value(slot)?)
+        match self.shown(slot)? {
+            Shown::Number(number) => number_as(number),
+            Shown::Text(text) => T::taken(Value::Text(text)),
+            Shown::Real(real) => T::taken(real.value()),
+        }
     }
 
     /// What fscanf returns (C11 7.21.6.2p16): -1 for an input failure before the first conversion has

@@ -1,9 +1,8 @@
-use Rattle.std.proofs.Common.{◌+◌, ◌<◌, ◌≤◌, length, ap, arith}
+use Rattle.std.proofs.Common.{◌+◌, ◌<◌, ◌≤◌, length, inl, inr, ap, arith}
 use Rattle.std.proofs.lemmas.List.{length-take}
 use Rattle.sf_format.specs.declared.directive.Base.TheVariants.{Dec}
 use Rattle.sf_item.proofs.Readings.{length_rest}
 use Rattle.sf_item.proofs.Wholes.{decimal_opened, large_integer, no_integer, whole_integer}
-use Rattle.sf_item.proofs.whole.decimal_in.Goals.{then-count-eq0-via-then-count-eq0, then-count-eq0-via-else-count-eq0+then-bytes-piece}
 use Rattle.sf_item.proofs.whole.decimal_in.Goals as goal
 
 pub returns-in_default : goal.returns-in_default
@@ -14,13 +13,18 @@ returns-in_default c width is =
     let short : length front ≤ length piece = omega (arith, long, length-take (length front) piece) in
     let start = c.sign-start.result.0 in
     let sign = c.sign-start.result.1 in
-    let more = c.in_default.ensures in
-    large_integer piece front width c.requires short is.room is.whole Dec 10 start
-    more.count more.number sign
-    (decimal_opened front start sign c.sign-start.ensures) more.digits more.large
+    let opened = decimal_opened front start sign c.sign-start.ensures in
+    elim c.in_default.ensures.digits [
+      | inl more ↦
+          large_integer piece front width c.requires short is.room is.whole Dec 10 start more.count more.number sign opened
+          more.digits more.large
+      | inr none ↦
+          no_integer piece front width c.requires short is.room is.whole Dec 10 start 0 none.number sign opened none.digits
+          (λ some behind. omega (arith, some))
+    ]
 
-pub returns-then-count-eq0 : goal.returns-then-count-eq0
-returns-then-count-eq0 c width is =
+pub returns-then-bytes-piece : goal.returns-then-bytes-piece
+returns-then-bytes-piece c width is =
     let piece = c.args.piece.now in
     let front = c.args.front.now in
     let long = ap length c.requires in
@@ -30,11 +34,8 @@ returns-then-count-eq0 c width is =
     let count = c.in-Some.count in
     no_integer piece front width c.requires short is.room is.whole Dec 10 start
     count c.in-Some.magnitude sign
-    (decimal_opened front start sign c.sign-start.ensures) c.in-Some.ensures
-    (λ some behind. elim c.then-count-eq0.branch [
-      | then-count-eq0-via-then-count-eq0 w ↦ let none = w.if-count-eq0.true in omega (arith, none, some)
-      | then-count-eq0-via-else-count-eq0+then-bytes-piece w ↦ let all = w.if-bytes-piece.true in omega (arith, all, behind)
-    ])
+    (decimal_opened front start sign c.sign-start.ensures) c.in-Some.ensures.digits
+    (λ some behind. let all = c.if-bytes-piece.true in omega (arith, all, behind))
 
 pub returns : goal.returns
 returns c width is =
@@ -46,10 +47,10 @@ returns c width is =
     let sign = c.sign-start.result.1 in
     let count = c.in-Some.count in
     let opened = decimal_opened front start sign c.sign-start.ensures in
-    let digits = c.in-Some.ensures in
+    let digits = c.in-Some.ensures.digits in
     let most = digits.within in
     let inside = opened.inside in
-    let some : 0 < count = omega (arith, c.if-count-eq0.false) in
+    let some : 0 < count = c.in-Some.ensures.some in
     let behind : start + count < length piece = omega (arith, most, short, length_rest front start, inside, c.if-bytes-piece.false) in
     whole_integer piece front width c.requires short is.room is.whole Dec 10 start
     count c.in-Some.magnitude sign

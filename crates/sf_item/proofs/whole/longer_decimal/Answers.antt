@@ -5,8 +5,8 @@ use Rattle.sf_item.proofs.whole.longer_decimal.Goals.{else-count-eq-SURE_DECIMAL
 use Rattle.sf_item.proofs.whole.longer_decimal.Goals.{else-count-eq-SURE_DECIMAL-via-else-count-eq-SURE_DECIMAL}
 use Rattle.sf_item.proofs.whole.longer_decimal.Goals as goal
 
-pub returns : goal.returns
-returns c =
+pub returns-clause-digits : goal.returns-clause-digits
+returns-clause-digits c =
     let digits : List ℕ = c.args.digits.now in
     let piece : List ℕ = c.args.piece.now in
     let n : ℕ = c.further_digits-number.result.1 in

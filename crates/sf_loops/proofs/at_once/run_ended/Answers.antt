@@ -3,7 +3,6 @@ use Rattle.sf_format.specs.Proper.{AreProper}
 use Rattle.sf_run.specs.outcome.Ending.TheVariants.{End}
 use Rattle.sf_run.specs.Runs.{RunReport}
 use Rattle.sf_run.specs.Views.{report_by}
-use Rattle.sf_read.specs.Unbounded.{EndsUnbounded}
 use Rattle.sf_read.proofs.Unbounded.{inside_report, whole_report}
 use Rattle.sf_loops.proofs.Ended.{ended_length, with_newline}
 use Rattle.sf_loops.proofs.at_once.run_ended.Goals as goal
@@ -25,7 +24,7 @@ returns-clause-run c line is =
     let long : length c.args.ended.now ≡ length line + 1 = ended_length line c.args.ended.now is in
     whole_report c.done_runs_stay.ensures ds
     (subst AreProper c.directives-directives.ensures.value c.directives-directives.ensures.proper)
-    (subst EndsUnbounded c.directives-directives.ensures.value (c.if-not-ends_unbounded.ensures refl)) c.args.limit line (10 ∷ []) report
+    (c.if-not-ends_unbounded.ensures refl) c.args.limit line (10 ∷ []) report
     (with_newline ds c.args.limit line c.args.ended.now report is (c.in_ok-outcome.ensures.run [] End))
     c.in_ok-outcome.ensures.done
     (omega (arith, long, c.if-left-gt1.false, c.if-left-eq0.false, c.in_ok-outcome.ensures.used))

@@ -1,4 +1,6 @@
-use Rattle.std.proofs.Common.{sym, ◌∙◌, ap, map}
+use Rattle.std.proofs.Common.{sym, ◌∙◌, ap, map, subst}
+use Rattle.std.specs.Prelude.{unwrap_or}
+use Rattle.sf_format.specs.Unbounded.{EndsUnbounded}
 use Rattle.std.proofs.lemmas.Result.{err_from_is_err_and}
 use Rattle.sf_format.specs.Layout.{items_assigned, items_taken, row_of}
 use Rattle.sf_format.specs.Widths.{width_sum}
@@ -37,6 +39,9 @@ invariant_of-result c =
       assigned = c.items_assigned-assigned.ensures ∙ ap items_assigned c.deref-3.ensures.value;
       converted = c.items_taken-converted.ensures ∙ ap items_taken c.deref-4.ensures.value;
       optional = c.has_optional-optional.ensures ∙ ap has_optional c.deref-5.ensures.value;
+      reserve = c.unwrap_or-reserve.ensures
+          ∙ ap (λ w. unwrap_or w 0) (c.sum_of_widths-widths.ensures ∙ ap width_sum c.deref-2.ensures.value);
+      unbounded = λ h. subst EndsUnbounded c.deref-6.ensures.value (c.ends_unbounded-unbounded.ensures h);
     }
 
 pub returns-clause-fault : goal.returns-clause-fault
