@@ -7,7 +7,7 @@ use Rattle.std.specs.Prelude.{get_or}
 use Rattle.std.specs.List.{flat_map}
 use Rattle.std.specs.Io.KnownBytes.{Appends}
 use Rattle.sf_print.proofs.Appending.{Appends-same}
-use Rattle.sf_print.proofs.Staging.{flat_map_more}
+use Rattle.sf_texts.proofs.Joined.{flat_map_more}
 
 -- what was written, by another name
 pub written_as : (r : Option ℕ) (buf new text same : List ℕ) (at : ℕ) → text ≡ same
@@ -31,16 +31,6 @@ pub front_kept : (buf new text : List ℕ) (at end : ℕ) → at ≤ length buf 
 front_kept buf new text at end start within written =
     sym (take-take at end new (omega (arith, ends_at buf new text at end start within written))) ∙ ap (take at) written
     ∙ take_at (take at buf) text at (length-take-le at buf start)
-
--- the front of what was copied
-pub part_written : (buf new text more rest : List ℕ) (at n : ℕ) → at ≤ length buf → n ≡ length text
-    → new ≡ take at buf ++ ((text ++ more) ++ rest) → take (at + n) new ≡ take at buf ++ text
-part_written buf new text more rest at n start is_long is =
-    let whole : new ≡ (take at buf ++ text) ++ (more ++ rest) =
-    is ∙ ap (λ (t : List ℕ). take at buf ++ t) (append_assoc text more rest) ∙ sym (append_assoc (take at buf) text (more ++ rest)) in
-    let long : length (take at buf ++ text) ≡ at + n =
-    omega (arith, length-append (take at buf) text, length-take-le at buf start, is_long) in
-    ap (take (at + n)) whole ∙ take_at (take at buf ++ text) (more ++ rest) (at + n) long
 
 -- one part more of those that are written one after the other
 pub more_written : {X : Type 0} (f : X → List ℕ) (xs : List X) (i : ℕ) (d : X) → i < length xs → (begun before new : List ℕ)

@@ -1,18 +1,20 @@
+-- of digits
+pub use Rattle.sf_digits.proofs.EndsCopied
+pub use Rattle.sf_digits.proofs.Digits
+pub use Rattle.sf_digits.proofs.FourDigits
+pub use Rattle.sf_digits.proofs.Numerals
+pub use Rattle.sf_digits.proofs.OnlyNumeral
+-- of the texts of values
+pub use Rattle.sf_texts.proofs.Around
+pub use Rattle.sf_texts.proofs.Plainness
+pub use Rattle.sf_texts.proofs.Reals
+pub use Rattle.sf_texts.proofs.Blanks
+-- of printing
 pub mod Appending
-pub mod Around
-pub mod EndsCopied
-pub mod Digits
-pub mod FourDigits
-mod ThreeDigits
 pub mod NothingMissing
-pub mod Plainness
-pub mod Reals
 pub mod Rows
 pub mod Short
 pub mod Staging
 pub mod InPlace
 pub mod Judged
 pub mod Lowest
-pub mod Numerals
-pub mod OnlyNumeral
-pub mod Blanks

@@ -1,7 +1,7 @@
 -- Texts on their way to a sink, piece after piece.
 use Rattle.std.proofs.Common.{◌≡◌, ℕ, ◌+◌, ◌<◌, List, [], ◌∷◌, ◌++◌, length, take, drop, subst, refl, sym, ap, ◌∙◌, arith, append_assoc}
 use Rattle.std.proofs.Common.{append-nil, length-append, Option, Result, Ok, Err, replicate, get_or}
-use Rattle.std.proofs.lemmas.List.{replicate-append-replicate, take-append-drop, drop_more, take_more}
+use Rattle.std.proofs.lemmas.List.{replicate-append-replicate, take-append-drop, drop_more}
 use Rattle.std.proofs.lemmas.List.Concat.{flat_map-append}
 use Rattle.std.proofs.Math.Seq.{take-append_seam}
 use Rattle.std.specs.List.{flat_map}
@@ -9,6 +9,7 @@ use Rattle.std.specs.Result.{IsErrAnd}
 use Rattle.std.specs.Io.KnownBytes.{Appends}
 use Rattle.sf_print.specs.declared.stage.Stage.{Stage}
 use Rattle.sf_print.specs.Staged.{held, Holds, Broke, Puts}
+use Rattle.sf_texts.proofs.Joined.{flat_map_more}
 use Rattle.sf_print.proofs.Appending.{Appends-then, Appends-none, Appends-same}
 
 -- all of the piece was put: from this many taken and these held to that many taken and those held
@@ -115,13 +116,6 @@ runs a b n x e = replicate-append-replicate a b x ∙ ap (λ (k : ℕ). replicat
 pub Puts-same : {A E : Type 0} (a b : Option (List ℕ)) (s t : Stage) (p q : List ℕ) (r : Result A E) → p ≡ q → Puts a s b t p r
     → Puts a s b t q r
 Puts-same a b s t p q r e puts = let F : List ℕ → Type 0 = λ x. Puts a s b t x r in subst F e puts
-
--- a joined list, and one more part
-pub flat_map_more : {X : Type 0} (f : X → List ℕ) (xs : List X) (i : ℕ) (d : X) → i < length xs
-    → flat_map f (take i xs) ++ f (get_or xs i d) ≡ flat_map f (take (i + 1) xs)
-flat_map_more {X} f xs i d h =
-    sym (ap (flat_map f) (take_more xs i d h) ∙ flat_map-append f (take i xs) (get_or xs i d ∷ [])
-    ∙ ap (λ (t : List ℕ). flat_map f (take i xs) ++ t) (append-nil (f (get_or xs i d))))
 
 pub length_more : {X : Type 0} (f : X → List ℕ) (xs : List X) (i : ℕ) (d : X) → i < length xs
     → length (flat_map f (take i xs)) + length (f (get_or xs i d)) ≡ length (flat_map f (take (i + 1) xs))

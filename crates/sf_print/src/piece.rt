@@ -1,34 +1,14 @@
-//! The pieces of a value's text.
-ghost use Rattle.std.specs.Prelude.{◌≡◌, ◌<◌, ◌≤◌, ◌+◌, ◌^◌, length, min, OnOk, is_err, if◌then◌else◌};
+//! The pieces of a value's text, put one after the other.
+ghost use Rattle.std.specs.Prelude.{◌≡◌, ◌<◌, ◌+◌, ◌^◌, length, OnOk, is_err, if◌then◌else◌};
 ghost use Rattle.std.specs.List.{flat_map};
-ghost use Rattle.sf_print.specs.Sinks.{counted_on};
+ghost use Rattle.sf_sink.specs.Sinks.{counted_on};
 ghost use Rattle.sf_print.specs.Staged.{Puts};
-ghost use Rattle.sf_print.specs.Runs.{piece_bytes};
+ghost use Rattle.sf_texts.specs.Runs.{piece_bytes};
 
 use crate::handing::{put, put_run};
-use crate::sink::{Sink, SinkFault};
 use crate::stage::Stage;
-
-/// A run of one byte, or bytes.
-#[derive(Clone, Copy)]
-pub(crate) enum Piece<'a> {
-    Run(u8, u32),
-    Bytes(&'a [u8]),
-}
-
-/// The pieces of a text, in order.
-pub(crate) type Pieces<'a> = [Piece<'a>; 6];
-
-impl Piece<'_> {
-    pub(crate) fn len(&self) -> u64
-        ensures { result ≡ length (piece_bytes self.now) }
-    {
-        match *self {
-            Piece::Run(_, count) => count as u64,
-            Piece::Bytes(bytes) => bytes.len() as u64,
-        }
-    }
-}
+use sf_sink::{Sink, SinkFault};
+use sf_texts::Piece;
 
 /// Puts a piece.
 #[inline]
@@ -64,16 +44,4 @@ pub(crate) fn put_pieces<K: Sink>(
         put_piece(to, stage, piece)?;
     }
     Ok(())
-}
-
-/// The length of the pieces together, or the most where they are longer.
-pub(crate) fn pieces_len(pieces: &[Piece<'_>], most: u64) -> u64
-    requires { most < 2 ^ 32 }
-    ensures { result ≡ min most (length (flat_map piece_bytes pieces.now)) }
-{
-    let mut sum = 0;
-    for piece in pieces {
-        sum = piece.len().min(most - sum) + sum;
-    }
-    sum
 }

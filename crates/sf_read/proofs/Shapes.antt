@@ -29,9 +29,9 @@ use Rattle.sf_base.specs.Kept.{Kept}
 use Rattle.sf_run.specs.Memory.{capacity_of}
 use Rattle.sf_read.specs.declared.row.ScanRowFault.{ScanRowFault}
 use Rattle.sf_read.specs.declared.row.ScanRowFault.TheVariants.{Start}
-use Rattle.sf_read.specs.Ahead.{Ahead, input_of}
-use Rattle.sf_read.specs.Counts.{counted_on}
-use Rattle.sf_read.specs.Rows.{AreGivenAs, IsGivenAs}
+use Rattle.sf_source.specs.Ahead.{Ahead, input_of}
+use Rattle.sf_source.specs.Counts.{counted_on}
+use Rattle.sf_field.specs.Rows.{AreGivenAs, IsGivenAs}
 use Rattle.sf_read.specs.RowScans.{Answers, HasShape, RowScan, is_run}
 use Rattle.sf_read.specs.Scan.{Scan, is_fault}
 use Rattle.sf_read.proofs.Blocks.{no_reads}

@@ -14,18 +14,18 @@ ghost use Rattle.sf_run.specs.Scanner.{kept_by, standing};
 ghost use Rattle.sf_run.specs.Standing.{After, used_by};
 ghost use Rattle.sf_run.specs.Stopping.{is_memory_status};
 ghost use Rattle.sf_run.specs.Views.{report_by};
-ghost use Rattle.sf_read.specs.Ahead.{input_of};
-ghost use Rattle.sf_read.specs.Counts.{counted_on, lines_after};
+ghost use Rattle.sf_source.specs.Ahead.{input_of};
+ghost use Rattle.sf_source.specs.Counts.{counted_on, lines_after};
 ghost use Rattle.sf_read.specs.Reading.{Driven, IsFresh};
 ghost use Rattle.sf_read.specs.Reads.{WaitedFor};
 ghost use Rattle.sf_read.specs.Scan.{Scan, is_fault};
 
-use crate::{Lookahead, Source};
 use sf_base::{FixedStore, HeapStore, Store};
 use sf_format::ScanFormat;
 use sf_run::{
     Ending, FeedState, MOST_BYTES, Outcome, Scanned, Scanner, StartFault, quick_run_into,
 };
+use sf_source::{Lookahead, Source};
 use std::alloc::Global;
 
 /// Adds the newlines of these bytes. The count stays at 2^64 - 1.

@@ -4,7 +4,7 @@ use Rattle.sf_base.specs.Kept.{Kept}
 use Rattle.sf_format.specs.Widths.{width_sum}
 use Rattle.sf_run.specs.Memory.{capacity_of}
 use Rattle.sf_run.specs.declared.feeding.StartFault.TheVariants.{NoMemory}
-use Rattle.sf_read.specs.Rows.{slots_by}
+use Rattle.sf_field.specs.Rows.{slots_by}
 use Rattle.sf_read.specs.declared.row.ScanRowFault.TheVariants.{Start}
 use Rattle.std.proofs.lemmas.Grind.{common_steps}
 use Rattle.sf_read.proofs.Shapes.{given, no_start}

@@ -1,0 +1,19 @@
+-- A minus, and groups of decimal digits with zeros in front.
+use Rattle.std.specs.Prelude.{ℕ, Bool, true, false, ◌+◌, ◌/◌, ◌%◌, List, [], ◌∷◌, ◌++◌}
+
+abbrev pub two_digits : ℕ → List ℕ
+two_digits n = (48 + n / 10) ∷ (48 + n % 10) ∷ []
+
+abbrev pub three_digits : ℕ → List ℕ
+three_digits n = two_digits (n / 10) ++ (48 + n % 10) ∷ []
+
+abbrev pub four_digits : ℕ → List ℕ
+four_digits n = two_digits (n / 100) ++ two_digits (n % 100)
+
+abbrev pub eight_digits : ℕ → List ℕ
+eight_digits n = four_digits (n / 10000) ++ four_digits (n % 10000)
+
+-- before the digits of a negative number
+abbrev pub minus : Bool → List ℕ
+minus true = 45 ∷ []
+minus false = []

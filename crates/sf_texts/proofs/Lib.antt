@@ -1,0 +1,6 @@
+pub mod Around
+pub mod Plainness
+pub mod Reals
+pub mod Blanks
+pub mod Joined
+pub mod Short
