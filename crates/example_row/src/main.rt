@@ -3,7 +3,8 @@
 
 use anyhow::bail;
 use arrayvec::ArrayVec;
-use sf_base::{Kind, Store, Value};
+use sf_base::{Kind, Value};
+use sf_store::Store;
 use sf_format::{PrintFormat, Profile, ScanFormat};
 use sf_print::{StdSink, fprint};
 use sf_read::{Lookahead, Row, RowFault, ScanRowFault, StdSource, scan_row};

@@ -1,6 +1,4 @@
 pub mod Sets
-pub mod EntryLemmas
-pub mod Moves
 pub mod Bits
 pub mod Lanes
 pub mod Fronts

@@ -3,8 +3,5 @@ pub mod Greatest
 pub mod Sets
 pub mod Kinds
 pub mod Data
-pub mod Kept
-pub mod Buffers
-pub mod Entries
 pub mod Rules
 pub mod Counting

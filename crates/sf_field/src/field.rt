@@ -8,7 +8,8 @@ ghost use Rattle.sf_report.specs.Rows.{IsReadable};
 ghost use Rattle.sf_field.specs.Rows.{IsGivenAs};
 
 use crate::rows::RowFault;
-use sf_base::{Kind, Store, Value};
+use sf_base::{Kind, Value};
+use sf_store::Store;
 use sf_report::Report;
 use std::alloc::{AllocError, Global};
 

@@ -8,7 +8,8 @@ ghost use Rattle.sf_report.specs.Rows.{at_slot, given_to};
 ghost use Rattle.sf_field.specs.Rows.{AreGivenAs, present, slots_by};
 
 use arrayvec::ArrayVec;
-use sf_base::{Kind, Store, Value};
+use sf_base::{Kind, Value};
+use sf_store::Store;
 use sf_report::Report;
 use std::alloc::Global;
 use thiserror::Error;

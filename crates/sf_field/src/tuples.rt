@@ -7,7 +7,8 @@ ghost use Rattle.sf_field.specs.Rows.{present};
 use crate::field::{Field, taken_from};
 use crate::rows::{GivenRow, Row, RowFault};
 use arrayvec::ArrayVec;
-use sf_base::{Kind, Store, Value};
+use sf_base::{Kind, Value};
+use sf_store::Store;
 use sf_report::Report;
 use std::alloc::Global;
 

@@ -11,7 +11,7 @@ use crate::heads::{push_names, push_object, push_tagged};
 use crate::line::push_record;
 use crate::output::write_whole;
 use crate::short_line::{LINE_BYTES, Record, write_line};
-use sf_base::Store;
+use sf_store::Store;
 use sf_print::Sink;
 use sf_report::Report;
 use std::alloc::Global;

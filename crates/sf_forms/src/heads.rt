@@ -11,7 +11,7 @@ use crate::columns::{Columns, push_columns, push_framed};
 use crate::form::OutputForm;
 use crate::json::push_json_string;
 use crate::line::{Slots, push_text};
-use sf_base::Store;
+use sf_store::Store;
 use sf_print::push_number;
 use sf_report::Report;
 use std::alloc::AllocError;

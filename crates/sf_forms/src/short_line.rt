@@ -13,7 +13,8 @@ use crate::json::write_string;
 use crate::quote::write_between;
 use crate::real::write_real;
 use crate::tables::write_tsv_text;
-use sf_base::{Shown, Store};
+use sf_base::Shown;
+use sf_store::Store;
 use sf_print::{TextInPlace, write_number};
 use sf_report::Report;
 

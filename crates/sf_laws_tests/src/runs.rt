@@ -11,7 +11,7 @@ ghost use Rattle.sf_report.specs.Rows.{FillsSlots, HasRow};
 ghost use Rattle.sf_report.specs.Runs.{IsOpen, report_of, values};
 ghost use Rattle.sf_run.specs.outcome.Status.TheVariants.{Done};
 
-use sf_base::HeapStore;
+use sf_store::HeapStore;
 use sf_format::ScanFormat;
 use sf_read::sscan;
 use sf_report::laws::{

@@ -3,7 +3,7 @@ ghost use Rattle.std.specs.Prelude.{◌≡◌, ◌∷◌, ℕ, List, [], IfSome,
 ghost use Rattle.sf_read.specs.Ahead.{input_of};
 ghost use Rattle.sf_read.specs.Laws.{RunsInTurn};
 
-use sf_base::HeapStore;
+use sf_store::HeapStore;
 use sf_format::ScanFormat;
 use sf_read::laws::scans_are_runs;
 use sf_read::{Lookahead, Source, fscan};

@@ -19,7 +19,7 @@ use crate::end::{LineFault, LinesFault};
 use crate::formats::LineFormats;
 use crate::options::LinesOptions;
 use crate::teller::Teller;
-use sf_base::{HeapStore, Store};
+use sf_store::{HeapStore, Store};
 use sf_format::ScanFormat;
 use sf_line::LineRead;
 use sf_makers::{Maker, Unwritten};

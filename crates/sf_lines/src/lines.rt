@@ -1,7 +1,7 @@
 //! The loop over the lines of an input.
 ghost use Rattle.std.specs.Prelude.{◌≡◌, ◌≤◌, ◌<◌, ℕ, List, Some, IfOk, true, max, length, if◌then◌else◌};
 ghost use Rattle.std.specs.List.{AllByRecursion};
-ghost use Rattle.sf_base.specs.Kept.{nothing_kept};
+ghost use Rattle.sf_store.specs.Kept.{nothing_kept};
 ghost use Rattle.sf_format.specs.Proper.{AreProper};
 ghost use Rattle.sf_print.specs.Sinks.{counted_on};
 ghost use Rattle.sf_read.specs.Ahead.{input_of};
@@ -16,7 +16,7 @@ use crate::formats::LineFormats;
 use crate::options::LinesOptions;
 use crate::teller::Teller;
 use crate::turn::turn;
-use sf_base::HeapStore;
+use sf_store::HeapStore;
 use sf_format::ScanFormat;
 use sf_makers::Maker;
 use sf_print::Sink;

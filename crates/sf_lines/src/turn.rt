@@ -17,7 +17,7 @@ use crate::formats::LineFormats;
 use crate::judge::{Judged, judge, tell};
 use crate::options::LinesOptions;
 use crate::teller::Teller;
-use sf_base::HeapStore;
+use sf_store::HeapStore;
 use sf_line::{LineRead, held_line, next_line};
 use sf_makers::Maker;
 use sf_print::Sink;

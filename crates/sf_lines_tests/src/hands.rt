@@ -3,7 +3,9 @@ ghost use Rattle.std.specs.Prelude.{◌≡◌, Some, if◌then◌else◌, refl};
 ghost use Rattle.sf_base.specs.Data.{datum_at};
 ghost use Rattle.sf_lines_tests.specs.Hands.{bytes_in, first_of, letter_of, note_of, writing_first};
 
-use sf_base::{Store, Value};
+use sf_base::Value;
+
+use sf_store::Store;
 use sf_format::ScanFormat;
 use sf_lines::{LineFault, Teller};
 use sf_makers::{Maker, Unwritten};

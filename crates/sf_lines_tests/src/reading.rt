@@ -1,5 +1,6 @@
 //! The calls of `sf_read` by which lines are read and scanned.
-use sf_base::{HeapStore, Value};
+use sf_base::Value;
+use sf_store::HeapStore;
 use sf_format::{Profile, ScanFormat};
 use sf_read::{Lookahead, SliceSource, sscan, sscan_over};
 use std::alloc::Global;

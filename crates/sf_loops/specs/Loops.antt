@@ -1,7 +1,7 @@
 -- A loop over the records of an input: where it stands, and what it answers next.
 use Rattle.std.specs.Prelude.{◌≡◌, ℕ, List, [], Bool, true, false, length, Option, Some, None, Result, Ok, Err}
 use Rattle.sf_base.specs.Data.{Assigned, Datum}
-use Rattle.sf_base.specs.Kept.{Kept}
+use Rattle.sf_store.specs.Kept.{Kept}
 use Rattle.sf_base.specs.declared.values.Kind.{Kind}
 use Rattle.sf_format.specs.declared.directive.Directive.{Directive}
 use Rattle.sf_run.specs.Runs.{RunReport}

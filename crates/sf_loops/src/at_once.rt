@@ -5,7 +5,7 @@ ghost use Rattle.sf_run.specs.Memory.{capacity_of};
 ghost use Rattle.sf_run.specs.Views.{report_by};
 ghost use Rattle.sf_run.specs.outcome.Ending.TheVariants.{End};
 
-use sf_base::HeapStore;
+use sf_store::HeapStore;
 use sf_format::ScanFormat;
 use sf_run::laws::{done_runs_stay, open_inputs_are_used};
 use sf_run::{Ending, Outcome, quick_run};

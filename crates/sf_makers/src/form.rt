@@ -7,7 +7,7 @@ ghost use Rattle.sf_makers.specs.Works.{Writes, sink_failed};
 
 use crate::maker::{Maker, Unwritten};
 use crate::names::Names;
-use sf_base::Store;
+use sf_store::Store;
 use sf_format::ScanFormat;
 use sf_forms::{FormWriter, OutputForm, RecordFault};
 use sf_print::Sink;

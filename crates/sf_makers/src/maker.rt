@@ -6,7 +6,7 @@ ghost use Rattle.sf_report.specs.Runs.{RunReport};
 ghost use Rattle.sf_report.specs.declared.outcome.Ending.{Ending};
 ghost use Rattle.sf_makers.specs.Works.{Makes, SameWithMet, Work, sink_failed};
 
-use sf_base::Store;
+use sf_store::Store;
 use sf_format::ScanFormat;
 use sf_print::Sink;
 use sf_report::Report;

@@ -4,7 +4,8 @@ ghost use Rattle.sf_base.specs.Data.{datum_of, datum_of_shown};
 ghost use Rattle.sf_makers.specs.Row.{row_of};
 
 use arrayvec::ArrayVec;
-use sf_base::{Shown, Store, Value};
+use sf_base::{Shown, Value};
+use sf_store::Store;
 use sf_report::Report;
 
 /// The most values that a record has.

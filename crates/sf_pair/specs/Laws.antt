@@ -9,7 +9,7 @@ use Rattle.sf_format.specs.declared.directive.Directive.{Directive}
 use Rattle.sf_format.specs.declared.unit.PrintConv.{PrintConv}
 use Rattle.sf_format.specs.Units.{AreAccepted, values_of}
 use Rattle.sf_format.specs.Proper.{IsAccepted, destinations_of, has_optional, may_miss}
-use Rattle.sf_base.specs.Kept.{texts_in}
+use Rattle.sf_store.specs.Kept.{texts_in}
 use Rattle.sf_print.specs.Printed.{value_at, printed}
 use Rattle.sf_report.specs.declared.outcome.Ending.{Ending}
 use Rattle.sf_report.specs.declared.outcome.Ending.TheVariants.{End}

@@ -2,7 +2,7 @@
 ghost use Rattle.std.specs.Prelude.{◌≡◌, ◌≤◌, ◌<◌, ◌+◌, ◌++◌, ◌⊎◌, ◌↔◌, ℕ, List, length, true, false, Some, IfOk};
 ghost use Rattle.std.specs.Prelude.{IfErr, IsOk, IsErrOf, IsSomeAnd, unwrap_or, if◌then◌else◌};
 ghost use Rattle.sf_base.specs.Data.{Datum};
-ghost use Rattle.sf_base.specs.Kept.{buffer_of, texts_in};
+ghost use Rattle.sf_store.specs.Kept.{buffer_of, texts_in};
 ghost use Rattle.sf_format.specs.Proper.{destinations_of};
 ghost use Rattle.sf_format.specs.Widths.{width_sum};
 ghost use Rattle.sf_print.specs.Printed.{printed};
@@ -19,7 +19,7 @@ ghost use Rattle.sf_pair.specs.Fits.{Fit};
 ghost use Rattle.sf_pair_read.specs.Reading.{ReadsBackWhole};
 
 use crate::below::pair_laws;
-use sf_base::{FixedStore, HeapStore};
+use sf_store::{FixedStore, HeapStore};
 use sf_pair::Pair;
 use sf_read::{Lookahead, Source, fscan, fscan_fixed, fscan_over};
 use sf_run::{Scanned, StartFault};

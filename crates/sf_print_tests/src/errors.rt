@@ -1,5 +1,5 @@
 //! Faults as errors: `?` makes an `anyhow::Error` of each, with its text.
-use sf_base::StoreFull;
+use sf_store::StoreFull;
 use sf_format::{FormatFault, FormatWhy, PrintFormat, Profile, ScanFormat};
 use sf_print::{PrintFault, SinkFault};
 use sf_rows::{is_error, says};

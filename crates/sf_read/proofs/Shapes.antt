@@ -25,7 +25,7 @@ use Rattle.sf_report.proofs.Filling.{done_fills, none_may}
 use Rattle.sf_report.proofs.Values.{readable_at}
 use Rattle.sf_run.specs.declared.feeding.StartFault.{StartFault}
 use Rattle.sf_base.specs.Data.{Datum, datum_at}
-use Rattle.sf_base.specs.Kept.{Kept}
+use Rattle.sf_store.specs.Kept.{Kept}
 use Rattle.sf_run.specs.Memory.{capacity_of}
 use Rattle.sf_read.specs.declared.row.ScanRowFault.{ScanRowFault}
 use Rattle.sf_read.specs.declared.row.ScanRowFault.TheVariants.{Start}

@@ -1,7 +1,7 @@
 //! Rows of what a source gives.
 ghost use Rattle.std.specs.Prelude.{◌≡◌, length, ◌≤◌, ◌<◌, ◌+◌, ◌⊎◌, ◌↔◌, ℕ, List, true, false, Some, IfErr, IfOk};
 ghost use Rattle.std.specs.Prelude.{IfSome, IsErrOf, IsNone, IsOk, IsSome, unwrap_or, if◌then◌else◌};
-ghost use Rattle.sf_base.specs.Kept.{nothing_kept};
+ghost use Rattle.sf_store.specs.Kept.{nothing_kept};
 ghost use Rattle.sf_format.specs.Proper.{AreKinded, IsAccepted, destinations_of, may_miss};
 ghost use Rattle.sf_format.specs.Widths.{width_sum};
 ghost use Rattle.sf_run.specs.Limits.{RunTold};
@@ -18,7 +18,7 @@ ghost use Rattle.sf_read.specs.Scan.{Scan, is_fault};
 
 use crate::stream::held_into;
 use crate::{fscan, fscan_over};
-use sf_base::{FixedStore, HeapStore, Store};
+use sf_store::{FixedStore, HeapStore, Store};
 use sf_field::{Row, RowFault};
 use sf_format::ScanFormat;
 use sf_run::{Ending, MOST_BYTES, Outcome, Report, Scanned, StartFault, Status};

@@ -1,7 +1,9 @@
 //! Calls one after the other on one source: what each reports, and what it leaves.
 ghost use Rattle.std.specs.Prelude.{◌≤◌};
 
-use sf_base::{HeapStore, Value};
+use sf_base::Value;
+
+use sf_store::HeapStore;
 use sf_format::{Profile, ScanFormat};
 use sf_read::{Lookahead, ReadStep, ScriptSource, Source, fscan, fscan_over};
 use sf_rows::{LIMIT, Met, Told, has_values, is};

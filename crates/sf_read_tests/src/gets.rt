@@ -1,5 +1,5 @@
 //! What slots were given, taken as types of Rust.
-use sf_base::HeapStore;
+use sf_store::HeapStore;
 use sf_format::{Profile, ScanFormat};
 use sf_read::sscan;
 use sf_rows::{LIMIT, is};

@@ -1,7 +1,9 @@
 //! Every row of a scan from scripted sources: blocks of all lengths, and each read that fails.
 ghost use Rattle.std.specs.Prelude.{◌≤◌};
 
-use sf_base::{Store, Value};
+use sf_base::Value;
+
+use sf_store::Store;
 use sf_format::{Profile, ScanFormat};
 use sf_read::{Lookahead, ReadStep, ScriptSource, fscan, fscan_fixed};
 use sf_rows::{LIMIT, ScanRow, is, scans};

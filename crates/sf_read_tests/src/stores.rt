@@ -1,5 +1,5 @@
 //! Scans over a store that is used again, over stores of fixed capacity, and those that are refused.
-use sf_base::HeapStore;
+use sf_store::HeapStore;
 use sf_format::{Profile, ScanFormat};
 use sf_read::{
     Lookahead, ReadStep, ScriptSource, SliceSource, fscan, fscan_fixed, fscan_over, sscan,

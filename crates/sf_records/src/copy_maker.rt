@@ -7,7 +7,9 @@ ghost use Rattle.sf_pair.specs.Fits.{Fit};
 ghost use Rattle.sf_records.specs.Copies.{copying, is_copied, row_in, row_of};
 ghost use Rattle.sf_makers.specs.Works.{Writes, sink_failed};
 
-use sf_base::{Shown, Store, Value};
+use sf_base::{Shown, Value};
+
+use sf_store::Store;
 use sf_format::ScanFormat;
 use sf_makers::{FEW_VALUES, MOST_VALUES, Maker, Unwritten, row, shown_row};
 use sf_pair::laws::fits_is_fit;

@@ -11,7 +11,7 @@ ghost use Rattle.sf_records.specs.Works.{turn_in};
 
 use crate::end::{ToolEnd, ToolFault, ended_by};
 use crate::turn::{Turn, next_turn};
-use sf_base::{HeapStore, Store};
+use sf_store::{HeapStore, Store};
 use sf_format::ScanFormat;
 use sf_makers::{Maker, Unwritten};
 use sf_print::Sink;

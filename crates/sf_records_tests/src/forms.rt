@@ -3,7 +3,7 @@ ghost use Rattle.std.specs.Prelude.{◌≤◌};
 
 use crate::copies::{LIMIT, is};
 use crate::reading_back::write_table;
-use sf_base::Store;
+use sf_store::Store;
 use sf_format::{Profile, ScanFormat};
 use sf_print::{ListSink, ScriptSink, WriteStep};
 use sf_read::{Lookahead, SliceSource, fscan_fixed};

@@ -1,5 +1,6 @@
 //! What a call answers.
-use sf_base::{HeapStore, Value};
+use sf_base::Value;
+use sf_store::HeapStore;
 use sf_format::FormatFault;
 use sf_pair::WriteFault;
 use sf_print::PrintFault;

@@ -1,6 +1,6 @@
 //! Formats, scanners and scans.
 use crate::answer::{Answer, told};
-use sf_base::HeapStore;
+use sf_store::HeapStore;
 use sf_format::{PrintFormat, Profile, ScanFormat};
 use sf_read::{Lookahead, SliceSource, fscan, fscan_over, scan_row, sscan};
 use sf_rows::Named;

@@ -4,7 +4,7 @@ ghost use Rattle.std.specs.Prelude.{take, drop, get_or, if◌then◌else◌, not
 ghost use Rattle.sf_base.specs.Bytes.{is_white};
 ghost use Rattle.std.specs.Option.{option_map};
 ghost use Rattle.sf_base.specs.Data.{Number as NumberOf, Real as RealOf, datum_of_number, value_of};
-ghost use Rattle.sf_base.specs.Kept.{Opened, text_of};
+ghost use Rattle.sf_store.specs.Kept.{Opened, text_of};
 ghost use Rattle.sf_base.specs.Kinds.{bounds_of};
 ghost use Rattle.sf_format.specs.declared.directive.Conversion.{Conversion};
 ghost use Rattle.sf_format.specs.declared.directive.Directive.{Directive};

@@ -1,5 +1,5 @@
 //! Runs of scanners that are handed pieces, what C returns for them, and a scanner that waits.
-use sf_base::{HeapStore, Store};
+use sf_store::{HeapStore, Store};
 use sf_format::{Profile, ScanFormat};
 use sf_rows::{c_returns, is};
 use sf_run::{Ending, Scanned, Scanner};

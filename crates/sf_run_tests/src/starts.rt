@@ -1,5 +1,5 @@
 //! Runs that are not started.
-use sf_base::FixedStore;
+use sf_store::FixedStore;
 use sf_format::{Profile, ScanFormat};
 use sf_rows::is;
 use sf_run::{Scanner, StartFault};

@@ -41,7 +41,8 @@
 mod outcomes;
 
 pub use outcomes::{is_done, is_end};
-pub use sf_base::{FixedStore, HeapStore, Kind, Store, StoreFull, Taken, Value};
+pub use sf_base::{Kind, Taken, Value};
+pub use sf_store::{FixedStore, HeapStore, Store, StoreFull};
 pub use sf_blocks::BlockSink;
 pub use sf_format::{FormatFault, FormatWhy, PrintFormat, Profile, ScanFormat};
 pub use sf_loops::{
