@@ -32,10 +32,10 @@ use Rattle.sf_jobs.specs.Commands.{ScansPrint, ScansPrintWords, ScansText, Scans
 use Rattle.sf_jobs.specs.CopyFormats.{line_of}
 use Rattle.sf_jobs.specs.declared.copy_formats.CopyFormats.{CopyFormats}
 use Rattle.sf_records.specs.Copies.{copying}
-use Rattle.sf_tool.specs.Copies.{CopiesPair, CopiesTexts, line_options}
+use Rattle.sf_line_jobs.specs.Copies.{CopiesPair, CopiesTexts, line_options}
 use Rattle.sf_tool.specs.Exits.{DoesOn, DoesOrder, EndsCopies, EndsLines, EndsScans, is_explained, unread_of}
 use Rattle.sf_console.specs.Fronts.{file_name}
-use Rattle.sf_tool.specs.Lines.{RunsForm, RunsLines, RunsUnder, RunsWriting, ScansLines, scanning}
+use Rattle.sf_line_jobs.specs.Lines.{RunsForm, RunsLines, RunsUnder, RunsWriting, ScansLines, scanning}
 use Rattle.sf_jobs.specs.declared.writing.Writing.{Writing}
 use Rattle.sf_jobs.specs.declared.writing.Writing.TheVariants.{Form, Print}
 use Rattle.sf_jobs.specs.Heads.{heading_by, is_headed, names_text}

@@ -21,10 +21,10 @@ use Rattle.sf_messages.specs.declared.fault.CommandFault.TheVariants.{Write, Mem
 use Rattle.sf_jobs.specs.Answers.{Answer}
 use Rattle.sf_jobs.specs.Commands.{CarriesOut, Counts, form_of, grammar_of}
 use Rattle.sf_jobs.specs.Heads.{is_headed, names_text}
-use Rattle.sf_tool.specs.Copies.{CopiesTexts}
+use Rattle.sf_line_jobs.specs.Copies.{CopiesTexts}
 use Rattle.sf_notes.specs.Explains.{SaysMore, SaysMoreOfRefused}
 use Rattle.sf_console.specs.Fronts.{file_name}
-use Rattle.sf_tool.specs.Lines.{SaysMoreOfLines, ScansLines}
+use Rattle.sf_line_jobs.specs.Lines.{SaysMoreOfLines, ScansLines}
 use Rattle.sf_console.specs.Saying.{Says}
 use Rattle.sf_console.specs.Ends.{Ends, EndsFailed, EndsKnown, exit_of}
 

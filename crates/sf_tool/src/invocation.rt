@@ -7,11 +7,10 @@ ghost use Rattle.sf_tool.specs.Exits.{EndsScans};
 ghost use Rattle.sf_tool.specs.Exits.{Exits, ExitsOn, ExitsSomewhere, Helps, is_explained};
 ghost use Rattle.sf_tool.specs.Rooms.{TakesAWord};
 
-use crate::copies::copy_by_formats;
-use crate::lines::scan_lines;
 use crate::loans::{ByNamed, Name, Named, Tied};
 use sf_console::{Apart, Console, Lent, Reasons, end, end_known, exit_of, say};
 use sf_jobs::{RefusedWord, form_of, grammar_of, lines_job, prepare, prepare_copies, run};
+use sf_line_jobs::{copy_by_formats, scan_lines};
 use sf_messages::CommandFault;
 use sf_notes::{Left, notes_of_copies, notes_of_job, notes_of_refused};
 use sf_places::{BLOCK_BYTES, Input, Placed};

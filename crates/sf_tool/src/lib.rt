@@ -1,11 +1,9 @@
 //! The command `sf`: records scanned from an input, a line for each; and words printed by a format.
 #![tactic(auto)]
 
-mod copies;
 mod files;
 mod invocation;
 pub mod laws;
-mod lines;
 mod loans;
 mod program;
 

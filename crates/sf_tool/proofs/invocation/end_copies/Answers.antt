@@ -3,7 +3,7 @@ use Rattle.sf_jobs.specs.Commands.{grammar_of}
 use Rattle.sf_tool.specs.Exits.{EndsRefused}
 use Rattle.sf_console.specs.Ends.{EndsKnown}
 use Rattle.sf_console.specs.Fronts.{file_name}
-use Rattle.sf_tool.proofs.Copying.{copies_by, copies_line, copies_none, more_of_no_copies}
+use Rattle.sf_line_jobs.proofs.Copying.{copies_by, copies_line, copies_none, more_of_no_copies}
 use Rattle.sf_tool.proofs.invocation.end_copies.Goals as goal
 
 pub copy_by_formats-answer-requires : goal.copy_by_formats-answer-requires

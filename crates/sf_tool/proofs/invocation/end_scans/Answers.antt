@@ -4,7 +4,7 @@ use Rattle.sf_jobs.specs.Commands.{form_of, grammar_of}
 use Rattle.sf_tool.specs.Exits.{EndsRefused}
 use Rattle.sf_console.specs.Ends.{EndsKnown}
 use Rattle.sf_jobs.specs.LinesJobs.{IsRefused}
-use Rattle.sf_tool.proofs.Lining.{more_of_refused_lines, nothing_said}
+use Rattle.sf_line_jobs.proofs.Lining.{more_of_refused_lines, nothing_said}
 use Rattle.sf_tool.proofs.invocation.end_scans.Goals as goal
 
 -- the words are refused
