@@ -9,8 +9,8 @@ ghost use Rattle.sf_field.specs.Rows.{IsGivenAs};
 
 use crate::rows::RowFault;
 use sf_base::{Kind, Value};
-use sf_store::Store;
 use sf_report::Report;
+use sf_store::Store;
 use std::alloc::{AllocError, Global};
 
 /// A type that a slot of a row may have: one of the eight integers, `f32` or `f64`, or a text of bytes that is the

@@ -9,8 +9,8 @@ ghost use Rattle.sf_field.specs.Rows.{AreGivenAs, present, slots_by};
 
 use arrayvec::ArrayVec;
 use sf_base::{Kind, Value};
-use sf_store::Store;
 use sf_report::Report;
+use sf_store::Store;
 use std::alloc::Global;
 use thiserror::Error;
 

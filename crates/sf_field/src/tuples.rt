@@ -8,8 +8,8 @@ use crate::field::{Field, taken_from};
 use crate::rows::{GivenRow, Row, RowFault};
 use arrayvec::ArrayVec;
 use sf_base::{Kind, Value};
-use sf_store::Store;
 use sf_report::Report;
+use sf_store::Store;
 use std::alloc::Global;
 
 /// Appends a value that is there.

@@ -12,9 +12,9 @@ use crate::quote::push_quoted;
 use crate::real::push_real;
 use crate::tables::push_tsv_text;
 use sf_base::Shown;
-use sf_store::Store;
 use sf_print::push_number;
 use sf_report::Report;
+use sf_store::Store;
 use std::alloc::AllocError;
 
 /// Appends a text.

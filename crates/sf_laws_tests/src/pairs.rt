@@ -15,8 +15,6 @@ ghost use Rattle.sf_pair.specs.Fits.{Fit, fits};
 ghost use Rattle.sf_pair.specs.Laws.{IsOpenAt, IsRunInto, StopsAt, read_back};
 
 use sf_base::Value;
-
-use sf_store::HeapStore;
 use sf_format::{PrintFormat, ScanFormat};
 use sf_pair::laws::{
     aligned_is_accepted, aligned_is_bounded, ends_on_nothing, fits_is_fit, held_is_bounded,
@@ -27,6 +25,7 @@ use sf_pair::{Pair, PairFault, PairWhy};
 use sf_read::sscan;
 use sf_report::laws::one_report;
 use sf_run::Scanned;
+use sf_store::HeapStore;
 use std::alloc::Global;
 
 /// The limit of these runs.

@@ -11,7 +11,6 @@ ghost use Rattle.sf_report.specs.Rows.{FillsSlots, HasRow};
 ghost use Rattle.sf_report.specs.Runs.{IsOpen, report_of, values};
 ghost use Rattle.sf_run.specs.outcome.Status.TheVariants.{Done};
 
-use sf_store::HeapStore;
 use sf_format::ScanFormat;
 use sf_read::sscan;
 use sf_report::laws::{
@@ -19,6 +18,7 @@ use sf_report::laws::{
     steps_are_computed,
 };
 use sf_report::{Ending, Scanned};
+use sf_store::HeapStore;
 use std::alloc::Global;
 
 /// The limit of these runs.

@@ -19,7 +19,6 @@ use crate::end::{LineFault, LinesFault};
 use crate::formats::LineFormats;
 use crate::options::LinesOptions;
 use crate::teller::Teller;
-use sf_store::{HeapStore, Store};
 use sf_format::ScanFormat;
 use sf_line::LineRead;
 use sf_makers::{Maker, Unwritten};
@@ -27,6 +26,7 @@ use sf_print::Sink;
 use sf_read::sscan_over;
 use sf_run::laws::done_runs_stay;
 use sf_run::{Outcome, Report, Status, quick_run};
+use sf_store::{HeapStore, Store};
 use std::alloc::{AllocError, Global};
 
 /// What came of the next line.

@@ -16,11 +16,11 @@ use crate::formats::LineFormats;
 use crate::options::LinesOptions;
 use crate::teller::Teller;
 use crate::turn::turn;
-use sf_store::HeapStore;
 use sf_format::ScanFormat;
 use sf_makers::Maker;
 use sf_print::Sink;
 use sf_read::{Lookahead, Source};
+use sf_store::HeapStore;
 use std::alloc::{AllocError, Global};
 
 /// The most lines that one loop reads.

@@ -17,11 +17,11 @@ use crate::formats::LineFormats;
 use crate::judge::{Judged, judge, tell};
 use crate::options::LinesOptions;
 use crate::teller::Teller;
-use sf_store::HeapStore;
 use sf_line::{LineRead, held_line, next_line};
 use sf_makers::Maker;
 use sf_print::Sink;
 use sf_read::{Lookahead, Source};
+use sf_store::HeapStore;
 use std::alloc::Global;
 
 /// How many bytes after a line are looked at with it: its newline and some of the next line, so that the last item of

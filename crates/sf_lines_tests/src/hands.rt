@@ -4,14 +4,13 @@ ghost use Rattle.sf_base.specs.Data.{datum_at};
 ghost use Rattle.sf_lines_tests.specs.Hands.{bytes_in, first_of, letter_of, note_of, writing_first};
 
 use sf_base::Value;
-
-use sf_store::Store;
 use sf_format::ScanFormat;
 use sf_lines::{LineFault, Teller};
 use sf_makers::{Maker, Unwritten};
 use sf_print::Sink;
 use sf_records::write_whole;
 use sf_run::Report;
+use sf_store::Store;
 use std::alloc::AllocError;
 
 /// What slot 1 was given, if that is a text.

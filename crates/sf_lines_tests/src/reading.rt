@@ -1,8 +1,8 @@
 //! The calls of `sf_read` by which lines are read and scanned.
 use sf_base::Value;
-use sf_store::HeapStore;
 use sf_format::{Profile, ScanFormat};
 use sf_read::{Lookahead, SliceSource, sscan, sscan_over};
+use sf_store::HeapStore;
 use std::alloc::Global;
 use std::test::Fail;
 

@@ -10,10 +10,10 @@ ghost use Rattle.sf_loops.specs.Runs.{IsNextRun};
 ghost use Rattle.sf_loops.specs.Turns.{turn_by};
 
 use crate::newlines::count_front;
-use sf_store::HeapStore;
 use sf_format::ScanFormat;
 use sf_read::{Lookahead, Source, fscan_counting};
 use sf_run::{Outcome, Scanned, quick_run};
+use sf_store::HeapStore;
 use std::alloc::Global;
 
 /// Runs the format over a record that is held whole, as `sf_read::fscan_held` does, and counts the newlines that the

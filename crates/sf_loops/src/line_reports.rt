@@ -12,11 +12,11 @@ ghost use Rattle.sf_loops.specs.Turns.{outcome_of};
 
 use crate::at_once::run_at_once;
 use crate::line_fault::{LineFault, LineStop, LineWhy};
-use sf_store::HeapStore;
 use sf_format::ScanFormat;
 use sf_line::{LineRead, next_line};
 use sf_read::{Lookahead, Source, sscan_over};
 use sf_run::{MOST_BYTES, Outcome, Report, StartFault, Status};
+use sf_store::HeapStore;
 use std::alloc::Global;
 use std::marker::Model;
 use std::mem::replace;

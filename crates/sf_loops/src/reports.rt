@@ -9,10 +9,10 @@ ghost use Rattle.sf_loops.specs.Runs.{IsNextRun};
 use crate::fault::{RecordFault, RecordWhy};
 use crate::held::{take_held, take_next};
 use crate::turn::{Turn, next_turn};
-use sf_store::HeapStore;
 use sf_format::ScanFormat;
 use sf_read::{Lookahead, Source};
 use sf_run::{MOST_BYTES, Outcome, Report, StartFault, Status};
+use sf_store::HeapStore;
 use std::alloc::Global;
 use std::marker::Model;
 

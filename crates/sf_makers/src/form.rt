@@ -7,11 +7,11 @@ ghost use Rattle.sf_makers.specs.Works.{Writes, sink_failed};
 
 use crate::maker::{Maker, Unwritten};
 use crate::names::Names;
-use sf_store::Store;
 use sf_format::ScanFormat;
 use sf_forms::{FormWriter, OutputForm, RecordFault};
 use sf_print::Sink;
 use sf_report::Report;
+use sf_store::Store;
 use std::alloc::Global;
 use std::marker::Model;
 

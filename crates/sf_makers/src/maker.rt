@@ -6,10 +6,10 @@ ghost use Rattle.sf_report.specs.Runs.{RunReport};
 ghost use Rattle.sf_report.specs.declared.outcome.Ending.{Ending};
 ghost use Rattle.sf_makers.specs.Works.{Makes, SameWithMet, Work, sink_failed};
 
-use sf_store::Store;
 use sf_format::ScanFormat;
 use sf_print::Sink;
 use sf_report::Report;
+use sf_store::Store;
 use thiserror::Error;
 
 /// Why what is made of a report was not written, or not in full.

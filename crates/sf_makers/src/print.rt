@@ -15,10 +15,10 @@ use crate::printable::holds_all;
 use crate::rows::{FEW_VALUES, MOST_VALUES};
 use arrayvec::ArrayVec;
 use sf_base::{Kind, Number, Real, Shown, Value};
-use sf_store::Store;
 use sf_format::{PrintFormat, ScanFormat};
 use sf_print::{PrintFault, Sink, fprint, fprint_given};
 use sf_report::Report;
+use sf_store::Store;
 use std::marker::Model;
 use std::num::{f32_from_bits_with_nan, f64_to_bits_with_nan};
 

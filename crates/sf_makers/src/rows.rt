@@ -5,8 +5,8 @@ ghost use Rattle.sf_makers.specs.Row.{row_of};
 
 use arrayvec::ArrayVec;
 use sf_base::{Shown, Value};
-use sf_store::Store;
 use sf_report::Report;
+use sf_store::Store;
 
 /// The most values that a record has.
 pub const MOST_VALUES: usize = 32;

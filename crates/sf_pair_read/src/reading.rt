@@ -19,10 +19,10 @@ ghost use Rattle.sf_pair.specs.Fits.{Fit};
 ghost use Rattle.sf_pair_read.specs.Reading.{ReadsBackWhole};
 
 use crate::below::pair_laws;
-use sf_store::{FixedStore, HeapStore};
 use sf_pair::Pair;
 use sf_read::{Lookahead, Source, fscan, fscan_fixed, fscan_over};
 use sf_run::{Scanned, StartFault};
+use sf_store::{FixedStore, HeapStore};
 use std::alloc::Global;
 
 /// Scans by the pair's scan format, as `fscan` does (C11 7.21.6.2). What was printed of values that fit is read back.

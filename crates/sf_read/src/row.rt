@@ -18,11 +18,11 @@ ghost use Rattle.sf_read.specs.Scan.{Scan, is_fault};
 
 use crate::stream::held_into;
 use crate::{fscan, fscan_over};
-use sf_store::{FixedStore, HeapStore, Store};
 use sf_field::{Row, RowFault};
 use sf_format::ScanFormat;
 use sf_run::{Ending, MOST_BYTES, Outcome, Report, Scanned, StartFault, Status};
 use sf_source::{Lookahead, Source};
+use sf_store::{FixedStore, HeapStore, Store};
 use std::alloc::Global;
 use std::error::Error;
 use std::fmt;

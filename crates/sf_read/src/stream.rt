@@ -20,12 +20,12 @@ ghost use Rattle.sf_read.specs.Reading.{Driven, IsFresh};
 ghost use Rattle.sf_read.specs.Reads.{WaitedFor};
 ghost use Rattle.sf_read.specs.Scan.{Scan, is_fault};
 
-use sf_store::{FixedStore, HeapStore, Store};
 use sf_format::ScanFormat;
 use sf_run::{
     Ending, FeedState, MOST_BYTES, Outcome, Scanned, Scanner, StartFault, quick_run_into,
 };
 use sf_source::{Lookahead, Source};
+use sf_store::{FixedStore, HeapStore, Store};
 use std::alloc::Global;
 
 /// Adds the newlines of these bytes. The count stays at 2^64 - 1.

@@ -7,10 +7,10 @@ ghost use Rattle.sf_read.specs.RowScans.{HasShape, TextRow, is_run};
 use crate::row::{FEW_NUMBERS, row_of};
 use crate::whole::scan_short;
 use crate::{ScanRowFault, has_shape, sscan};
-use sf_store::FixedStore;
 use sf_field::{Row, RowFault};
 use sf_format::ScanFormat;
 use sf_run::{MOST_BYTES, Report, StartFault};
+use sf_store::FixedStore;
 use std::alloc::Global;
 
 /// The row of a short text, where the format stores a few numbers and no texts, and the text is seen at once to be

@@ -13,12 +13,12 @@ ghost use Rattle.sf_run.specs.Standing.{After};
 ghost use Rattle.sf_run.specs.Views.{report_by};
 ghost use Rattle.sf_read.specs.Reading.{IsFresh};
 
-use sf_store::{HeapStore, Store};
 use sf_format::ScanFormat;
 use sf_run::laws::{done_runs_stay, open_inputs_are_used};
 use sf_run::{
     Ending, MOST_BYTES, Outcome, Scanned, Scanner, StartFault, quick_run, quick_run_into,
 };
+use sf_store::{HeapStore, Store};
 use std::alloc::Global;
 
 /// A text with fewer bytes is scanned at once, with a newline after it.

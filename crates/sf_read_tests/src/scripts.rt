@@ -2,12 +2,11 @@
 ghost use Rattle.std.specs.Prelude.{◌≤◌};
 
 use sf_base::Value;
-
-use sf_store::Store;
 use sf_format::{Profile, ScanFormat};
 use sf_read::{Lookahead, ReadStep, ScriptSource, fscan, fscan_fixed};
 use sf_rows::{LIMIT, ScanRow, is, scans};
 use sf_run::{Ending, Report, StartFault};
+use sf_store::Store;
 use std::alloc::Global;
 use std::test::Fail;
 

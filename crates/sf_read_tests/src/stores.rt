@@ -1,5 +1,4 @@
 //! Scans over a store that is used again, over stores of fixed capacity, and those that are refused.
-use sf_store::HeapStore;
 use sf_format::{Profile, ScanFormat};
 use sf_read::{
     Lookahead, ReadStep, ScriptSource, SliceSource, fscan, fscan_fixed, fscan_over, sscan,
@@ -7,6 +6,7 @@ use sf_read::{
 };
 use sf_rows::{LIMIT, ScanRow, is, scans};
 use sf_run::StartFault;
+use sf_store::HeapStore;
 use std::alloc::Global;
 use std::test::Fail;
 

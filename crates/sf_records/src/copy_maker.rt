@@ -8,14 +8,13 @@ ghost use Rattle.sf_records.specs.Copies.{copying, is_copied, row_in, row_of};
 ghost use Rattle.sf_makers.specs.Works.{Writes, sink_failed};
 
 use sf_base::{Shown, Value};
-
-use sf_store::Store;
 use sf_format::ScanFormat;
 use sf_makers::{FEW_VALUES, MOST_VALUES, Maker, Unwritten, row, shown_row};
 use sf_pair::laws::fits_is_fit;
 use sf_pair::{Pair, WriteFault};
 use sf_print::{PrintFault, Sink, TextInPlace, write_text};
 use sf_run::Report;
+use sf_store::Store;
 use std::marker::Model;
 
 /// The room for the copy of a record that is written in place: 1,023 bytes, and as many as the longest number has.

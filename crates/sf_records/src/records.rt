@@ -11,12 +11,12 @@ ghost use Rattle.sf_records.specs.Works.{turn_in};
 
 use crate::end::{ToolEnd, ToolFault, ended_by};
 use crate::turn::{Turn, next_turn};
-use sf_store::{HeapStore, Store};
 use sf_format::ScanFormat;
 use sf_makers::{Maker, Unwritten};
 use sf_print::Sink;
 use sf_read::{Lookahead, Source, fscan_held, fscan_over};
 use sf_run::Report;
+use sf_store::{HeapStore, Store};
 use std::alloc::Global;
 
 /// The most records that one loop writes.

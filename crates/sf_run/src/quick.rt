@@ -22,9 +22,9 @@ use crate::directive::{
 };
 use crate::number::real_of;
 use sf_base::Number;
-use sf_store::{HeapStore, Store};
 use sf_format::{Base, Directive, Row, ScanFormat, Way};
 use sf_report::{Outcome, Status};
+use sf_store::{HeapStore, Store};
 
 /// Gives a store without an opened text what a directive gives that ends so within the piece. Answers whether that is
 /// something. None where the directive fails, or the storing is refused.

@@ -28,10 +28,10 @@ use crate::feeding::{Fed, FeedState, StartFault};
 use crate::number::real_of;
 use crate::tally::Tally;
 use sf_base::{Kind, Number, Real};
-use sf_store::{FixedStore, HeapStore, Store, push_each};
 use sf_format::{Directive, ScanFormat};
 use sf_item::ItemScan;
 use sf_report::{Ending, Outcome, Report, Scanned, Status};
+use sf_store::{FixedStore, HeapStore, Store, push_each};
 use std::alloc::Global;
 
 /// The most bytes that a run may consume: no limit is above it.

@@ -42,7 +42,6 @@ mod outcomes;
 
 pub use outcomes::{is_done, is_end};
 pub use sf_base::{Kind, Taken, Value};
-pub use sf_store::{FixedStore, HeapStore, Store, StoreFull};
 pub use sf_blocks::BlockSink;
 pub use sf_format::{FormatFault, FormatWhy, PrintFormat, Profile, ScanFormat};
 pub use sf_loops::{
@@ -61,3 +60,4 @@ pub use sf_read::{
     sscan_row,
 };
 pub use sf_run::{Ending, Fed, FeedState, Outcome, Report, Scanned, Scanner, StartFault, Status};
+pub use sf_store::{FixedStore, HeapStore, Store, StoreFull};

@@ -4,8 +4,8 @@ ghost use Rattle.sf_store.specs.Kept.{buffer_of, nothing_kept};
 
 use crate::entries::{Cell, Entry, find_shown, number_of};
 use crate::store::{Store, StoreFull};
-use sf_base::{Number, Real, Shown, Value};
 use arrayvec::ArrayVec;
+use sf_base::{Number, Real, Shown, Value};
 use std::marker::Model;
 
 /// A store of fixed capacity, which takes no memory.

@@ -5,8 +5,6 @@
 #![tactic(auto)]
 
 use sf_base::Value;
-
-use sf_store::{HeapStore, Store};
 use sf_format::{Profile, ScanFormat};
 use sf_loops::{Lines, Records};
 use sf_read::{
@@ -14,6 +12,7 @@ use sf_read::{
     sscan_over, sscan_row,
 };
 use sf_run::Status;
+use sf_store::{HeapStore, Store};
 use std::alloc::Global;
 use std::env;
 
