@@ -14,6 +14,6 @@ mod whole;
 pub use item::{ItemEnd, ItemScan, Step};
 pub use radices::{Radices, prefix_radix, radices_of};
 pub use whole::{
-    WholeInteger, characters_item, decimal_within, hex_within, members_item, text_item, whole_auto,
-    whole_decimal, whole_hex,
+    WholeInteger, characters_item, decimal_within, hex_within, members_item, text_item, until_item,
+    whole_auto, whole_decimal, whole_hex,
 };

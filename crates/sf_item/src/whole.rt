@@ -1,9 +1,10 @@
 //! Items that begin and end within a piece of the input, read in one go.
 ghost use Rattle.std.specs.Prelude.{◌≡◌, ◌≢◌, ◌<◌, ◌≤◌, ◌^◌, ◌↔◌, ◌⊎◌, false, ℕ, get_or, length, slice_index, take};
-ghost use Rattle.std.specs.Prelude.{IfSome, IsNone, IsSome, IsTrue, MatchOption, Option};
+ghost use Rattle.std.specs.Prelude.{Bool, IfSome, IsNone, IsSome, IsTrue, List, MatchOption, Option, Some};
 ghost use Rattle.std.specs.Char.{digit_value};
 ghost use Rattle.std.specs.List.{prefix_len};
 ghost use Rattle.sf_base.specs.Bytes.{is_ink};
+ghost use Rattle.sf_base.specs.Sets.{lone_lack};
 ghost use Rattle.sf_format.specs.declared.directive.Base.TheVariants.{Dec, Hex};
 ghost use Rattle.sf_format.specs.declared.directive.Shape.TheVariants.{Chars, Set, Text};
 ghost use Rattle.sf_format.specs.Layout.{most_of};
@@ -16,7 +17,7 @@ use crate::eight::{LANES, first_digits};
 use crate::integer::digit_front;
 use crate::item::{cut, cut_at};
 use crate::reached::Digits;
-use sf_base::{ByteSet, text_run};
+use sf_base::{ByteSet, run_before, text_run};
 use sf_format::Base;
 
 /// The most decimal digits whose number fits in 64 bits, whichever they are.
@@ -464,6 +465,21 @@ pub fn members_item(members: &ByteSet, most: usize, piece: &[u8]) -> Option<usiz
         (ItemWithin (Set members.now) width piece.now) }
 {
     let count = members.run(cut_at(piece, most));
+    if 0 < count && count < piece.len() {
+        Some(count)
+    } else {
+        None
+    }
+}
+
+/// As `members_item`, of a set that lacks this byte alone.
+#[inline(always)]
+pub fn until_item(stop: u8, most: usize, piece: &[u8]) -> Option<usize>
+    ensures { (members : List Bool) (width : Option ℕ) → lone_lack members ≡ Some stop → most ≡ most_of width
+        → MatchOption result (NoItemWithin (Set members) width piece.now)
+        (ItemWithin (Set members) width piece.now) }
+{
+    let count = run_before(stop, cut_at(piece, most));
     if 0 < count && count < piece.len() {
         Some(count)
     } else {

@@ -10,6 +10,7 @@ ghost use Rattle.sf_format.specs.declared.directive.Conversion.{Conversion};
 ghost use Rattle.sf_format.specs.declared.directive.Directive.{Directive};
 ghost use Rattle.sf_format.specs.declared.directive.Directive.TheVariants as directive;
 ghost use Rattle.sf_format.specs.declared.directive.Shape.TheVariants.{Chars, Float, Int, Text};
+ghost use Rattle.sf_format.specs.declared.layout.Way.TheVariants as ways;
 ghost use Rattle.sf_format.specs.Layout.{most_of, row_of};
 ghost use Rattle.sf_format.specs.Proper.{IsProper, IsProperShape};
 ghost use Rattle.sf_item.specs.Scan.{HasLeft};
@@ -35,7 +36,7 @@ use sf_float_item::numeral_within;
 use sf_format::{Base, Conversion, Directive, Row, Shape};
 use sf_item::{
     ItemEnd, ItemScan, WholeInteger, characters_item, decimal_within, hex_within, members_item,
-    text_item, whole_auto, whole_decimal, whole_hex,
+    text_item, until_item, whole_auto, whole_decimal, whole_hex,
 };
 use sf_report::Status;
 
@@ -789,6 +790,15 @@ pub(crate) fn members_at_once(row: &Row, directive: &Directive, piece: &[u8]) ->
     }
 }
 
+/// As `text_at_once`, of a conversion by a set that lacks just one byte, by its row alone.
+#[inline(always)]
+pub(crate) fn until_at_once(row: &Row, piece: &[u8]) -> Option<Ended>
+    ensures { (d : Directive) → row.now ≡ row_of d → row.now.way ≡ ways.Until → (n : ℕ)
+        → IfSome result (EndsAtOnce d n piece.now) }
+{
+    bytes_by(row, until_item(row.due, row.width, piece), piece)
+}
+
 /// As `text_at_once`, of a conversion `c`.
 #[inline(always)]
 pub(crate) fn characters_at_once(row: &Row, piece: &[u8]) -> Option<Ended>
@@ -922,12 +932,21 @@ pub(crate) fn real_at_once(directive: &Directive, piece: &[u8]) -> Option<ReadRe
     })
 }
 
-/// How the directive ends, which took nothing yet, where it does so within the piece, which comes so many bytes into
-/// the run.
+/// How the directive with the row ends, which took nothing yet, where it does so within the piece, which comes so many
+/// bytes into the run. An item by a set is looked at as a whole.
 #[inline(always)]
-pub(crate) fn ended_within(directive: &Directive, piece: &[u8], used: u32) -> Option<Ended>
+pub(crate) fn ended_within(
+    directive: &Directive,
+    row: &Row,
+    piece: &[u8],
+    used: u32,
+) -> Option<Ended>
+    requires { row.now ≡ row_of directive.now }
     ensures ends { IfSome result (EndsAtOnce directive.now used piece.now) }
     ensures waits { IsNone result → IsProper directive.now → (room : ℕ) → IsSure directive.now used piece.now room → ⊥ }
 {
+    if let Some(ended) = members_at_once(row, directive, piece) {
+        return Some(ended);
+    }
     as_ended(run_on(directive, Phase::Skipping, piece, used))
 }

@@ -6,7 +6,8 @@ use sf_base::{ByteSet, Kind};
 use sf_format::{Base, Conversion, Shape};
 use sf_item::{
     ItemEnd, ItemScan, Radices, Step, WholeInteger, characters_item, decimal_within, hex_within,
-    members_item, prefix_radix, radices_of, text_item, whole_auto, whole_decimal, whole_hex,
+    members_item, prefix_radix, radices_of, text_item, until_item, whole_auto, whole_decimal,
+    whole_hex,
 };
 use sf_rows::{DecimalRow, Found, ItemRow, Reader, decimals, is, items};
 use std::test::Fail;
@@ -246,6 +247,35 @@ fn whole_item(reader: Reader, width: Option<u16>, text: &[u8]) -> Option<usize> 
 fn whole_bytes_end_within(_rt: HostRuntime) -> Result<(), Fail> {
     for (reader, width, text, wanted) in &WHOLES {
         is(&whole_item(*reader, *width, text), wanted, text)?;
+    }
+    Ok(())
+}
+
+/// A byte that ends an item, a width, a text, and how many bytes the item has that ends within it.
+static UNTILS: [(u8, Option<u16>, &[u8], Option<usize>); 7] = [
+    (b',', None, b"ab,c", Some(2)),
+    (b',', Some(1), b"ab,c", Some(1)),
+    (b',', Some(2), b"ab,c", Some(2)),
+    (b',', None, b",ab", None),
+    (b',', None, b"abc", None),
+    (b'\n', None, b"a b, c and\t more than that\n", Some(26)),
+    (0, Some(17), b"abcdefghijklmnopqr s", Some(17)),
+];
+
+/// The set of all bytes but one.
+fn all_but(stop: u8) -> ByteSet {
+    let mut set = ByteSet::empty();
+    set.insert(stop);
+    set.complement();
+    set
+}
+
+#[test]
+fn items_end_before_a_byte(_rt: HostRuntime) -> Result<(), Fail> {
+    for (stop, width, text, wanted) in &UNTILS {
+        let most = most_of(*width);
+        is(&until_item(*stop, most, text), wanted, text)?;
+        is(&members_item(&all_but(*stop), most, text), wanted, text)?;
     }
     Ok(())
 }
