@@ -1,6 +1,6 @@
 //! What one directive makes of a piece of the input, and how it ends (C11 7.21.6.2p4 to p10).
 ghost use Rattle.std.specs.Prelude.{◌≡◌, ◌≢◌, ◌+◌, ◌<◌, ◌≤◌, ◌&&◌, ◌^◌, true, false, ℕ, ℤ, List, [], ◌++◌, length};
-ghost use Rattle.std.specs.Prelude.{take, drop, get_or, if◌then◌else◌, not, Option, Some, None, IfSome, IsNone};
+ghost use Rattle.std.specs.Prelude.{◌-◌, slice_get, take, drop, get_or, if◌then◌else◌, not, Option, Some, None, IfSome, IsNone};
 ghost use Rattle.sf_base.specs.Bytes.{is_white};
 ghost use Rattle.std.specs.Option.{option_map};
 ghost use Rattle.sf_base.specs.Data.{Number as NumberOf, Real as RealOf, datum_of_number, value_of};
@@ -25,7 +25,7 @@ ghost use Rattle.sf_run.specs.Texts.{text_slot, opened_for, slot_of, slot_of_tex
 ghost use Rattle.sf_run.specs.Holding.{FallsBy};
 ghost use Rattle.sf_run.specs.Phases.{ShowsItem, Shows, CanAll, IsNumberGiven, end_of, is_failing, is_memory_failure};
 ghost use Rattle.sf_run.specs.Phases.{is_missing, passed_number, slot_closed, slot_given, slot_in};
-ghost use Rattle.sf_run.specs.Pieces.{Answers, EndsAt, EndsAtOnce, IsEnd, IsEndIn, IsEndOf, IsNumberRow, IsTextRow};
+ghost use Rattle.sf_run.specs.Pieces.{Answers, EndsAt, EndsAtOnce, IsEnd, IsEndIn, IsEndOf, IsNumberRow, IsSetItem, IsTextRow};
 ghost use Rattle.sf_run.specs.Pieces.{StaysAt, Suits, run_of};
 ghost use Rattle.sf_run.specs.Quick.{IsSure};
 ghost use Rattle.sf_run.specs.Stopping.{is_memory_status};
@@ -33,7 +33,7 @@ ghost use Rattle.sf_run.specs.Stopping.{is_memory_status};
 use crate::number::{decimal_real, number_of};
 use sf_base::{Kind, Number, Real, is_space, space_run};
 use sf_float_item::numeral_within;
-use sf_format::{Base, Conversion, Directive, Row, Shape};
+use sf_format::{Base, Conversion, Directive, Row, ScanFormat, Shape};
 use sf_item::{
     ItemEnd, ItemScan, WholeInteger, characters_item, decimal_within, hex_within, members_item,
     text_item, until_item, whole_auto, whole_decimal, whole_hex,
@@ -775,19 +775,42 @@ pub(crate) fn text_at_once(row: &Row, piece: &[u8]) -> Option<Ended>
     })
 }
 
-/// As `text_at_once`, of a conversion by a set.
-#[inline(always)]
-pub(crate) fn members_at_once(row: &Row, directive: &Directive, piece: &[u8]) -> Option<Ended>
-    requires { row.now ≡ row_of directive.now }
-    ensures { (n : ℕ) → IfSome result (EndsAtOnce directive.now n piece.now) }
+/// As `members_item`, of the first of so many directives of a format that are left; None where that is by no set. It
+/// looks the directive up itself, so that a run by rows alone doesn't.
+#[cold]
+#[inline(never)]
+fn members_left(format: &ScanFormat, left: usize, most: usize, piece: &[u8]) -> Option<usize>
+    requires some { 0 < left }
+    requires within { left ≤ length format.now }
+    ensures { (d : Directive) → slice_get format.now (length format.now - left) ≡ Some d
+        → IfSome result (IsSetItem d most piece.now) }
 {
-    let Directive::Conv(conversion) = directive else {
+    let directives = format.directives();
+    let at = directives.len() - left;
+    let Directive::Conv(conversion) = &directives[at] else {
         return None;
     };
     match &conversion.shape {
-        Shape::Set(members) => bytes_by(row, members_item(members, row.width, piece), piece),
+        Shape::Set(members) => members_item(members, most, piece),
         _ => None,
     }
+}
+
+/// As `text_at_once`, of a conversion by a set, which is the first of so many directives of a format that are left.
+#[inline(always)]
+pub(crate) fn members_at_once(
+    row: &Row,
+    format: &ScanFormat,
+    left: usize,
+    piece: &[u8],
+) -> Option<Ended>
+    requires some { 0 < left }
+    requires within { left ≤ length format.now }
+    ensures { (d : Directive) → slice_get format.now (length format.now - left) ≡ Some d → row.now ≡ row_of d
+        → (n : ℕ) → IfSome result (EndsAtOnce d n piece.now) }
+{
+    let item = members_left(format, left, row.width, piece)?;
+    bytes_by(row, Some(item), piece)
 }
 
 /// As `text_at_once`, of a conversion by a set that lacks just one byte, by its row alone.
@@ -932,21 +955,12 @@ pub(crate) fn real_at_once(directive: &Directive, piece: &[u8]) -> Option<ReadRe
     })
 }
 
-/// How the directive with the row ends, which took nothing yet, where it does so within the piece, which comes so many
-/// bytes into the run. An item by a set is looked at as a whole.
+/// How the directive ends, which took nothing yet, where it does so within the piece, which comes so many bytes into
+/// the run.
 #[inline(always)]
-pub(crate) fn ended_within(
-    directive: &Directive,
-    row: &Row,
-    piece: &[u8],
-    used: u32,
-) -> Option<Ended>
-    requires { row.now ≡ row_of directive.now }
+pub(crate) fn ended_within(directive: &Directive, piece: &[u8], used: u32) -> Option<Ended>
     ensures ends { IfSome result (EndsAtOnce directive.now used piece.now) }
     ensures waits { IsNone result → IsProper directive.now → (room : ℕ) → IsSure directive.now used piece.now room → ⊥ }
 {
-    if let Some(ended) = members_at_once(row, directive, piece) {
-        return Some(ended);
-    }
     as_ended(run_on(directive, Phase::Skipping, piece, used))
 }

@@ -131,13 +131,11 @@ fn pass_real<S: Store>(
 fn pass_whole<S: Store>(
     store: &mut S,
     directive: &Directive,
-    row: &Row,
     piece: &[u8],
     used: u32,
 ) -> Option<usize>
     requires opened { (S.kept store.old).opened ≡ None }
     requires free { MayBeGiven S.slots (slot_of directive.now) (S.kept store.old).values }
-    requires row { row.now ≡ row_of directive.now }
     ensures passes { IsProper directive.now → IfSome result
         (λ taken. Passes directive.now used piece.now taken (S.kept store.old) (S.kept store.new)) }
     ensures within { IfSome result (λ taken. taken ≤ length piece.now) }
@@ -148,7 +146,7 @@ fn pass_whole<S: Store>(
     if let Some(taken) = pass_real(store, directive, piece, used) {
         return Some(taken);
     }
-    let ended = ended_within(directive, row, piece, used);
+    let ended = ended_within(directive, piece, used);
     pass_so(store, directive, ended, piece, used)
 }
 
@@ -176,11 +174,9 @@ fn pass_later<S: Store>(
     ensures room { capacity_of (S.kept store.old) ≤ capacity_of (S.kept store.new) }
 {
     let directives = format.directives();
-    let rows = format.rows();
     let at = directives.len() - left;
     let directive = &directives[at];
-    let row = &rows[at];
-    pass_whole(store, directive, row, piece, used)
+    pass_whole(store, directive, piece, used)
 }
 
 /// Passes a directive that is seen at once to end within the piece, which comes so many bytes into the run, the way
@@ -189,12 +185,17 @@ fn pass_later<S: Store>(
 #[inline(always)]
 fn pass<S: Store>(
     store: &mut S,
+    format: &ScanFormat,
+    left: usize,
     directive: &Directive,
     row: &Row,
     piece: &[u8],
     used: u32,
 ) -> Option<usize>
     requires opened { (S.kept store.old).opened ≡ None }
+    requires some { 0 < left }
+    requires within { left ≤ length format.now }
+    requires first { slice_get format.now (length format.now - left) ≡ Some directive.now }
     requires free { MayBeGiven S.slots (slot_of directive.now) (S.kept store.old).values }
     requires row { row.now ≡ row_of directive.now }
     ensures passes { IsProper directive.now → IfSome result
@@ -228,11 +229,15 @@ fn pass<S: Store>(
             let ended = until_at_once(row, piece);
             pass_so(store, directive, ended, piece, used)
         }
+        Way::Members => {
+            let ended = members_at_once(row, format, left, piece);
+            pass_so(store, directive, ended, piece, used)
+        }
         Way::Characters => {
             let ended = characters_at_once(row, piece);
             pass_so(store, directive, ended, piece, used)
         }
-        Way::Members | Way::Another => None,
+        Way::Another => None,
     }
 }
 
@@ -259,7 +264,7 @@ fn pass_all<S: Store>(store: &mut S, format: &ScanFormat, limit: u32, piece: &[u
         let at = rows.len() - left.len();
         let directive = &directives[at];
         let used = (front.len() - rest.len()) as u32;
-        let taken = match pass(store, directive, row, rest, used) {
+        let taken = match pass(store, format, left.len(), directive, row, rest, used) {
             Some(taken) => taken,
             None => pass_later(store, format, left.len(), rest, used)?,
         };

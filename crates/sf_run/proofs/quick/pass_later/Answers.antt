@@ -1,18 +1,10 @@
-use Rattle.std.proofs.Common.{◌≡◌, ◌-◌, ◌∙◌, ℕ, List, length, map, refl, sym, ap, subst, Some, arith}
-use Rattle.std.proofs.lemmas.Option.{get_or_from_slice_get, slice_get_read, slice_get-map}
-use Rattle.std.specs.Prelude.{IfSome, slice_get}
-use Rattle.std.specs.Option.{option_map}
+use Rattle.std.proofs.Common.{◌≡◌, ◌-◌, ◌∙◌, List, length, refl, sym, ap, subst, Some, arith}
+use Rattle.std.proofs.lemmas.Option.{get_or_from_slice_get, slice_get_read}
+use Rattle.std.specs.Prelude.{ℕ, IfSome, slice_get}
 use Rattle.sf_format.specs.declared.directive.Directive.{Directive}
-use Rattle.sf_format.specs.declared.layout.Row.{Row}
-use Rattle.sf_format.specs.Layout.{row_of}
 use Rattle.sf_format.specs.Proper.{IsProper}
 use Rattle.sf_run.specs.Quick.{IsSure, Passes}
 use Rattle.sf_run.proofs.quick.pass_later.Goals as goal
-
--- the row at a place is that of the directive there
-row_at : (rows : List Row) (ds : List Directive) (i : ℕ) (d : Directive) → rows ≡ map row_of ds → slice_get ds i ≡ Some d
-    → slice_get rows i ≡ Some (row_of d)
-row_at rows ds i d is at = ap (λ (l : List Row). slice_get l i) is ∙ slice_get-map row_of ds i ∙ ap (option_map row_of) at
 
 -- the directive at a place of the format is that of the directives there
 there : (ds all : List Directive) (left : ℕ) (d : Directive) → ds ≡ all → slice_get ds (length ds - left) ≡ Some d
@@ -34,13 +26,6 @@ pub pass_whole-requires-clause-free : goal.pass_whole-requires-clause-free
 pass_whole-requires-clause-free g c =
     c.requires.free (d g c) (there c.directives-directives.result.now c.args.format.now c.args.left (d g c)
     c.directives-directives.ensures.value (at g c))
-
-pub pass_whole-requires-clause-row : goal.pass_whole-requires-clause-row
-pass_whole-requires-clause-row g c =
-    let ds : List Directive = c.directives-directives.result.now in
-    let rows : List Row = c.rows-rows.result.now in
-    let is : rows ≡ map row_of ds = c.rows-rows.ensures ∙ ap (map row_of) (sym c.directives-directives.ensures.value) in
-    get_or_from_slice_get rows (length ds - c.args.left) (row_of (d g c)) _ (row_at rows ds (length ds - c.args.left) (d g c) is (at g c))
 
 module _ (g : _) (c : goal.After-pass_whole g) (d : Directive)
     (at : slice_get c.args.format.now (length c.args.format.now - c.args.left) ≡ Some d) where
