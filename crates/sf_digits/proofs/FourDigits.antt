@@ -57,6 +57,12 @@ decimal_eight n lo hi =
 pub length_eight : (n : ℕ) → 100000000 ≤ n → n < 2 ^ 64 → length (decimal n) ≡ length (decimal (n / 100000000)) + 8
 length_eight n lo hi = ap length (decimal_eight n lo hi) ∙ length-append _ _
 
+pub decimal_ten : (n : ℕ) → 1000000000 ≤ n → n < 10000000000 → decimal n ≡ two_digits (n / 100000000) ++ eight_digits (n % 100000000)
+decimal_ten n lo hi = rw (decimal_eight n (omega arith) (omega arith), decimal_two (n / 100000000) (omega arith) (omega arith))
+
+pub length_ten : (n : ℕ) → 1000000000 ≤ n → n < 10000000000 → length (decimal n) ≡ 10
+length_ten n lo hi = ap length (decimal_ten n lo hi)
+
 pub length_three : (n : ℕ) → 100 ≤ n → n < 1000 → length (decimal n) ≡ 3
 length_three n lo hi = omega (arith, length_pair n lo (omega arith), length_one (n / 100) (omega arith))
 
