@@ -184,7 +184,7 @@ value_at piece values i room below is =
 
 -- ---- the count
 
-agreeing : (p q : ℕ → Bool) → agree_below p q 256 ≡ true → (v : List ℕ) → Each1 (Fits w8) v → map p v ≡ map q v
+pub agreeing : (p q : ℕ → Bool) → agree_below p q 256 ≡ true → (v : List ℕ) → Each1 (Fits w8) v → map p v ≡ map q v
 agreeing p q all [] fits = refl
 agreeing p q all (x ∷ v) fits = ap₂ (λ b bs. b ∷ bs) (agree_below_at p q 256 x all fits.0.fits) (agreeing p q all v fits.1)
 

@@ -1,34 +1,35 @@
 -- Eight hexadecimal digits at once: their values, how many there are, and their number as a sum of worths.
-use Rattle.std.proofs.Common.{◌≡◌, ℕ, zero, suc, ◌+◌, ◌-◌, ◌*◌, ◌^◌, ◌<◌, ◌≤◌, min, Bool, true, false, ◌&&◌, ◌||◌, T, eqb, eqb→eq, nat_le}
+use Rattle.std.proofs.Common.{◌≡◌, ℕ, zero, suc, ◌+◌, ◌-◌, ◌*◌, ◌^◌, ◌%◌, ◌<◌, ◌≤◌, min, Bool, true, false, not, ◌&&◌, ◌||◌, T, eqb, eqb→eq, nat_le}
 use Rattle.std.proofs.Common.{cond, List, [], ◌∷◌, map, length, take, get_or, refl, sym, ap, ◌∙◌, subst, inl, inr, eq-zero-or-pos, arith}
-use Rattle.std.proofs.Common.{Some}
-use Rattle.std.proofs.lemmas.Bool.{agree_below, agree_below_at, eqb-true, leb-true, ltb-true, ltb-false}
-use Rattle.std.proofs.lemmas.List.{get_or-map, get_or-take, length-take-le}
+use Rattle.std.proofs.Common.{Some, Fits, w8, leb, nat_lt, replicate, ap₂}
+use Rattle.std.proofs.lemmas.Bool.{agree_below, agree_below_at, eqb-true, le-leb, leb-true, lt-leb, ltb-true, ltb-false}
+use Rattle.std.proofs.lemmas.List.{get_or-map, get_or-take, length-map, length-take-le}
 use Rattle.std.proofs.lemmas.List.Sums.{prefix_len-le-length, prefix_len_passes, prefix_len_stops}
 use Rattle.std.proofs.lemmas.Nat.{pow-add}
-use Rattle.std.proofs.lemmas.Simd.{length-chunk}
+use Rattle.std.proofs.lemmas.Simd.{chunk-fits, length-chunk, map-map, mask_l-mod, zip2_splat_left}
 use Rattle.std.proofs.Math.Nat.{mul-le-mul_right, mul-lt-mul_of_pos_right, one-le-pow, pow-le-pow_right, pow-succ'}
 use Rattle.std.specs.Char.{digit_value}
 use Rattle.std.specs.List.{prefix_len}
 use lib.Ieee.Fits.{and_l, and_r}
-use lib.Lanes.{chunk, sel_l, top, zip2}
+use lib.Lanes.{chunk, mask_l, sel_l, top, zip2}
 use Rattle.sf_item.specs.declared.eight_hex.TheConstants.{WORTHS}
 use Rattle.sf_item.specs.Progress.{Digits}
 use Rattle.sf_item.specs.Tests.{read}
 use Rattle.sf_item.specs.Wholes.{ReadsIn, is_hex_digit}
+use Rattle.sf_item.proofs.EightDigits.{agreeing}
 use Rattle.sf_item.proofs.Wholes.{hex_read, sixteen_more}
 
 -- ---- the values
 
--- of each two lanes one, by a test on both
-chosen_map : (h : ℕ → ℕ → ℕ) (f g : ℕ → ℕ) (v : List ℕ) → sel_l (map (top 7) (zip2 h (map f v) (map g v))) (map f v) (map g v)
-    ≡ map (λ x. cond (top 7 (h (f x) (g x))) (f x) (g x)) v
-chosen_map h f g [] = refl
-chosen_map h f g (x ∷ v) = ap (λ l. cond (top 7 (h (f x) (g x))) (f x) (g x) ∷ l) (chosen_map h f g v)
+-- of each two lanes one, by a test on two others
+picked_map : (h : ℕ → ℕ → ℕ) (f g k l : ℕ → ℕ) (v : List ℕ) → sel_l (map (top 7) (zip2 h (map f v) (map g v))) (map k v) (map l v)
+    ≡ map (λ x. cond (top 7 (h (f x) (g x))) (k x) (l x)) v
+picked_map h f g k l [] = refl
+picked_map h f g k l (x ∷ v) = ap (λ r. cond (top 7 (h (f x) (g x))) (k x) (l x) ∷ r) (picked_map h f g k l v)
 
-pub chosen : (h : ℕ → ℕ → ℕ) (f g : ℕ → ℕ) (v : List ℕ) {a b : List ℕ} → a ≡ map f v → b ≡ map g v
-    → sel_l (map (top 7) (zip2 h a b)) a b ≡ map (λ x. cond (top 7 (h (f x) (g x))) (f x) (g x)) v
-chosen h f g v p q = (λ i. sel_l (map (top 7) (zip2 h (p i) (q i))) (p i) (q i)) ∙ chosen_map h f g v
+pub picked : (h : ℕ → ℕ → ℕ) (f g k l : ℕ → ℕ) (v : List ℕ) {a b c d : List ℕ} → a ≡ map f v → b ≡ map g v → c ≡ map k v → d ≡ map l v
+    → sel_l (map (top 7) (zip2 h a b)) c d ≡ map (λ x. cond (top 7 (h (f x) (g x))) (k x) (l x)) v
+picked h f g k l v p q r s = (λ i. sel_l (map (top 7) (zip2 h (p i) (q i))) (r i) (s i)) ∙ picked_map h f g k l v
 
 -- of a digit below 16 the function is its value
 abbrev gives_value : (ℕ → ℕ) → ℕ → Bool
@@ -50,6 +51,38 @@ value_at f piece values i room below is all fits low =
     ∙ get_or-map f (chunk 0 8 piece) i 0 0 (omega (arith, long, below))
     ∙ ap f (get_or-take 8 piece i 0 below)
     ∙ value_given f (get_or piece i 0) (agree_below_at (gives_value f) (λ _. true) 256 (get_or piece i 0) all fits) low
+
+-- and the others are 16 at least
+pub others_above : (f : ℕ → ℕ) (piece values : List ℕ) → ((k : ℕ) → Fits w8 (get_or piece k 0)) → values ≡ map f (chunk 0 8 piece)
+    → agree_below (λ x. nat_lt (f x) 16) is_hex_digit 256 ≡ true → map (λ x. nat_lt x 16) values ≡ map is_hex_digit (chunk 0 8 piece)
+others_above f piece values fits is all =
+    ap (map (λ x. nat_lt x 16)) is
+    ∙ map-map (λ x. nat_lt x 16) f (chunk 0 8 piece)
+    ∙ agreeing (λ x. nat_lt (f x) 16) is_hex_digit all (chunk 0 8 piece) (chunk-fits w8 0 8 piece fits)
+
+-- ---- the mask
+
+abbrev marks : ℕ → ℕ → ℕ
+marks a b = cond (leb a b) 255 0
+
+lane_marked : (x : ℕ) → top 7 (marks 16 x) ≡ not (nat_lt x 16)
+lane_marked x = by (nat_lt x 16) refl
+  where
+    by : (t : Bool) → nat_lt x 16 ≡ t → top 7 (marks 16 x) ≡ not t
+    by true low = let h = ltb-true x 16 low in ap (λ (b : Bool). top 7 (cond b 255 0)) (lt-leb 16 x h)
+    by false high = let h = ltb-false x 16 high in ap (λ (b : Bool). top 7 (cond b 255 0)) (le-leb 16 x h)
+
+all_marked : (r : List ℕ) → map (λ x. top 7 (marks 16 x)) r ≡ map (λ x. not (nat_lt x 16)) r
+all_marked [] = refl
+all_marked (x ∷ r) = ap₂ (λ b bs. b ∷ bs) (lane_marked x) (all_marked r)
+
+pub mask_of_values : (r v : List ℕ) → length r ≡ 8 → map (λ x. nat_lt x 16) r ≡ map is_hex_digit v
+    → mask_l (map (top 7) (zip2 marks (replicate 8 16) r)) % 2 ^ 64 ≡ mask_l (map (λ b. not (is_hex_digit b)) v)
+mask_of_values r v long same =
+    ap (λ l. mask_l (map (top 7) l) % 2 ^ 64) (zip2_splat_left marks 16 8 r long)
+    ∙ ap (λ l. mask_l l % 2 ^ 64) (map-map (top 7) (marks 16) r)
+    ∙ mask_l-mod (map (λ x. top 7 (marks 16 x)) r) 64 (omega (arith, length-map r (λ (x : ℕ). top 7 (marks 16 x)), long))
+    ∙ ap mask_l (all_marked r ∙ sym (map-map not (λ x. nat_lt x 16) r) ∙ ap (map not) same ∙ map-map not is_hex_digit v)
 
 -- ---- the table
 

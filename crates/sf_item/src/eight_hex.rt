@@ -1,5 +1,5 @@
 //! Hexadecimal digits, eight bytes at once.
-ghost use Rattle.std.specs.Prelude.{◌≡◌, ◌<◌, ◌≤◌, ◌^◌, ℕ, get_or, length, map, not, slice_index, take};
+ghost use Rattle.std.specs.Prelude.{◌≡◌, ◌<◌, ◌≤◌, ◌^◌, ℕ, get_or, length, map, nat_lt, not, slice_index, take};
 ghost use Rattle.std.specs.Char.{digit_value};
 ghost use Rattle.std.specs.List.{prefix_len};
 ghost use Rattle.sf_item.specs.Wholes.{ReadsIn, is_hex_digit};
@@ -14,8 +14,24 @@ static WORTHS: [u32; 16] = [
     0x10000000, 0x1000000, 0x100000, 0x10000, 0x1000, 0x100, 0x10, 1, 0, 0, 0, 0, 0, 0, 0, 0,
 ];
 
-/// What makes a capital letter a small one.
+/// The bit that a small letter has, and its capital lacks.
 const CASE: u8 = 32;
+
+/// The values of those of the first eight bytes that are hexadecimal digits, and 16 at least of the others: the lesser
+/// one of what a byte is as a digit and as a letter.
+#[inline(always)]
+fn values_of(piece: &[u8]) -> u8x8
+    requires { 8 ≤ length piece.now }
+    ensures eight { length result ≡ 8 }
+    ensures digits { (i : ℕ) → i < 8 → digit_value (get_or piece.now i 0) < 16
+        → get_or result i 0 ≡ digit_value (get_or piece.now i 0) }
+    ensures others { map (λ v. nat_lt v 16) result ≡ map is_hex_digit (chunk 0 8 piece.now) }
+{
+    let lanes = u8x8::from_slice(piece);
+    let digits = (lanes + u8x8::splat(255 - b'9')).simd_max(u8x8::splat(6)) - u8x8::splat(246);
+    let letters = (lanes & u8x8::splat(!CASE)) - u8x8::splat(b'A');
+    digits.simd_min(letters.simd_min(u8x8::splat(245)) + u8x8::splat(10))
+}
 
 /// Which of the first eight bytes are no hexadecimal digits: a bit each, the first byte's the lowest.
 #[inline(always)]
@@ -23,11 +39,7 @@ fn other_mask(piece: &[u8]) -> u64
     requires { 8 ≤ length piece.now }
     ensures { result ≡ mask_l (map (λ b. not (is_hex_digit b)) (chunk 0 8 piece.now)) }
 {
-    let lanes = u8x8::from_slice(piece);
-    let letters = (lanes | u8x8::splat(CASE)) - u8x8::splat(b'a');
-    let others = (lanes - u8x8::splat(b'0')).simd_ge(u8x8::splat(10))
-        & letters.simd_ge(u8x8::splat(6));
-    others.to_bitmask()
+    values_of(piece).simd_ge(u8x8::splat(16)).to_bitmask()
 }
 
 /// How many hexadecimal digits the first eight bytes begin with.
@@ -39,19 +51,6 @@ fn digit_run(piece: &[u8]) -> usize
     lanes_before(other_mask(piece))
 }
 
-/// The values of those of the first eight bytes that are hexadecimal digits. As a digit, a letter is worth more than as
-/// a letter, and the other way round.
-#[inline(always)]
-fn values_of(piece: &[u8]) -> [u8; LANES]
-    requires { 8 ≤ length piece.now }
-    ensures { (i : ℕ) → i < 8 → digit_value (get_or piece.now i 0) < 16
-        → get_or result i 0 ≡ digit_value (get_or piece.now i 0) }
-{
-    let lanes = u8x8::from_slice(piece);
-    let letters = (lanes | u8x8::splat(CASE)) - u8x8::splat(b'a' - 10);
-    (lanes - u8x8::splat(b'0')).simd_min(letters).to_array()
-}
-
 /// The number of so many digits: each of the eight bytes is weighed, those after them with 0.
 #[inline(always)]
 fn weighed(piece: &[u8], count: usize) -> u32
@@ -60,7 +59,7 @@ fn weighed(piece: &[u8], count: usize) -> u32
     ensures read { ReadsIn 16 0 (take count piece.now) result }
     ensures small { result < 16 ^ count }
 {
-    let values = values_of(piece);
+    let values = values_of(piece).to_array();
     let mut number: u32 = 0;
     for i in 0..LANES {
         number += WORTHS[LANES - count + i] * values[i] as u32;

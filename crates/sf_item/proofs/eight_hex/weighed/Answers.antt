@@ -18,10 +18,10 @@ module _ (c : goal.After-number-in-loop-i-1) where
   weight = get_or WORTHS (8 - count + i) 0
 
   abbrev digit : ℕ
-  digit = get_or c.values_of-values.result i 0
+  digit = get_or c.values_of.result i 0
 
   left : digit_value (get_or piece i 0) < 16 → digit ≡ digit_value (get_or piece i 0)
-  left = c.values_of-values.ensures i c.loop-i-test.true
+  left = c.values_of.ensures.digits i c.loop-i-test.true
 
   more : Weighed piece count (i + 1) (c.loop-i.number + weight * digit)
   more = weighed_more piece count i c.loop-i.number weight digit c.requires.room c.requires.digits c.loop-i-test.true refl left
