@@ -28,6 +28,7 @@ fn values_of(piece: &[u8]) -> u8x8
     ensures others { map (λ v. nat_lt v 16) result ≡ map is_hex_digit (chunk 0 8 piece.now) }
 {
     let lanes = u8x8::from_slice(piece);
+    // moved so that `9` is the last byte: the seven bytes from `:` to `@` become 0 to 6, and then 16
     let digits = (lanes + u8x8::splat(255 - b'9')).simd_max(u8x8::splat(6)) - u8x8::splat(246);
     let letters = (lanes & u8x8::splat(!CASE)) - u8x8::splat(b'A');
     digits.simd_min(letters.simd_min(u8x8::splat(245)) + u8x8::splat(10))
