@@ -3,6 +3,7 @@
 
 mod digits;
 mod eight;
+mod eight_hex;
 mod integer;
 mod item;
 pub mod laws;

@@ -146,7 +146,7 @@ fn pieces_are_taken(_rt: HostRuntime) -> Result<(), Fail> {
 }
 
 /// Texts whose first bytes may be a hexadecimal integer that is known at once.
-static HEXES: [DecimalRow; 14] = [
+static HEXES: [DecimalRow; 25] = [
     (None, b"1f,", Some((2, false, 31))),
     (None, b"-0X1F ", Some((5, true, 31))),
     (None, b"0,", Some((1, false, 0))),
@@ -161,6 +161,17 @@ static HEXES: [DecimalRow; 14] = [
     (None, b"10000000000000000,", None),
     (None, b"1f", None),
     (None, b"-,", None),
+    (None, b"1f,45678", Some((2, false, 31))),
+    (None, b"1234567G,", Some((7, false, 0x1234567))),
+    (None, b"1234567`,", Some((7, false, 0x1234567))),
+    (None, b"@1234567,", None),
+    (None, b"12abcdef,", Some((8, false, 0x12ABCDEF))),
+    (None, b"0xFFFFFFFF,", Some((10, false, 4294967295))),
+    (None, b"-DEADBEEF ", Some((9, true, 3735928559))),
+    (None, b"12345678", None),
+    (None, b"123456789,", Some((9, false, 0x123456789))),
+    (Some(4), b"12345678,", Some((4, false, 0x1234))),
+    (Some(8), b"123456789", Some((8, false, 0x12345678))),
 ];
 
 /// Texts whose first bytes may be an integer of `%i`, which is known at once where no zero begins it.
