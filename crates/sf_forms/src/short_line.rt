@@ -4,6 +4,7 @@ ghost use Rattle.std.specs.Prelude.{IsSome};
 ghost use Rattle.std.specs.List.{join_with_byte, range_with_len};
 ghost use Rattle.sf_base.specs.Data.{Bytes};
 ghost use Rattle.sf_forms.specs.Lone.{is_lone_in};
+ghost use Rattle.sf_forms.specs.declared.form.OutputForm.TheVariants.{Plain};
 ghost use Rattle.sf_forms.specs.Forms.{closing, missing_text, opening, record_text, separator, slot_text, value_text};
 
 use crate::csv::write_csv_text;
@@ -21,7 +22,7 @@ use sf_store::Store;
 /// The room for a short line: 1,023 bytes, and as many as the longest number has.
 pub(crate) const LINE_BYTES: usize = 1044;
 
-/// A separator, a minus and the digits of any number.
+/// A minus and the digits of any number, and a separator.
 const NUMBER_BYTES: usize = 22;
 
 /// Writes a text from a place on, and answers where it ends. None where there is no room.
@@ -56,7 +57,7 @@ fn write_missing(form: OutputForm, buf: &mut [u8], at: usize) -> usize
 
 /// Writes what a slot was given from a place on, and answers where it ends. None where there is no room for it.
 #[inline(always)]
-fn write_slot<S: Store>(
+fn write_slot<const PLAIN: bool, S: Store>(
     form: OutputForm,
     report: &Report<'_, S>,
     slot: u8,
@@ -78,9 +79,10 @@ fn write_slot<S: Store>(
     }
 }
 
-/// Writes the values of a record from a place on, and answers where they end. None where there is no room.
+/// Writes the values of a record from a place on, and answers where they end. None where there is no room. After the
+/// last value stands a separator, too, so that each turn of the loop is the same.
 #[inline(always)]
-fn write_values<S: Store>(
+fn write_values<const PLAIN: bool, S: Store>(
     form: OutputForm,
     report: &Report<'_, S>,
     destinations: u8,
@@ -94,15 +96,18 @@ fn write_values<S: Store>(
     ensures answers { at + length (join_with_byte (separator form) (map (slot_text form report.now)
         (range_with_len 1 destinations))) + 22 ≤ length buf.old → IsSome result }
 {
+    let separator = form.separator();
     let mut end = at;
+    let mut next = at;
     for before in 0..destinations {
-        if buf.len() - end < NUMBER_BYTES {
+        if buf.len() - next < NUMBER_BYTES {
             return None;
         }
-        if before > 0 {
-            end = write_byte(form.separator(), buf, end);
+        end = write_slot::<PLAIN, S>(form, report, before + 1, buf, next)?;
+        if end == buf.len() {
+            return None;
         }
-        end = write_slot(form, report, before + 1, buf, end)?;
+        next = write_byte(separator, buf, end);
     }
     Some(end)
 }
@@ -152,8 +157,8 @@ fn write_closing(form: OutputForm, buf: &mut [u8], at: usize) -> usize
     }
 }
 
-/// Writes the record in a form, as `write_line` does. Plain records have an instance of their own, which the compiler
-/// makes for that form alone.
+/// Writes the record in a form, as `write_line` does. Plain records have instances of their own of the functions that
+/// are PLAIN, which the compiler makes for that form alone.
 #[inline(always)]
 fn write_record<const PLAIN: bool, S: Store>(
     form: OutputForm,
@@ -169,7 +174,7 @@ fn write_record<const PLAIN: bool, S: Store>(
         return None;
     }
     let start = write_opening(form, buf);
-    let values_end = write_values(form, report, destinations, buf, start)?;
+    let values_end = write_values::<PLAIN, S>(form, report, destinations, buf, start)?;
     if buf.len() - values_end < 4 {
         return None;
     }
@@ -181,6 +186,21 @@ fn write_record<const PLAIN: bool, S: Store>(
         values_end,
     );
     Some(write_closing(form, buf, end))
+}
+
+/// Writes the record in the plain form. It is a call of its own, so that the loop over the values has the registers to
+/// itself.
+#[inline(never)]
+fn write_plain_record<S: Store>(
+    report: &Report<'_, S>,
+    destinations: u8,
+    buf: &mut [u8],
+) -> Option<usize>
+    ensures within { IfSome result (λ end. end ≤ length buf.new) }
+    ensures written { IfSome result (λ end. take end buf.new ≡ record_text Plain destinations report.now) }
+    ensures answers { length (record_text Plain destinations report.now) + 21 ≤ length buf.old → IsSome result }
+{
+    write_record::<true, S>(OutputForm::Plain, report, destinations, buf)
 }
 
 /// Writes the record in a form other than the plain one. It is a call of its own, so that plain records don't pay for
@@ -213,7 +233,7 @@ pub(crate) fn write_line<S: Store>(
     ensures answers { length (record_text form destinations report.now) + 21 ≤ length buf.old → IsSome result }
 {
     match form {
-        OutputForm::Plain => write_record::<true, S>(OutputForm::Plain, report, destinations, buf),
+        OutputForm::Plain => write_plain_record(report, destinations, buf),
         OutputForm::Tsv | OutputForm::Json | OutputForm::Csv => {
             write_other(form, report, destinations, buf)
         }
