@@ -78,27 +78,9 @@ module _ (sep : ℕ) (f : ℕ → List ℕ) where
     pub room_next : next + length (f (k + 1)) + 21 ≤ length buf
     room_next = omega (arith, next_is, next_long k, no_longer (k + 1) n (omega (arith, few)), short)
 
-    -- for a number and a separator
+    -- and for a number and a separator
     pub room_left : length buf - next < 22 → ⊥
     room_left tight = omega (arith, tight, next_is, next_long k, no_longer (k + 1) n (omega (arith, few)), short)
-
-    -- and for a separator after it
-    pub room_after : (end : ℕ) (new : List ℕ) → length new ≡ length buf → end ≤ length new
-        → take end new ≡ take next buf ++ f (k + 1) → end ≡ length new → ⊥
-    room_after end new same most text tight =
-        omega (
-          arith,
-          same,
-          tight,
-          length-take-le end new most,
-          ap length text,
-          length-append (take next buf) (f (k + 1)),
-          length-take-le next buf within,
-          next_is,
-          next_long k,
-          no_longer (k + 1) n (omega (arith, few)),
-          short,
-        )
 
 -- ---- a record
 

@@ -1,6 +1,6 @@
 //! The record of a report, written in place where it is short.
 ghost use Rattle.std.specs.Prelude.{◌≡◌, ◌++◌, ◌+◌, ◌<◌, ◌≤◌, ◌∷◌, [], if◌then◌else◌, map, length, take, IfSome};
-ghost use Rattle.std.specs.Prelude.{IsSome};
+ghost use Rattle.std.specs.Prelude.{IsSome, true};
 ghost use Rattle.std.specs.List.{join_with_byte, range_with_len};
 ghost use Rattle.sf_base.specs.Data.{Bytes};
 ghost use Rattle.sf_forms.specs.Lone.{is_lone_in};
@@ -55,7 +55,8 @@ fn write_missing(form: OutputForm, buf: &mut [u8], at: usize) -> usize
     }
 }
 
-/// Writes what a slot was given from a place on, and answers where it ends. None where there is no room for it.
+/// Writes what a slot was given from a place on, and answers where it ends, which is before the end of the buffer.
+/// Where there is no room for it, the answer is the length of the buffer: one test then shows both.
 #[inline(always)]
 fn write_slot<const PLAIN: bool, S: Store>(
     form: OutputForm,
@@ -63,20 +64,23 @@ fn write_slot<const PLAIN: bool, S: Store>(
     slot: u8,
     buf: &mut [u8],
     at: usize,
-) -> Option<usize>
-    requires { at + 21 ≤ length buf.old }
-    ensures within { IfSome result (λ end. end ≤ length buf.new) }
-    ensures written { IfSome result (λ end. take end buf.new ≡ take at buf.old ++ slot_text form report.now slot) }
-    ensures answers { at + length (slot_text form report.now slot) + 21 ≤ length buf.old → IsSome result }
+) -> usize
+    requires plain { PLAIN ≡ true → form ≡ Plain }
+    requires room { at + 22 ≤ length buf.old }
+    ensures within { result ≤ length buf.new }
+    ensures written { result < length buf.new → take result buf.new ≡ take at buf.old ++ slot_text form report.now slot }
+    ensures answers { at + length (slot_text form report.now slot) + 21 ≤ length buf.old → result < length buf.new }
 {
-    match report.shown(slot) {
+    let end = match report.shown(slot) {
         Some(Shown::Number(number)) => {
-            Some(write_number(number.negative, number.magnitude, buf, at))
+            return write_number(number.negative, number.magnitude, buf, at);
         }
+        Some(Shown::Text(text)) if PLAIN => write_between(text, buf, at),
         Some(Shown::Text(text)) => write_text(form, text, buf, at),
         Some(Shown::Real(real)) => write_real(form, real, buf, at),
-        None => Some(write_missing(form, buf, at)),
-    }
+        None => return write_missing(form, buf, at),
+    };
+    end.unwrap_or(buf.len())
 }
 
 /// Writes the values of a record from a place on, and answers where they end. None where there is no room. After the
@@ -89,7 +93,8 @@ fn write_values<const PLAIN: bool, S: Store>(
     buf: &mut [u8],
     at: usize,
 ) -> Option<usize>
-    requires { at ≤ length buf.old }
+    requires plain { PLAIN ≡ true → form ≡ Plain }
+    requires place { at ≤ length buf.old }
     ensures within { IfSome result (λ end. end ≤ length buf.new) }
     ensures written { IfSome result (λ end. take end buf.new ≡ take at buf.old
         ++ join_with_byte (separator form) (map (slot_text form report.now) (range_with_len 1 destinations))) }
@@ -103,7 +108,7 @@ fn write_values<const PLAIN: bool, S: Store>(
         if buf.len() - next < NUMBER_BYTES {
             return None;
         }
-        end = write_slot::<PLAIN, S>(form, report, before + 1, buf, next)?;
+        end = write_slot::<PLAIN, S>(form, report, before + 1, buf, next);
         if end == buf.len() {
             return None;
         }
@@ -166,6 +171,7 @@ fn write_record<const PLAIN: bool, S: Store>(
     destinations: u8,
     buf: &mut [u8],
 ) -> Option<usize>
+    requires { PLAIN ≡ true → form ≡ Plain }
     ensures within { IfSome result (λ end. end ≤ length buf.new) }
     ensures written { IfSome result (λ end. take end buf.new ≡ record_text form destinations report.now) }
     ensures answers { length (record_text form destinations report.now) + 21 ≤ length buf.old → IsSome result }
@@ -188,9 +194,8 @@ fn write_record<const PLAIN: bool, S: Store>(
     Some(write_closing(form, buf, end))
 }
 
-/// Writes the record in the plain form. It is a call of its own, so that the loop over the values has the registers to
-/// itself.
-#[inline(never)]
+/// Writes the record in the plain form.
+#[inline(always)]
 fn write_plain_record<S: Store>(
     report: &Report<'_, S>,
     destinations: u8,
