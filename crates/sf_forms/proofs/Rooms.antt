@@ -10,7 +10,7 @@ use Rattle.sf_forms.specs.declared.form.OutputForm.TheVariants.{Plain, Tsv, Json
 use Rattle.sf_forms.specs.Forms.{missing_text, closing, filler, framed, opening, separator, value_text}
 use Rattle.sf_forms.specs.JsonStrings.{json_string}
 use Rattle.sf_forms.specs.Quotes.{is_plain, quoted}
-use Rattle.sf_forms.proofs.Joining.{texts_more}
+use Rattle.sf_forms.proofs.Joining.{next_joined, opened, texts_more}
 use Rattle.sf_forms.proofs.JsonWriting.{whole_plain}
 use Rattle.sf_forms.proofs.Short.{front_of_all, plain_all}
 
@@ -58,42 +58,29 @@ module _ (sep : ℕ) (f : ℕ → List ℕ) where
   no_longer k n le = subst (λ (m : ℕ). length (joined k) ≤ length (joined m)) {x = k + (n - k)} {y = n} (omega (arith, le))
       (longer k (n - k))
 
-  module _ (n k at end : ℕ) (old buf : List ℕ) (low : at ≤ length old) (within : end ≤ length buf)
-      (written : take end buf ≡ take at old ++ joined k) (short : at + length (joined n) + 22 ≤ length buf) where
-    -- the texts so far end there
-    end_is : end ≡ at + length (joined k)
-    end_is = omega (
+  -- what the next text leaves of the room
+  next_long : (k : ℕ) → length (joined (k + 1)) ≡ length (opened sep f k) + length (f (k + 1))
+  next_long k = omega (arith, ap length (next_joined sep f k), length-append (opened sep f k) (f (k + 1)))
+
+  module _ (n k at next : ℕ) (old buf : List ℕ) (few : k < n) (low : at ≤ length old) (within : next ≤ length buf)
+      (written : take next buf ≡ take at old ++ opened sep f k) (short : at + length (joined n) + 22 ≤ length buf) where
+    -- the next text begins there
+    next_is : next ≡ at + length (opened sep f k)
+    next_is = omega (
       arith,
-      length-take-le end buf within,
+      length-take-le next buf within,
       ap length written,
-      length-append (take at old) (joined k),
+      length-append (take at old) (opened sep f k),
       length-take-le at old low,
     )
 
-    -- there is room for a separator and a number
-    pub room_left : k ≤ n → length buf - end < 22 → ⊥
-    room_left few tight = omega (arith, tight, end_is, no_longer k n few, short)
+    -- there is room for it
+    pub room_next : next + length (f (k + 1)) + 21 ≤ length buf
+    room_next = omega (arith, next_is, next_long k, no_longer (k + 1) n (omega (arith, few)), short)
 
-    -- and for the next text, which is the first or stands after a separator
-    pub room_first : k < n → k ≤ 0 → end + length (f (k + 1)) + 21 ≤ length buf
-    room_first few first = by k first end_is (no_longer (k + 1) n (omega (arith, few)))
-      where
-        by : (k : ℕ) → k ≤ 0 → end ≡ at + length (joined k) → length (joined (k + 1)) ≤ length (joined n)
-            → end + length (f (k + 1)) + 21 ≤ length buf
-        by zero first is most = omega (arith, is, most, short)
-        by (suc k) first is most = absurd (omega (arith, first))
-
-    pub room_next : k < n → 0 < k → end + 1 + length (f (k + 1)) + 21 ≤ length buf
-    room_next few some =
-        omega (
-          arith,
-          end_is,
-          no_longer (k + 1) n (omega (arith, few)),
-          ap length (texts_more sep f k some),
-          length-append (joined k)
-              (sep ∷ f (k + 1)),
-          short,
-        )
+    -- and for a number and a separator
+    pub room_left : length buf - next < 22 → ⊥
+    room_left tight = omega (arith, tight, next_is, next_long k, no_longer (k + 1) n (omega (arith, few)), short)
 
 -- ---- a record
 

@@ -73,28 +73,28 @@ impl FormWriter {
         }
     }
 
-    /// As `write`, where the sink doesn't have the record written in place. It is a call of its own, so that records in
-    /// place don't pay for it.
+    /// As `write`, where the sink doesn't have the record written in place. It is a call of its own, with a report of its
+    /// own, so that records in place don't pay for it.
     #[inline(never)]
     fn write_apart<K: Sink, T: Store>(
         &mut self,
         to: &mut K,
-        report: &Report<'_, T>,
+        report: Report<'_, T>,
         destinations: u8,
     ) -> Result<(), RecordFault>
         ensures same { self.new ≡ self.old }
-        ensures written { WritesText (record_text self.old destinations report.now) (K.contents to.old)
+        ensures written { WritesText (record_text self.old destinations report.entry) (K.contents to.old)
             (K.contents to.new) result }
         ensures failures { K.failures to.new
             ≡ (if is_sink_fault result then counted_on (K.failures to.old) else K.failures to.old) }
-        ensures short { length (record_text self.old destinations report.now) < 1024
+        ensures short { length (record_text self.old destinations report.entry) < 1024
             → IsErrOf result RecordFault.Memory → ⊥ }
     {
-        if let Some(end) = write_line(self.form, report, destinations, &mut self.line) {
+        if let Some(end) = write_line(self.form, &report, destinations, &mut self.line) {
             return send(to, &self.line[..end]);
         }
         self.text.clear();
-        if push_record(&mut self.text, self.form, report, destinations).is_err() {
+        if push_record(&mut self.text, self.form, &report, destinations).is_err() {
             return Err(RecordFault::Memory);
         }
         send(to, &self.text)
@@ -125,7 +125,7 @@ impl FormWriter {
         if to.take_in_place(&record).is_some() {
             return Ok(());
         }
-        self.write_apart(to, report, destinations)
+        self.write_apart(to, report.copied(), destinations)
     }
 
     /// Writes the record of a format, by the report of a run: first the number of the format, if it is given, and then

@@ -1,9 +1,10 @@
 //! The record of a report, written in place where it is short.
 ghost use Rattle.std.specs.Prelude.{◌≡◌, ◌++◌, ◌+◌, ◌<◌, ◌≤◌, ◌∷◌, [], if◌then◌else◌, map, length, take, IfSome};
-ghost use Rattle.std.specs.Prelude.{IsSome};
+ghost use Rattle.std.specs.Prelude.{IsSome, true};
 ghost use Rattle.std.specs.List.{join_with_byte, range_with_len};
 ghost use Rattle.sf_base.specs.Data.{Bytes};
 ghost use Rattle.sf_forms.specs.Lone.{is_lone_in};
+ghost use Rattle.sf_forms.specs.declared.form.OutputForm.TheVariants.{Plain};
 ghost use Rattle.sf_forms.specs.Forms.{closing, missing_text, opening, record_text, separator, slot_text, value_text};
 
 use crate::csv::write_csv_text;
@@ -21,7 +22,7 @@ use sf_store::Store;
 /// The room for a short line: 1,023 bytes, and as many as the longest number has.
 pub(crate) const LINE_BYTES: usize = 1044;
 
-/// A separator, a minus and the digits of any number.
+/// A minus and the digits of any number, and a separator.
 const NUMBER_BYTES: usize = 22;
 
 /// Writes a text from a place on, and answers where it ends. None where there is no room.
@@ -54,55 +55,82 @@ fn write_missing(form: OutputForm, buf: &mut [u8], at: usize) -> usize
     }
 }
 
-/// Writes what a slot was given from a place on, and answers where it ends. None where there is no room for it.
+/// Writes a text that a slot was given, as `write_slot` does. It is a call of its own, so that numbers don't pay for it.
+#[inline(never)]
+fn write_given_text<const PLAIN: bool>(
+    form: OutputForm,
+    text: &[u8],
+    buf: &mut [u8],
+    at: usize,
+) -> usize
+    requires plain { PLAIN ≡ true → form ≡ Plain }
+    requires room { at + 22 ≤ length buf.old }
+    ensures within { result ≤ length buf.new }
+    ensures written { result < length buf.new → take result buf.new ≡ take at buf.old ++ value_text form (Bytes text.now) }
+    ensures answers { at + length (value_text form (Bytes text.now)) + 21 ≤ length buf.old → result < length buf.new }
+{
+    let end = if PLAIN {
+        write_between(text, buf, at)
+    } else {
+        write_text(form, text, buf, at)
+    };
+    end.unwrap_or(buf.len())
+}
+
+/// Writes what a slot was given from a place on, and answers where it ends, which is before the end of the buffer.
+/// Where there is no room for it, the answer is the length of the buffer: one test then shows both.
 #[inline(always)]
-fn write_slot<S: Store>(
+fn write_slot<const PLAIN: bool, S: Store>(
     form: OutputForm,
     report: &Report<'_, S>,
     slot: u8,
     buf: &mut [u8],
     at: usize,
-) -> Option<usize>
-    requires { at + 21 ≤ length buf.old }
-    ensures within { IfSome result (λ end. end ≤ length buf.new) }
-    ensures written { IfSome result (λ end. take end buf.new ≡ take at buf.old ++ slot_text form report.now slot) }
-    ensures answers { at + length (slot_text form report.now slot) + 21 ≤ length buf.old → IsSome result }
+) -> usize
+    requires plain { PLAIN ≡ true → form ≡ Plain }
+    requires room { at + 22 ≤ length buf.old }
+    ensures within { result ≤ length buf.new }
+    ensures written { result < length buf.new → take result buf.new ≡ take at buf.old ++ slot_text form report.now slot }
+    ensures answers { at + length (slot_text form report.now slot) + 21 ≤ length buf.old → result < length buf.new }
 {
     match report.shown(slot) {
-        Some(Shown::Number(number)) => {
-            Some(write_number(number.negative, number.magnitude, buf, at))
-        }
-        Some(Shown::Text(text)) => write_text(form, text, buf, at),
-        Some(Shown::Real(real)) => write_real(form, real, buf, at),
-        None => Some(write_missing(form, buf, at)),
+        Some(Shown::Number(number)) => write_number(number.negative, number.magnitude, buf, at),
+        Some(Shown::Text(text)) => write_given_text::<PLAIN>(form, text, buf, at),
+        Some(Shown::Real(real)) => write_real(form, real, buf, at).unwrap_or(buf.len()),
+        None => write_missing(form, buf, at),
     }
 }
 
-/// Writes the values of a record from a place on, and answers where they end. None where there is no room.
+/// Writes the values of a record from a place on, and answers where they end. None where there is no room. After the
+/// last value stands a separator, too, so that each turn of the loop is the same.
 #[inline(always)]
-fn write_values<S: Store>(
+fn write_values<const PLAIN: bool, S: Store>(
     form: OutputForm,
     report: &Report<'_, S>,
     destinations: u8,
     buf: &mut [u8],
     at: usize,
 ) -> Option<usize>
-    requires { at ≤ length buf.old }
+    requires plain { PLAIN ≡ true → form ≡ Plain }
+    requires place { at ≤ length buf.old }
     ensures within { IfSome result (λ end. end ≤ length buf.new) }
     ensures written { IfSome result (λ end. take end buf.new ≡ take at buf.old
         ++ join_with_byte (separator form) (map (slot_text form report.now) (range_with_len 1 destinations))) }
     ensures answers { at + length (join_with_byte (separator form) (map (slot_text form report.now)
         (range_with_len 1 destinations))) + 22 ≤ length buf.old → IsSome result }
 {
+    let separator = form.separator();
     let mut end = at;
+    let mut next = at;
     for before in 0..destinations {
-        if buf.len() - end < NUMBER_BYTES {
+        if buf.len() - next < NUMBER_BYTES {
             return None;
         }
-        if before > 0 {
-            end = write_byte(form.separator(), buf, end);
+        end = write_slot::<PLAIN, S>(form, report, before + 1, buf, next);
+        if end == buf.len() {
+            return None;
         }
-        end = write_slot(form, report, before + 1, buf, end)?;
+        next = write_byte(separator, buf, end);
     }
     Some(end)
 }
@@ -152,8 +180,8 @@ fn write_closing(form: OutputForm, buf: &mut [u8], at: usize) -> usize
     }
 }
 
-/// Writes the record in a form, as `write_line` does. Plain records have an instance of their own, which the compiler
-/// makes for that form alone.
+/// Writes the record in a form, as `write_line` does. Plain records have instances of their own of the functions that
+/// are PLAIN, which the compiler makes for that form alone.
 #[inline(always)]
 fn write_record<const PLAIN: bool, S: Store>(
     form: OutputForm,
@@ -161,6 +189,7 @@ fn write_record<const PLAIN: bool, S: Store>(
     destinations: u8,
     buf: &mut [u8],
 ) -> Option<usize>
+    requires { PLAIN ≡ true → form ≡ Plain }
     ensures within { IfSome result (λ end. end ≤ length buf.new) }
     ensures written { IfSome result (λ end. take end buf.new ≡ record_text form destinations report.now) }
     ensures answers { length (record_text form destinations report.now) + 21 ≤ length buf.old → IsSome result }
@@ -169,7 +198,7 @@ fn write_record<const PLAIN: bool, S: Store>(
         return None;
     }
     let start = write_opening(form, buf);
-    let values_end = write_values(form, report, destinations, buf, start)?;
+    let values_end = write_values::<PLAIN, S>(form, report, destinations, buf, start)?;
     if buf.len() - values_end < 4 {
         return None;
     }
@@ -183,20 +212,34 @@ fn write_record<const PLAIN: bool, S: Store>(
     Some(write_closing(form, buf, end))
 }
 
-/// Writes the record in a form other than the plain one. It is a call of its own, so that plain records don't pay for
-/// it.
-#[inline(never)]
-fn write_other<S: Store>(
-    form: OutputForm,
+/// Writes the record in the plain form.
+#[inline(always)]
+fn write_plain_record<S: Store>(
     report: &Report<'_, S>,
     destinations: u8,
     buf: &mut [u8],
 ) -> Option<usize>
     ensures within { IfSome result (λ end. end ≤ length buf.new) }
-    ensures written { IfSome result (λ end. take end buf.new ≡ record_text form destinations report.now) }
-    ensures answers { length (record_text form destinations report.now) + 21 ≤ length buf.old → IsSome result }
+    ensures written { IfSome result (λ end. take end buf.new ≡ record_text Plain destinations report.now) }
+    ensures answers { length (record_text Plain destinations report.now) + 21 ≤ length buf.old → IsSome result }
 {
-    write_record::<false, S>(form, report, destinations, buf)
+    write_record::<true, S>(OutputForm::Plain, report, destinations, buf)
+}
+
+/// Writes the record in a form other than the plain one. It is a call of its own, with a report of its own, so that
+/// plain records don't pay for it.
+#[inline(never)]
+fn write_other<S: Store>(
+    form: OutputForm,
+    report: Report<'_, S>,
+    destinations: u8,
+    buf: &mut [u8],
+) -> Option<usize>
+    ensures within { IfSome result (λ end. end ≤ length buf.new) }
+    ensures written { IfSome result (λ end. take end buf.new ≡ record_text form destinations report.entry) }
+    ensures answers { length (record_text form destinations report.entry) + 21 ≤ length buf.old → IsSome result }
+{
+    write_record::<false, S>(form, &report, destinations, buf)
 }
 
 /// Writes the record, in this form, of a format that has so many destinations, by the report of a run, and answers
@@ -213,9 +256,9 @@ pub(crate) fn write_line<S: Store>(
     ensures answers { length (record_text form destinations report.now) + 21 ≤ length buf.old → IsSome result }
 {
     match form {
-        OutputForm::Plain => write_record::<true, S>(OutputForm::Plain, report, destinations, buf),
+        OutputForm::Plain => write_plain_record(report, destinations, buf),
         OutputForm::Tsv | OutputForm::Json | OutputForm::Csv => {
-            write_other(form, report, destinations, buf)
+            write_other(form, report.copied(), destinations, buf)
         }
     }
 }

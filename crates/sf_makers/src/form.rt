@@ -88,17 +88,18 @@ impl<'n> FormMaker<'n> {
         }
     }
 
-    /// Writes a record under heads. It is a call of its own, so that other records don't pay for it.
+    /// Writes a record under heads. It is a call of its own, with a report of its own, so that other records
+    /// don't pay for it.
     #[inline(never)]
     fn write_headed<K: Sink, T: Store>(
         &mut self,
         to: &mut K,
         number: u64,
-        report: &Report<'_, T>,
+        report: Report<'_, T>,
         destinations: u8,
     ) -> Result<(), RecordFault>
         ensures same { self.new ≡ self.old }
-        ensures written { WritesText (headed_text self.old number destinations report.now) (K.contents to.old)
+        ensures written { WritesText (headed_text self.old number destinations report.entry) (K.contents to.old)
             (K.contents to.new) result }
         ensures failures { K.failures to.new
             ≡ (if is_sink_fault result then counted_on (K.failures to.old) else K.failures to.old) }
@@ -107,9 +108,9 @@ impl<'n> FormMaker<'n> {
         match &self.names {
             Some(names) => {
                 self.writer
-                    .write_named(to, names.as_slice(), tag, report, destinations)
+                    .write_named(to, names.as_slice(), tag, &report, destinations)
             }
-            None => self.writer.write_columns(to, tag, report, destinations),
+            None => self.writer.write_columns(to, tag, &report, destinations),
         }
     }
 }
@@ -127,7 +128,7 @@ impl Maker for FormMaker<'_> {
     ) -> Result<(), Unwritten> {
         let destinations = format.destinations();
         if self.tagged || self.names.is_some() {
-            return as_made(self.write_headed(to, number as u64, report, destinations));
+            return as_made(self.write_headed(to, number as u64, report.copied(), destinations));
         }
         as_made(self.writer.write(to, report, destinations))
     }

@@ -42,10 +42,10 @@ fn fault_by(why: Unwritten, number: u32) -> ToolFault
 
 /// The loop's end after this turn, where it stops. `records` were written before.
 #[inline(never)]
-fn end_after<T: Store>(turn: Turn, report: &Report<'_, T>, records: u32) -> Option<ToolEnd>
+fn end_after<T: Store>(turn: Turn, report: Report<'_, T>, records: u32) -> Option<ToolEnd>
     requires { records < 2147483647 }
     ensures { MatchOption result (turn ≡ Turn.Goes) (λ end. (turn ≢ Turn.Goes)
-        × (end ≡ end_by turn records report.now)) }
+        × (end ≡ end_by turn records report.entry)) }
 {
     let outcome = report.outcome();
     let number = records + 1;
@@ -94,7 +94,7 @@ fn judge<M: Maker, K: Sink, T: Store>(
     }
     match turn {
         Turn::Goes => None,
-        _ => end_after(turn, report, records),
+        _ => end_after(turn, report.copied(), records),
     }
 }
 

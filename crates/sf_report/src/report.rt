@@ -114,6 +114,17 @@ impl<'r, S: Store> Report<'r, S> {
         Report { outcome, store }
     }
 
+    /// The same report, lent from the same store once more.
+    #[inline(always)]
+    pub fn copied(&self) -> Report<'r, S>
+        ensures { result ≡ self.now }
+    {
+        Report {
+            outcome: self.outcome,
+            store: self.store,
+        }
+    }
+
     /// What the run came to, but for its values.
     pub fn outcome(&self) -> Outcome
         ensures status { result.status ≡ self.now.status }

@@ -31,7 +31,9 @@ fn is_at_once(
     let Some(outcome) = quick_run(store, format, row.limit, front) else {
         return Ok(false);
     };
-    row.is_told(&Report::new(outcome, store))?;
+    let report = Report::new(outcome, store);
+    row.is_told(&report)?;
+    row.is_told(&report.copied())?;
     scanner_agrees(alloc, row, format, front)?;
     Ok(true)
 }

@@ -8,9 +8,10 @@ use Rattle.sf_makers.proofs.form.FormMakerMaker.write.Goals as goal
 
 pub returns-then-self-clause-made : goal.returns-then-self-clause-made
 returns-then-self-clause-made g c =
-    c.as_made.ensures.writes _ _ _ (subst (λ (n : ℕ). WritesText (headed_text c.args.self.now c.args.number n c.args.report.now)
-    (g.K.Sink.contents c.args.to.now) (g.K.Sink.contents c.write_headed.new.to) c.write_headed.result)
-    c.destinations-destinations.ensures.count c.write_headed.ensures.written)
+    c.as_made.ensures.writes _ _ _ (subst (λ (text : List ℕ). WritesText text (g.K.Sink.contents c.args.to.now)
+    (g.K.Sink.contents c.write_headed.new.to) c.write_headed.result)
+    (λ i. headed_text c.args.self.now c.args.number (c.destinations-destinations.ensures.count i) (c.copied.ensures i))
+    c.write_headed.ensures.written)
 
 pub returns-clause-made : goal.returns-clause-made
 returns-clause-made g c =
