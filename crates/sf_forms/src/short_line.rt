@@ -55,28 +55,6 @@ fn write_missing(form: OutputForm, buf: &mut [u8], at: usize) -> usize
     }
 }
 
-/// Writes a text that a slot was given, as `write_slot` does. It is a call of its own, so that numbers don't pay for it.
-#[inline(never)]
-fn write_given_text<const PLAIN: bool>(
-    form: OutputForm,
-    text: &[u8],
-    buf: &mut [u8],
-    at: usize,
-) -> usize
-    requires plain { PLAIN ≡ true → form ≡ Plain }
-    requires room { at + 22 ≤ length buf.old }
-    ensures within { result ≤ length buf.new }
-    ensures written { result < length buf.new → take result buf.new ≡ take at buf.old ++ value_text form (Bytes text.now) }
-    ensures answers { at + length (value_text form (Bytes text.now)) + 21 ≤ length buf.old → result < length buf.new }
-{
-    let end = if PLAIN {
-        write_between(text, buf, at)
-    } else {
-        write_text(form, text, buf, at)
-    };
-    end.unwrap_or(buf.len())
-}
-
 /// Writes what a slot was given from a place on, and answers where it ends, which is before the end of the buffer.
 /// Where there is no room for it, the answer is the length of the buffer: one test then shows both.
 #[inline(always)]
@@ -93,12 +71,16 @@ fn write_slot<const PLAIN: bool, S: Store>(
     ensures written { result < length buf.new → take result buf.new ≡ take at buf.old ++ slot_text form report.now slot }
     ensures answers { at + length (slot_text form report.now slot) + 21 ≤ length buf.old → result < length buf.new }
 {
-    match report.shown(slot) {
-        Some(Shown::Number(number)) => write_number(number.negative, number.magnitude, buf, at),
-        Some(Shown::Text(text)) => write_given_text::<PLAIN>(form, text, buf, at),
-        Some(Shown::Real(real)) => write_real(form, real, buf, at).unwrap_or(buf.len()),
-        None => write_missing(form, buf, at),
-    }
+    let end = match report.shown(slot) {
+        Some(Shown::Number(number)) => {
+            return write_number(number.negative, number.magnitude, buf, at);
+        }
+        Some(Shown::Text(text)) if PLAIN => write_between(text, buf, at),
+        Some(Shown::Text(text)) => write_text(form, text, buf, at),
+        Some(Shown::Real(real)) => write_real(form, real, buf, at),
+        None => return write_missing(form, buf, at),
+    };
+    end.unwrap_or(buf.len())
 }
 
 /// Writes the values of a record from a place on, and answers where they end. None where there is no room. After the
