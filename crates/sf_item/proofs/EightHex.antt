@@ -1,7 +1,7 @@
 -- Eight hexadecimal digits at once: their values, how many there are, and their number as a sum of worths.
-use Rattle.std.proofs.Common.{◌≡◌, ℕ, zero, suc, ◌+◌, ◌-◌, ◌*◌, ◌^◌, ◌%◌, ◌<◌, ◌≤◌, min, Bool, true, false, not, ◌&&◌, ◌||◌, T, eqb, eqb→eq, nat_le}
+use Rattle.std.proofs.Common.{◌≡◌, ℕ, zero, suc, ◌+◌, ◌-◌, ◌*◌, ◌^◌, ◌%◌, ◌<◌, ◌≤◌, min, Bool, true, false, not, ◌&&◌, ◌||◌, T, eqb, nat_le}
 use Rattle.std.proofs.Common.{cond, List, [], ◌∷◌, map, length, take, get_or, refl, sym, ap, ◌∙◌, subst, inl, inr, eq-zero-or-pos, arith}
-use Rattle.std.proofs.Common.{Some, Fits, w8, leb, nat_lt, replicate, ap₂}
+use Rattle.std.proofs.Common.{eqb→eq, Some, Fits, w8, leb, nat_lt, replicate, ap₂}
 use Rattle.std.proofs.lemmas.Bool.{agree_below, agree_below_at, eqb-true, le-leb, leb-true, lt-leb, ltb-true, ltb-false}
 use Rattle.std.proofs.lemmas.List.{get_or-map, get_or-take, length-map, length-take-le}
 use Rattle.std.proofs.lemmas.List.Sums.{prefix_len-le-length, prefix_len_passes, prefix_len_stops}

@@ -1,5 +1,6 @@
 -- Items that end within a piece of the input.
-use Rattle.std.specs.Prelude.{◌≡◌, ◌≢◌, ℕ, zero, suc, ◌+◌, ◌^◌, ◌<◌, ◌≤◌, ◌⊎◌, nat_lt, Bool, false, List, ◌++◌, length, take, get_or, Option, Some}
+use Rattle.std.specs.Prelude.{◌≡◌, ◌≢◌, ℕ, zero, suc, ◌+◌, ◌^◌, ◌<◌, ◌≤◌, ◌⊎◌, nat_lt, Bool, false, List, ◌++◌, length, take, get_or}
+use Rattle.std.specs.Prelude.{Option, Some}
 use Rattle.std.specs.Char.{digit_value}
 use Rattle.sf_format.specs.declared.directive.Base.{Base}
 use Rattle.sf_format.specs.declared.directive.Base.TheVariants.{Hex}
