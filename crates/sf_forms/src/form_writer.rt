@@ -73,8 +73,8 @@ impl FormWriter {
         }
     }
 
-    /// As `write`, where the sink doesn't have the record written in place. It is a call of its own, with a report of its
-    /// own, so that records in place don't pay for it.
+    /// As `write`, where the sink doesn't have the record written in place. It is a call of its own, with a report of
+    /// its own, so that records in place don't pay for it.
     #[inline(never)]
     fn write_apart<K: Sink, T: Store>(
         &mut self,

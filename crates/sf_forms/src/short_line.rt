@@ -194,20 +194,6 @@ fn write_record<const PLAIN: bool, S: Store>(
     Some(write_closing(form, buf, end))
 }
 
-/// Writes the record in the plain form.
-#[inline(always)]
-fn write_plain_record<S: Store>(
-    report: &Report<'_, S>,
-    destinations: u8,
-    buf: &mut [u8],
-) -> Option<usize>
-    ensures within { IfSome result (λ end. end ≤ length buf.new) }
-    ensures written { IfSome result (λ end. take end buf.new ≡ record_text Plain destinations report.now) }
-    ensures answers { length (record_text Plain destinations report.now) + 21 ≤ length buf.old → IsSome result }
-{
-    write_record::<true, S>(OutputForm::Plain, report, destinations, buf)
-}
-
 /// Writes the record in a form other than the plain one. It is a call of its own, with a report of its own, so that
 /// plain records don't pay for it.
 #[inline(never)]
@@ -238,7 +224,7 @@ pub(crate) fn write_line<S: Store>(
     ensures answers { length (record_text form destinations report.now) + 21 ≤ length buf.old → IsSome result }
 {
     match form {
-        OutputForm::Plain => write_plain_record(report, destinations, buf),
+        OutputForm::Plain => write_record::<true, S>(OutputForm::Plain, report, destinations, buf),
         OutputForm::Tsv | OutputForm::Json | OutputForm::Csv => {
             write_other(form, report.copied(), destinations, buf)
         }

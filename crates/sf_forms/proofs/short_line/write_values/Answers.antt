@@ -1,4 +1,4 @@
-use Rattle.std.proofs.Common.{ℕ, List, [], ◌∷◌, ◌++◌, take, ap, sym, ◌∙◌, ◌<◌, length, arith}
+use Rattle.std.proofs.Common.{ℕ, [], ◌∷◌, ◌++◌, take, ap, sym, ◌∙◌, ◌<◌, length, arith}
 use Rattle.std.proofs.lemmas.List.{append-nil}
 use Rattle.sf_forms.specs.Forms.{separator, slot_text}
 use Rattle.sf_forms.proofs.Joining.{begun_stays, text_after, then_opened}
