@@ -149,11 +149,11 @@ fn write_values<const PLAIN: bool, S: Store>(
     let separator = form.separator();
     let mut end = at;
     let mut next = at;
-    for before in 0..destinations {
+    for before in 0..destinations as usize {
         if buf.len() - next < NUMBER_BYTES {
             return None;
         }
-        end = write_slot::<PLAIN, S>(form, report, before + 1, buf, next);
+        end = write_slot::<PLAIN, S>(form, report, before as u8 + 1, buf, next);
         if end == buf.len() {
             return None;
         }
@@ -162,16 +162,21 @@ fn write_values<const PLAIN: bool, S: Store>(
     Some(end)
 }
 
-/// Writes what stands before the values of a record, and answers where it ends.
+/// Writes what stands before the values of a record, and answers where it ends. None where there is no room.
 #[inline(always)]
-fn write_opening(form: OutputForm, buf: &mut [u8]) -> usize
-    requires { 1 ≤ length buf.old }
-    ensures within { result ≤ length buf.new }
-    ensures written { take result buf.new ≡ opening form }
+fn write_opening<const PLAIN: bool>(form: OutputForm, buf: &mut [u8]) -> Option<usize>
+    requires plain { PLAIN ≡ true → form ≡ Plain }
+    ensures within { IfSome result (λ end. end ≤ length buf.new) }
+    ensures written { IfSome result (λ end. take end buf.new ≡ opening form) }
+    ensures answers { 1 ≤ length buf.old → IsSome result }
 {
+    if PLAIN {
+        return Some(0);
+    }
     match form {
-        OutputForm::Plain | OutputForm::Tsv | OutputForm::Csv => 0,
-        OutputForm::Json => write_byte(b'[', buf, 0),
+        OutputForm::Plain | OutputForm::Tsv | OutputForm::Csv => Some(0),
+        OutputForm::Json if buf.is_empty() => None,
+        OutputForm::Json => Some(write_byte(b'[', buf, 0)),
     }
 }
 
@@ -221,10 +226,7 @@ fn write_record<const PLAIN: bool, S: Store>(
     ensures written { IfSome result (λ end. take end buf.new ≡ record_text form destinations report.now) }
     ensures answers { length (record_text form destinations report.now) + 21 ≤ length buf.old → IsSome result }
 {
-    if buf.is_empty() {
-        return None;
-    }
-    let start = write_opening(form, buf);
+    let start = write_opening::<PLAIN>(form, buf)?;
     let values_end = write_values::<PLAIN, S>(form, report, destinations, buf, start)?;
     if buf.len() - values_end < 4 {
         return None;
@@ -292,5 +294,23 @@ impl<S: Store> TextInPlace for Record<'_, '_, S> {
     #[inline(always)]
     fn write_in(&self, room: &mut [u8]) -> Option<usize> {
         write_line(self.form, self.report, self.destinations, room)
+    }
+}
+
+/// The plain record of a format that has so many destinations, by the report of a run.
+#[derive(Drop)]
+pub(crate) struct PlainRecord<'a, 'r, S: Store> {
+    pub(crate) report: &'a Report<'r, S>,
+    pub(crate) destinations: u8,
+}
+
+impl<S: Store> TextInPlace for PlainRecord<'_, '_, S> {
+    ghost text = { λ r. record_text Plain r.destinations r.report.now };
+
+    ghost Fits = { λ r. Unit {0} };
+
+    #[inline(always)]
+    fn write_in(&self, room: &mut [u8]) -> Option<usize> {
+        write_record::<true, S>(OutputForm::Plain, self.report, self.destinations, room)
     }
 }
