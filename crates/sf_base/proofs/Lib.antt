@@ -1,4 +1,5 @@
 pub mod Sets
+pub mod Lacks
 pub mod Bits
 pub mod Lanes
 pub mod Fronts

@@ -2,6 +2,7 @@
 use Rattle.std.specs.Prelude.{◌≡◌, ℕ, zero, suc, ◌+◌, ◌/◌, ◌%◌, ◌<◌, ◌==◌, Bool, false, not, Option, Some, None, List, [], ◌∷◌, slice_index}
 use Rattle.std.specs.Prelude.{slice_index_or, if◌then◌else◌}
 use Rattle.std.specs.Int.{bit_at}
+use Rattle.std.specs.List.{prefix_len}
 
 -- the byte is a member
 abbrev pub has_byte : List Bool → ℕ → Bool
@@ -11,6 +12,10 @@ has_byte set b = slice_index_or set b false
 unfoldable pub count_below : (ℕ → Bool) → ℕ → ℕ
 count_below test zero = 0
 count_below test (suc n) = count_below test n + (if test n then 1 else 0)
+
+-- the byte that alone is no member: where 255 bytes are members, the first that is none
+unfoldable pub lone_lack : List Bool → Option ℕ
+lone_lack set = if count_below (has_byte set) 256 == 255 then Some (prefix_len (λ member. member) set) else None
 
 -- ---- how a set is held
 

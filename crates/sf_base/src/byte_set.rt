@@ -3,7 +3,7 @@ ghost use Rattle.std.specs.Prelude.{◌≡◌, ◌↔◌, ◌||◌, ◌&&◌, �
 ghost use Rattle.std.specs.Prelude.{false, IsTrue, length, IfSome};
 ghost use Rattle.std.specs.List.{prefix_len};
 ghost use Rattle.sf_base.specs.Bytes.{IsLongestFront};
-ghost use Rattle.sf_base.specs.Sets.{has_byte, word_has, marks_of, count_below, LacksOnly};
+ghost use Rattle.sf_base.specs.Sets.{has_byte, word_has, marks_of, count_below, lone_lack, LacksOnly};
 
 use crate::runs::run_before;
 use std::marker::Model;
@@ -71,6 +71,22 @@ impl ByteSet {
         let mut found = None;
         for b in 0..256u16 {
             if self.contains(b as u8) {
+                if found.is_some() {
+                    return None;
+                }
+                found = Some(b as u8);
+            }
+        }
+        found
+    }
+
+    /// The byte that alone is no member. None where each byte is one, or several are none.
+    pub fn lone_lack(&self) -> Option<u8>
+        ensures { result ≡ lone_lack self.now }
+    {
+        let mut found = None;
+        for b in 0..256u16 {
+            if !self.contains(b as u8) {
                 if found.is_some() {
                     return None;
                 }

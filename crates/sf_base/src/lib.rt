@@ -19,6 +19,6 @@ pub use number::Number;
 pub use pairs::pair_of;
 pub use real::Real;
 pub use rules::{Rule, first_fault};
-pub use runs::{space_run, text_run};
+pub use runs::{run_before, space_run, text_run};
 pub use taken::Taken;
 pub use values::{Kind, Shown, Value};

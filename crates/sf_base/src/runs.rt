@@ -91,7 +91,7 @@ fn end_mask(end: u8, bytes: &[u8]) -> u64
 /// How many bytes stand before the first that is this one; all, where none is. Most fields are short, so the first
 /// bytes are looked at without a call.
 #[inline(always)]
-pub(crate) fn run_before(end: u8, bytes: &[u8]) -> usize
+pub fn run_before(end: u8, bytes: &[u8]) -> usize
     ensures { result ≡ prefix_len (is_other end) bytes.now }
 {
     if bytes.len() >= LANES {

@@ -1,6 +1,6 @@
 -- The decimal digits of a number, two and four at a time.
-use Rattle.std.proofs.Common.{◌≡◌, ℕ, zero, suc, ◌+◌, ◌-◌, ◌*◌, ◌/◌, ◌%◌, ◌^◌, ◌<◌, ◌≤◌, Bool, true, ◌&&◌, T, eqb, List, ◌++◌, length}
-use Rattle.std.proofs.Common.{get_or, ap, ◌∙◌, inl, inr, arith, eq-zero-or-pos, eqb→eq, append_assoc, length-append}
+use Rattle.std.proofs.Common.{◌≡◌, ℕ, ◌+◌, ◌/◌, ◌%◌, ◌^◌, ◌<◌, ◌≤◌, List, ◌++◌, length}
+use Rattle.std.proofs.Common.{ap, ◌∙◌, arith, append_assoc, length-append}
 use Rattle.std.proofs.lemmas.Fmt.{decimal_digit, decimal_step, length-decimal-le}
 use Rattle.std.specs.Fmt.{decimal}
 use Rattle.sf_digits.specs.Decimals.{two_digits, three_digits, four_digits, eight_digits}
@@ -56,6 +56,12 @@ decimal_eight n lo hi =
 
 pub length_eight : (n : ℕ) → 100000000 ≤ n → n < 2 ^ 64 → length (decimal n) ≡ length (decimal (n / 100000000)) + 8
 length_eight n lo hi = ap length (decimal_eight n lo hi) ∙ length-append _ _
+
+pub decimal_ten : (n : ℕ) → 1000000000 ≤ n → n < 10000000000 → decimal n ≡ two_digits (n / 100000000) ++ eight_digits (n % 100000000)
+decimal_ten n lo hi = rw (decimal_eight n (omega arith) (omega arith), decimal_two (n / 100000000) (omega arith) (omega arith))
+
+pub length_ten : (n : ℕ) → 1000000000 ≤ n → n < 10000000000 → length (decimal n) ≡ 10
+length_ten n lo hi = ap length (decimal_ten n lo hi)
 
 pub length_three : (n : ℕ) → 100 ≤ n → n < 1000 → length (decimal n) ≡ 3
 length_three n lo hi = omega (arith, length_pair n lo (omega arith), length_one (n / 100) (omega arith))

@@ -102,6 +102,7 @@ fn put_medium(number: u64, buf: &mut [u8], at: usize) -> usize
 }
 
 /// Writes eight digits, with zeros in front.
+#[inline(always)]
 fn put_eight(eight: u64, buf: &mut [u8], at: usize)
     requires { (eight < 100000000) × (at + 8 ≤ length buf.old) }
     ensures { take (at + 8) buf.new ≡ take at buf.old ++ eight_digits eight }
@@ -125,6 +126,34 @@ fn put_high(number: u64, buf: &mut [u8], at: usize) -> usize
     end + 8
 }
 
+/// Writes the digits of a number of ten digits.
+#[inline(always)]
+fn put_ten(number: u64, buf: &mut [u8], at: usize) -> usize
+    requires least { 1000000000 ≤ number }
+    requires below { number < 10000000000 }
+    requires room { at + length (decimal number) ≤ length buf.old }
+    ensures end { result ≡ at + length (decimal number) }
+    ensures written { take result buf.new ≡ take at buf.old ++ decimal number }
+{
+    write_pair(number / 100_000_000, buf, at);
+    let end = at + 2;
+    put_eight(number % 100_000_000, buf, end);
+    end + 8
+}
+
+/// Writes the digits of a number of eleven digits at least. It is a call of its own, so that ten digits are written
+/// without the registers that it needs.
+#[inline(never)]
+fn put_longer(number: u64, buf: &mut [u8], at: usize) -> usize
+    requires { (10000000000 ≤ number) × (at + length (decimal number) ≤ length buf.old) }
+    ensures end { result ≡ at + length (decimal number) }
+    ensures written { take result buf.new ≡ take at buf.old ++ decimal number }
+{
+    let end = put_high(number / 100_000_000, buf, at);
+    put_eight(number % 100_000_000, buf, end);
+    end + 8
+}
+
 /// Writes the digits of a number of ten digits at least. It is a call of its own, so that others don't pay for it.
 #[inline(never)]
 fn put_long(number: u64, buf: &mut [u8], at: usize) -> usize
@@ -132,9 +161,10 @@ fn put_long(number: u64, buf: &mut [u8], at: usize) -> usize
     ensures end { result ≡ at + length (decimal number) }
     ensures written { take result buf.new ≡ take at buf.old ++ decimal number }
 {
-    let end = put_high(number / 100_000_000, buf, at);
-    put_eight(number % 100_000_000, buf, end);
-    end + 8
+    if number < 10_000_000_000 {
+        return put_ten(number, buf, at);
+    }
+    put_longer(number, buf, at)
 }
 
 /// Writes the decimal digits of a number from a place on, and answers where they end.

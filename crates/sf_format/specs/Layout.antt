@@ -1,9 +1,10 @@
 -- A scan format laid out: a row for each directive, and what its runs count.
-use Rattle.std.specs.Prelude.{ℕ, ◌^◌, ◌-◌, ◌&&◌, Bool, true, false, List, Option, Some, None, is_some}
+use Rattle.std.specs.Prelude.{ℕ, ◌^◌, ◌-◌, ◌&&◌, Bool, true, false, List, Option, Some, None, is_some, unwrap_or}
 use Rattle.std.specs.List.{count_by}
 use Rattle.sf_base.specs.declared.values.Kind.{Kind}
 use Rattle.sf_base.specs.declared.values.Kind.TheVariants as kinds
 use Rattle.sf_base.specs.Kinds.{bounds_of}
+use Rattle.sf_base.specs.Sets.{lone_lack}
 use Rattle.sf_format.specs.declared.directive.Base.{Base}
 use Rattle.sf_format.specs.declared.directive.Base.TheVariants.{Dec, Hex}
 use Rattle.sf_format.specs.declared.directive.Shape.{Shape}
@@ -20,15 +21,25 @@ way_of_integer Dec = ways.Decimal
 way_of_integer Hex = ways.Hexadecimal
 way_of_integer _ = ways.Another
 
+-- which way an item by a set is passed, by the byte that alone is no member, if there is one
+abbrev pub way_of_set : Option ℕ → Way
+way_of_set None = ways.Members
+way_of_set (Some stop) = ways.Until
+
 -- which way a conversion is passed, whose kind holds numbers or not
 abbrev pub way_of : Shape → Bool → Way
 way_of (Int base) true = way_of_integer base
 way_of (Int base) false = ways.Another
 way_of Text numeric = ways.Text
-way_of (Set members) numeric = ways.Members
+way_of (Set members) numeric = way_of_set (lone_lack members)
 way_of Chars numeric = ways.Characters
 way_of Float numeric = ways.Another
 way_of Count numeric = ways.Another
+
+-- the byte before which an item of the shape ends, where it goes on to that alone
+abbrev pub stop_of : Shape → ℕ
+stop_of (Set members) = unwrap_or (lone_lack members) 0
+stop_of _ = 0
 
 -- the most bytes of an item with the width
 abbrev pub most_of : Option ℕ → ℕ
@@ -54,7 +65,7 @@ row_of (Byte due) = plain_row ways.Byte due
 row_of Percent = plain_row ways.Another 0
 row_of (Conv c) = record {
   way = way_of c.shape (is_some (bounds_of c.kind));
-  due = 0;
+  due = stop_of c.shape;
   signed = signed_in c.kind;
   kind = c.kind;
   slot = c.slot;

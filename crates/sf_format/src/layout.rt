@@ -1,7 +1,7 @@
 //! A scan format laid out: a flat row beside each directive, and what its runs count.
 ghost use Rattle.std.specs.Prelude.{◌≡◌, ◌≤◌, length, map, IfOk};
 ghost use Rattle.sf_format.specs.Layout.{assigns_item, items_assigned, items_taken, plain_row, row_of, takes_item};
-ghost use Rattle.sf_format.specs.Layout.{way_of, way_of_integer};
+ghost use Rattle.sf_format.specs.Layout.{stop_of, way_of, way_of_integer};
 ghost use Rattle.sf_format.specs.Proper.{destinations_of};
 
 use crate::directive::{Base, Conversion, Directive, Shape};
@@ -16,6 +16,8 @@ pub enum Way {
     Decimal,
     Hexadecimal,
     Text,
+    /// An item of any bytes but one.
+    Until,
     Members,
     Characters,
     Another,
@@ -25,7 +27,7 @@ pub enum Way {
 #[derive(Clone, Copy, Debug)]
 pub struct Row {
     pub way: Way,
-    /// The byte that is due.
+    /// The byte that is due; of a set that lacks just one, that byte, before which its item ends.
     pub due: u8,
     /// Whether numbers of the kind have a sign.
     pub signed: bool,
@@ -56,9 +58,20 @@ fn way_of(shape: &Shape, is_numeric: bool) -> Way
     match shape {
         Shape::Int(base) if is_numeric => way_of_integer(*base),
         Shape::Text => Way::Text,
+        Shape::Set(members) if members.lone_lack().is_some() => Way::Until,
         Shape::Set(_) => Way::Members,
         Shape::Chars => Way::Characters,
         Shape::Int(_) | Shape::Float | Shape::Count => Way::Another,
+    }
+}
+
+/// The byte before which an item of the shape ends, where it goes on to that alone.
+fn stop_of(shape: &Shape) -> u8
+    ensures { result ≡ stop_of shape.now }
+{
+    match shape {
+        Shape::Set(members) => members.lone_lack().unwrap_or(0),
+        _ => 0,
     }
 }
 
@@ -91,7 +104,7 @@ fn row_of(directive: &Directive) -> Row
     let (signed, greatest) = bounds.unwrap_or((false, 0));
     Row {
         way: way_of(&conversion.shape, bounds.is_some()),
-        due: 0,
+        due: stop_of(&conversion.shape),
         signed,
         kind: conversion.kind,
         slot: conversion.slot,

@@ -38,7 +38,7 @@ pub struct ScanFormat {
 }
 
 impl Model for ScanFormat {
-    ghost use Rattle.std.specs.Prelude.{◌≡◌, IsTrue, List, length, map, unwrap_or};
+    ghost use Rattle.std.specs.Prelude.{◌≡◌, ◌↔◌, IsTrue, List, length, map, unwrap_or};
     ghost use Rattle.sf_format.specs.declared.directive.Directive.{Directive};
     ghost use Rattle.sf_format.specs.Unbounded.{EndsUnbounded};
     ghost use Rattle.sf_format.specs.Layout.{items_assigned, items_taken, row_of};
@@ -58,7 +58,7 @@ impl Model for ScanFormat {
       converted : f.converted ≡ items_taken f.directives.items;
       optional : f.optional ≡ has_optional f.directives.items;
       reserve : f.reserve ≡ unwrap_or (width_sum f.directives.items) 0;
-      unbounded : IsTrue f.unbounded → EndsUnbounded f.directives.items;
+      unbounded : IsTrue f.unbounded ↔ EndsUnbounded f.directives.items;
     } };
 }
 
@@ -154,7 +154,7 @@ fn sum_of_widths(directives: &[Directive]) -> Option<u32>
 
 /// Whether the last directive is a conversion without a `?` whose item ends only where a byte doesn't match.
 fn ends_unbounded(directives: &[Directive]) -> bool
-    ensures { IsTrue result → EndsUnbounded directives.now }
+    ensures { IsTrue result ↔ EndsUnbounded directives.now }
 {
     match directives.last() {
         Some(Directive::Conv(conversion)) => {
@@ -290,7 +290,7 @@ impl ScanFormat {
     /// Whether the last directive is a conversion without a `?` whose item ends only where a byte doesn't match.
     #[inline(always)]
     pub fn ends_unbounded(&self) -> bool
-        ensures { IsTrue result → EndsUnbounded self.now }
+        ensures { IsTrue result ↔ EndsUnbounded self.now }
     {
         self.unbounded
     }

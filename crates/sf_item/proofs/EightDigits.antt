@@ -184,7 +184,7 @@ value_at piece values i room below is =
 
 -- ---- the count
 
-agreeing : (p q : ℕ → Bool) → agree_below p q 256 ≡ true → (v : List ℕ) → Each1 (Fits w8) v → map p v ≡ map q v
+pub agreeing : (p q : ℕ → Bool) → agree_below p q 256 ≡ true → (v : List ℕ) → Each1 (Fits w8) v → map p v ≡ map q v
 agreeing p q all [] fits = refl
 agreeing p q all (x ∷ v) fits = ap₂ (λ b bs. b ∷ bs) (agree_below_at p q 256 x all fits.0.fits) (agreeing p q all v fits.1)
 
@@ -199,23 +199,20 @@ mask_of_eight p f d z room fits lanes all =
     ∙ mask_l-mod (map (λ x. top 7 (f x)) v) 64 (omega (arith, length-map v (λ (x : ℕ). top 7 (f x)), long))
     ∙ ap mask_l (agreeing (λ x. top 7 (f x)) p all v (chunk-fits w8 0 8 d fits))
 
--- where no bit is set, all eight are digits
-pub all_digits : (d : List ℕ) (m : ℕ) → 8 ≤ length d → m ≡ mask_l (map (λ b. not (is_ascii_digit b)) (chunk 0 8 d)) → m ≡ 0
-    → 8 ≡ prefix_len is_ascii_digit (take 8 d)
-all_digits d m room mask none =
-    let long = length-chunk 0 8 d room in
-    let run = leading_from_mask_l (λ b. not (is_ascii_digit b)) (chunk 0 8 d) (sym mask ∙ none) in
-    let same = not_not is_ascii_digit (chunk 0 8 d) in
+-- where no bit is set, all lanes pass
+pub all_pass : (p : ℕ → Bool) (v : List ℕ) (m : ℕ) → length v ≡ 8 → m ≡ mask_l (map (λ b. not (p b)) v) → m ≡ 0 → 8 ≡ prefix_len p v
+all_pass p v m long mask none =
+    let run = leading_from_mask_l (λ b. not (p b)) v (sym mask ∙ none) in
+    let same = not_not p v in
     omega (arith, long, run, same)
 
 -- else as many as bits that are not set come before the first that is
-pub some_digits : (d : List ℕ) (m : ℕ) → 8 ≤ length d → m ≡ mask_l (map (λ b. not (is_ascii_digit b)) (chunk 0 8 d)) → (m ≡ 0 → ⊥)
-    → count_trailing_zeros 64 m ≡ prefix_len is_ascii_digit (take 8 d)
-some_digits d m room mask some =
-    let long = length-chunk 0 8 d room in
-    let ne : mask_l (map (λ b. not (is_ascii_digit b)) (chunk 0 8 d)) ≡ 0 → ⊥ = λ z. some (mask ∙ z) in
-    ap (count_trailing_zeros 64) mask ∙ trailing_mask_l (λ b. not (is_ascii_digit b)) 64 (chunk 0 8 d) (omega (arith, long))
-    (omega (arith, ne)) ∙ not_not is_ascii_digit (chunk 0 8 d)
+pub some_pass : (p : ℕ → Bool) (v : List ℕ) (m : ℕ) → length v ≡ 8 → m ≡ mask_l (map (λ b. not (p b)) v) → (m ≡ 0 → ⊥)
+    → count_trailing_zeros 64 m ≡ prefix_len p v
+some_pass p v m long mask some =
+    let ne : mask_l (map (λ b. not (p b)) v) ≡ 0 → ⊥ = λ z. some (mask ∙ z) in
+    ap (count_trailing_zeros 64) mask ∙ trailing_mask_l (λ b. not (p b)) 64 v (omega (arith, long))
+    (omega (arith, ne)) ∙ not_not p v
 
 -- after fewer than eight digits stands another byte
 pub digits_end : (d : List ℕ) (count : ℕ) → 8 ≤ length d → count ≡ prefix_len is_ascii_digit (take 8 d) → count < 8

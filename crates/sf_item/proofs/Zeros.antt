@@ -1,13 +1,14 @@
 -- Digits after zeros, and digits that are the front of a piece.
-use Rattle.std.proofs.Common.{◌≡◌, ◌∙◌, ℕ, zero, suc, ◌+◌, ◌<◌, ◌≤◌, List, [], ◌∷◌, length, take, drop, get_or, Some, refl, sym, ap, subst}
-use Rattle.std.proofs.Common.{arith}
+use Rattle.std.proofs.Common.{◌≡◌, ◌∙◌, ℕ, zero, suc, ◌+◌, ◌-◌, ◌<◌, ◌≤◌, List, [], ◌∷◌, length, take, drop, get_or, Some, refl, sym}
+use Rattle.std.proofs.Common.{ap, subst, arith}
 use Rattle.std.proofs.Math.Seq.{take-add}
-use Rattle.std.proofs.lemmas.List.{get_or-drop, get_or-take, length-drop, take-take}
+use Rattle.std.proofs.lemmas.List.{drop-take, get_or-drop, get_or-take, length-drop, take-take}
 use Rattle.std.specs.Char.{digit_value}
 use Rattle.sf_item.specs.Progress.{Digits, with_digit}
 use Rattle.sf_item.specs.Tests.{read}
 use Rattle.sf_item.specs.Wholes.{DigitsOf, ReadsIn}
 use Rattle.sf_item.proofs.Fronts.{read_more}
+use Rattle.sf_item.proofs.Readings.{length_rest, rest, rest_is}
 
 -- zeros leave a number as it is that is nothing
 pub zeros_read : (bytes : List ℕ) (z : ℕ) → z ≤ length bytes → ((k : ℕ) → k < z → get_or bytes k 0 ≡ 48) → ReadsIn 10 0 (take z bytes) 0
@@ -39,9 +40,30 @@ pub front_at : (digits piece : List ℕ) (n : ℕ) → digits ≡ take (length d
 front_at digits piece n front below = ap (λ l. get_or l n 0) front ∙ get_or-take (length digits) piece n 0 below
 
 -- and are read from it
-pub front_digits : (digits piece : List ℕ) (n number : ℕ) → digits ≡ take (length digits) piece → n ≤ length digits
-    → ReadsIn 10 0 (take n piece) number
-    → (n < length digits → 10 ≤ digit_value (get_or digits n 0)) → DigitsOf 10 digits n number
-front_digits digits piece n number front within reads stops =
+pub front_read : (radix : ℕ) (digits piece : List ℕ) (n number : ℕ) → digits ≡ take (length digits) piece → n ≤ length digits
+    → ReadsIn radix 0 (take n piece) number → ReadsIn radix 0 (take n digits) number
+front_read radix digits piece n number front within reads = λ base sign.
     let same : take n digits ≡ take n piece = ap (take n) front ∙ take-take n (length digits) piece within in
-    record { within = within; read = λ base sign. ap (read base (Some (Digits sign 10 0))) same ∙ reads base sign; stops = stops }
+    ap (read base (Some (Digits sign radix 0))) same ∙ reads base sign
+
+-- with what stands after them
+pub front_digits : (radix : ℕ) (digits piece : List ℕ) (n number : ℕ) → digits ≡ take (length digits) piece → n ≤ length digits
+    → ReadsIn radix 0 (take n piece) number
+    → (n < length digits → radix ≤ digit_value (get_or digits n 0)) → DigitsOf radix digits n number
+front_digits radix digits piece n number front within reads stops = record {
+  within = within;
+  read = front_read radix digits piece n number front within reads;
+  stops = stops;
+}
+
+-- what is left of such a front is the front of what is left
+pub rest_front : (front piece : List ℕ) (start : ℕ) → front ≡ take (length front) piece → start ≤ length front
+    → rest front start ≡ take (length (rest front start)) (rest piece start)
+rest_front front piece start is within =
+    let k = length front - start in
+    let all : length front ≡ start + k = omega (arith, within) in
+    rest_is front start
+    ∙ ap (drop start) (is ∙ ap (λ n. take n piece) all)
+    ∙ drop-take start k piece
+    ∙ ap (take k) (sym (rest_is piece start))
+    ∙ ap (λ n. take n (rest piece start)) (sym (length_rest front start))

@@ -1,5 +1,6 @@
 -- Items that end within a piece of the input.
-use Rattle.std.specs.Prelude.{◌≡◌, ◌≢◌, ℕ, zero, suc, ◌+◌, ◌^◌, ◌<◌, ◌≤◌, ◌⊎◌, Bool, false, List, ◌++◌, length, take, get_or, Option, Some}
+use Rattle.std.specs.Prelude.{◌≡◌, ◌≢◌, ℕ, zero, suc, ◌+◌, ◌^◌, ◌<◌, ◌≤◌, ◌⊎◌, nat_lt, Bool, false, List, ◌++◌, length, take, get_or}
+use Rattle.std.specs.Prelude.{Option, Some}
 use Rattle.std.specs.Char.{digit_value}
 use Rattle.sf_format.specs.declared.directive.Base.{Base}
 use Rattle.sf_format.specs.declared.directive.Base.TheVariants.{Hex}
@@ -47,6 +48,10 @@ NoItemWithin shape width piece = (n : ℕ) → ItemWithin shape width piece n �
 -- with the digits t of the radix, a number becomes another
 abbrev pub ReadsIn : ℕ → ℕ → List ℕ → ℕ → Type 0
 ReadsIn radix before t after = (base : Base) (sign : Bool) → read base (Some (Digits sign radix before)) t ≡ Some (Digits sign radix after)
+
+-- a byte that is a hexadecimal digit, in either case
+abbrev pub is_hex_digit : ℕ → Bool
+is_hex_digit b = nat_lt (digit_value b) 16
 
 -- the bytes begin with so many digits of the radix, and no more, and this is their number
 pub record DigitsOf (radix : ℕ) (bytes : List ℕ) (count number : ℕ) : Type 0 where

@@ -1,5 +1,5 @@
 //! Decimal digits, eight bytes at once.
-ghost use Rattle.std.specs.Prelude.{◌≡◌, ◌+◌, ◌<◌, ◌≤◌, ◌%◌, ◌^◌, length, map, not, slice_index, take};
+ghost use Rattle.std.specs.Prelude.{◌≡◌, ◌+◌, ◌<◌, ◌≤◌, ◌%◌, ◌^◌, ℕ, Bool, List, length, map, not, slice_index, take};
 ghost use Rattle.std.specs.Char.{digit_value, is_ascii_digit};
 ghost use Rattle.std.specs.List.{prefix_len};
 ghost use Rattle.sf_item.specs.Scan.{ReadsDecimal};
@@ -26,18 +26,26 @@ fn other_mask(piece: &[u8]) -> u64
     values.simd_ge(u8x8::splat(10)).to_bitmask()
 }
 
+/// How many of eight lanes come before the first that the mask marks.
+#[inline(always)]
+pub(crate) fn lanes_before(mask: u64) -> usize
+    ensures { (p : ℕ → Bool) (lanes : List ℕ) → length lanes ≡ 8 → mask ≡ mask_l (map (λ b. not (p b)) lanes)
+        → result ≡ prefix_len p lanes }
+{
+    if mask == 0 {
+        LANES
+    } else {
+        mask.trailing_zeros() as usize
+    }
+}
+
 /// How many decimal digits the first eight bytes begin with.
 #[inline(always)]
 fn digit_run(piece: &[u8]) -> usize
     requires { 8 ≤ length piece.now }
     ensures { result ≡ prefix_len is_ascii_digit (take 8 piece.now) }
 {
-    let others = other_mask(piece);
-    if others == 0 {
-        LANES
-    } else {
-        others.trailing_zeros() as usize
-    }
+    lanes_before(other_mask(piece))
 }
 
 /// How far each of the first eight bytes is above `0`, modulo 256.

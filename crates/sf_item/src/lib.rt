@@ -3,6 +3,7 @@
 
 mod digits;
 mod eight;
+mod eight_hex;
 mod integer;
 mod item;
 pub mod laws;
@@ -14,6 +15,6 @@ mod whole;
 pub use item::{ItemEnd, ItemScan, Step};
 pub use radices::{Radices, prefix_radix, radices_of};
 pub use whole::{
-    WholeInteger, characters_item, decimal_within, hex_within, members_item, text_item, whole_auto,
-    whole_decimal, whole_hex,
+    WholeInteger, characters_item, decimal_within, hex_within, members_item, text_item, until_item,
+    whole_auto, whole_decimal, whole_hex,
 };

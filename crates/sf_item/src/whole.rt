@@ -1,9 +1,10 @@
 //! Items that begin and end within a piece of the input, read in one go.
 ghost use Rattle.std.specs.Prelude.{◌≡◌, ◌≢◌, ◌<◌, ◌≤◌, ◌^◌, ◌↔◌, ◌⊎◌, false, ℕ, get_or, length, slice_index, take};
-ghost use Rattle.std.specs.Prelude.{IfSome, IsNone, IsSome, IsTrue, MatchOption, Option};
+ghost use Rattle.std.specs.Prelude.{Bool, IfSome, IsNone, IsSome, IsTrue, List, MatchOption, Option, Some};
 ghost use Rattle.std.specs.Char.{digit_value};
 ghost use Rattle.std.specs.List.{prefix_len};
 ghost use Rattle.sf_base.specs.Bytes.{is_ink};
+ghost use Rattle.sf_base.specs.Sets.{lone_lack};
 ghost use Rattle.sf_format.specs.declared.directive.Base.TheVariants.{Dec, Hex};
 ghost use Rattle.sf_format.specs.declared.directive.Shape.TheVariants.{Chars, Set, Text};
 ghost use Rattle.sf_format.specs.Layout.{most_of};
@@ -11,12 +12,13 @@ ghost use Rattle.sf_item.specs.Radices.{first_radix};
 ghost use Rattle.sf_item.specs.Wholes.{DigitsOf, EndsWithin, HasPrefixAt, HexOpening, IsCutBy, ItemWithin, LongDigits};
 ghost use Rattle.sf_item.specs.Wholes.{NoDigits, NoItemWithin, NoneEndsWithin, ReadsIn, SignOf, ZeroFirst};
 
-use crate::digits::{FIRST_HEX, first_hex_digits, value_of};
+use crate::digits::value_of;
 use crate::eight::{LANES, first_digits};
+use crate::eight_hex::first_hex_digits;
 use crate::integer::digit_front;
 use crate::item::{cut, cut_at};
 use crate::reached::Digits;
-use sf_base::{ByteSet, text_run};
+use sf_base::{ByteSet, run_before, text_run};
 use sf_format::Base;
 
 /// The most decimal digits whose number fits in 64 bits, whichever they are.
@@ -258,21 +260,22 @@ fn decimal_number(digits: &[u8], piece: &[u8]) -> Option<(u64, usize)>
     longer_decimal(digits, piece, first, number)
 }
 
-/// Takes the hexadecimal digits that the piece begins with, as many as surely fit in 64 bits: their number, and how
-/// many. It is a call, as `further_digits` is.
+/// Takes the hexadecimal digits after those that were taken, as many as surely fit in 64 bits: the number of all, and
+/// how many they are. It is a call, as `further_digits` is.
 #[cold]
 #[inline(never)]
-fn hex_digits(piece: &[u8]) -> (u64, usize)
+fn hex_digits(piece: &[u8], first: usize, before: u64) -> (u64, usize)
+    requires first { first ≤ length piece.now }
+    requires eight { first ≤ LANES }
+    requires read { ReadsIn 16 0 (take first piece.now) before }
+    requires small { before < 16 ^ first }
     ensures within { result.1 ≤ length piece.now }
     ensures read { ReadsIn 16 0 (take result.1 piece.now) result.0 }
     ensures few { result.1 ≤ SURE_HEX }
     ensures stops { result.1 < SURE_HEX → result.1 < length piece.now
         → 16 ≤ digit_value (slice_index piece.now result.1) }
 {
-    let (mut number, first) = first_hex_digits(piece);
-    if 0 < first && first < FIRST_HEX {
-        return (number, first);
-    }
+    let mut number = before;
     let most = piece.len().min(SURE_HEX);
     for i in first..most {
         let digit = value_of(piece[i]);
@@ -284,29 +287,37 @@ fn hex_digits(piece: &[u8]) -> (u64, usize)
     (number, most)
 }
 
-/// As `hex_number`, where the first nine bytes don't show where the digits end. It is a function so that room for what
-/// `long_number` answers is made only here.
+/// As `hex_number`, where the first nine bytes don't show where the digits end; so many of these were taken. It is a
+/// function so that room for what `long_number` answers is made only here.
 #[inline(always)]
-fn longer_hex(digits: &[u8]) -> Option<(u64, usize)>
+fn longer_hex(digits: &[u8], first: usize, before: u64) -> Option<(u64, usize)>
+    requires first { first ≤ length digits.now }
+    requires eight { first ≤ LANES }
+    requires read { ReadsIn 16 0 (take first digits.now) before }
+    requires small { before < 16 ^ first }
     ensures { MatchOption result (LongDigits 16 digits.now) (λ r. DigitsOf 16 digits.now r.1 r.0) }
 {
-    let (number, count) = hex_digits(digits);
+    let (number, count) = hex_digits(digits, first, before);
     if count == SURE_HEX && is_digit_at(digits, count, 16) {
         return long_number(digits, 16);
     }
     Some((number, count))
 }
 
-/// As `long_number`, of hexadecimal digits.
+/// As `long_number`, for the hexadecimal digits that the piece begins with. The piece may go on after them.
 #[inline(always)]
-fn hex_number(digits: &[u8]) -> Option<(u64, usize)>
+fn hex_number(digits: &[u8], piece: &[u8]) -> Option<(u64, usize)>
+    requires { digits.now ≡ take (length digits.now) piece.now }
     ensures { MatchOption result (LongDigits 16 digits.now) (λ r. DigitsOf 16 digits.now r.1 r.0) }
 {
-    let (number, first) = first_hex_digits(digits);
-    if 0 < first && first < FIRST_HEX {
+    let (number, first) = first_hex_digits(piece, digits.len());
+    if 0 < first && first < LANES {
         return Some((number, first));
     }
-    longer_hex(digits)
+    if first == LANES && !is_digit_at(digits, first, 16) {
+        return Some((number, first));
+    }
+    longer_hex(digits, first, number)
 }
 
 /// As `whole_decimal`, of the bytes of the piece that the item may have.
@@ -360,7 +371,7 @@ fn hex_in(front: &[u8], piece: &[u8]) -> Option<WholeInteger>
         → MatchOption result (NoneEndsWithin Hex width piece.now) (EndsWithin Hex width piece.now) }
 {
     let (start, negative) = hex_opening(front);
-    let Some((magnitude, count)) = hex_number(&front[start..]) else {
+    let Some((magnitude, count)) = hex_number(&front[start..], &piece[start..]) else {
         return None;
     };
     let end = start + count;
@@ -464,6 +475,21 @@ pub fn members_item(members: &ByteSet, most: usize, piece: &[u8]) -> Option<usiz
         (ItemWithin (Set members.now) width piece.now) }
 {
     let count = members.run(cut_at(piece, most));
+    if 0 < count && count < piece.len() {
+        Some(count)
+    } else {
+        None
+    }
+}
+
+/// As `members_item`, of a set that lacks this byte alone.
+#[inline(always)]
+pub fn until_item(stop: u8, most: usize, piece: &[u8]) -> Option<usize>
+    ensures { (members : List Bool) (width : Option ℕ) → lone_lack members ≡ Some stop → most ≡ most_of width
+        → MatchOption result (NoItemWithin (Set members) width piece.now)
+        (ItemWithin (Set members) width piece.now) }
+{
+    let count = run_before(stop, cut_at(piece, most));
     if 0 < count && count < piece.len() {
         Some(count)
     } else {

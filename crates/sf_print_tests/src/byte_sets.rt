@@ -1,4 +1,4 @@
-//! Sets of bytes: their members, what two of them share, and runs of members.
+//! Sets of bytes: their members, the one byte that they lack, what two of them share, and runs of members.
 use sf_base::ByteSet;
 use sf_rows::is;
 use std::test::Fail;
@@ -101,6 +101,31 @@ fn sets_have_members() -> Result<(), Fail> {
             members_among(&set, others),
         ];
         is(&found, &[*count, members.len(), 0], row)?;
+    }
+    Ok(())
+}
+
+/// Changes of the empty set, and the byte that it then lacks alone.
+type LackRow = (&'static [Change], Option<u8>);
+
+static LACKS: [LackRow; 10] = [
+    (&[], None),
+    (&[Complement], None),
+    (&[Range(b'a', b'z')], None),
+    (&[Range(1, 255)], Some(0)),
+    (&[Range(0, 254)], Some(255)),
+    (&[Range(0, 99), Range(101, 255)], Some(100)),
+    (&[Insert(b','), Complement], Some(b',')),
+    (&[Insert(b','), Complement, Insert(b',')], None),
+    (&[Insert(0), Insert(255), Complement], None),
+    (&[Insert(0), Insert(255), Complement, Insert(0)], Some(255)),
+];
+
+#[test]
+fn sets_lack_one_byte() -> Result<(), Fail> {
+    for row in &LACKS {
+        let (changes, wanted) = row;
+        is(&made(changes).lone_lack(), wanted, row)?;
     }
     Ok(())
 }

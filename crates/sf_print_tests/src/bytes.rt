@@ -1,16 +1,16 @@
 //! Classes of bytes: white space and digits, and runs around the sixteen bytes that are read at once.
 ghost use Rattle.std.specs.Prelude.{◌<◌};
 
-use sf_base::{digit_value, is_space, space_run, text_run};
+use sf_base::{digit_value, is_space, run_before, space_run, text_run};
 use sf_rows::is;
 use std::test::Fail;
 
 /// What `isspace` is true of in the C locale.
 static WHITE: [u8; 6] = [9, 10, 11, 12, 13, 32];
 
-/// How far a text of fifty bytes goes that has white space there, how far the text that is cut there, and the same of
-/// white space with a letter.
-fn runs_to(stop: usize, white: u8) -> [usize; 4]
+/// How far a text of fifty bytes goes that has white space there, how far the text that is cut there, the same of white
+/// space with a letter, and of the bytes before the one that is there.
+fn runs_to(stop: usize, white: u8) -> [usize; 6]
     requires { stop < 50 }
 {
     let mut text = [b'a'; 50];
@@ -22,6 +22,8 @@ fn runs_to(stop: usize, white: u8) -> [usize; 4]
         text_run(text.get(..stop).unwrap_or(&text)),
         space_run(&spaces),
         space_run(spaces.get(..stop).unwrap_or(&spaces)),
+        run_before(white, &text),
+        run_before(white, text.get(..stop).unwrap_or(&text)),
     ]
 }
 
@@ -29,7 +31,7 @@ fn runs_to(stop: usize, white: u8) -> [usize; 4]
 fn runs_end_at_each_place() -> Result<(), Fail> {
     for stop in 0..50usize {
         for &white in &WHITE {
-            is(&runs_to(stop, white), &[stop; 4], &(stop, white))?;
+            is(&runs_to(stop, white), &[stop; 6], &(stop, white))?;
         }
     }
     Ok(())

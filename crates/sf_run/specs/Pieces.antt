@@ -1,15 +1,16 @@
 -- What a directive makes of a piece of the input.
-use Rattle.std.specs.Prelude.{◌≡◌, ℕ, ◌+◌, ◌<◌, ◌≤◌, true, false, List, [], ◌++◌, length, take, drop, get_or, Option, Some, None, IfSome}
+use Rattle.std.specs.Prelude.{◌≡◌, ℕ, ◌+◌, ◌<◌, ◌≤◌, Bool, true, false, List, [], ◌++◌, length, take, drop, get_or, Option, Some, None, IfSome}
 use Rattle.sf_format.specs.declared.directive.Base.{Base}
 use Rattle.sf_format.specs.declared.directive.Conversion.{Conversion}
 use Rattle.sf_format.specs.declared.directive.Shape.{Shape}
-use Rattle.sf_format.specs.declared.directive.Shape.TheVariants.{Count, Float, Int}
+use Rattle.sf_format.specs.declared.directive.Shape.TheVariants.{Count, Float, Int, Set}
 use Rattle.sf_format.specs.declared.directive.Directive.{Directive}
+use Rattle.sf_format.specs.declared.directive.Directive.TheVariants.{Conv}
 use Rattle.sf_format.specs.declared.layout.Row.{Row}
 use Rattle.sf_format.specs.Layout.{most_of}
 use Rattle.sf_format.specs.Proper.{IsProper}
 use Rattle.sf_item.specs.declared.whole.WholeInteger.{WholeInteger}
-use Rattle.sf_item.specs.Wholes.{EndsWithin}
+use Rattle.sf_item.specs.Wholes.{EndsWithin, ItemWithin}
 use Rattle.sf_run.specs.declared.directive.Ended.{Ended}
 use Rattle.sf_run.specs.declared.directive.Finished.{Finished}
 use Rattle.sf_run.specs.declared.directive.Phase.{Phase}
@@ -119,3 +120,12 @@ pub record IsTextRow (row : Row) (c : Conversion) : Type 0 where
   pub shape : IsTextShape c.shape
   pub slot : c.slot ≡ row.slot
   pub width : row.width ≡ most_of c.width
+
+-- the directive is a conversion by a set, and has an item of n bytes that ends within the piece, where its width
+-- allows so many bytes at most
+pub record IsSetItem (d : Directive) (most : ℕ) (piece : List ℕ) (n : ℕ) : Type 0 where
+  pub conversion : Conversion
+  pub members : List Bool
+  pub is : d ≡ Conv conversion
+  pub shape : conversion.shape ≡ Set members
+  pub item : (width : Option ℕ) → most ≡ most_of width → ItemWithin (Set members) width piece n

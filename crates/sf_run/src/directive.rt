@@ -1,6 +1,6 @@
 //! What one directive makes of a piece of the input, and how it ends (C11 7.21.6.2p4 to p10).
 ghost use Rattle.std.specs.Prelude.{◌≡◌, ◌≢◌, ◌+◌, ◌<◌, ◌≤◌, ◌&&◌, ◌^◌, true, false, ℕ, ℤ, List, [], ◌++◌, length};
-ghost use Rattle.std.specs.Prelude.{take, drop, get_or, if◌then◌else◌, not, Option, Some, None, IfSome, IsNone};
+ghost use Rattle.std.specs.Prelude.{◌-◌, slice_get, take, drop, get_or, if◌then◌else◌, not, Option, Some, None, IfSome, IsNone};
 ghost use Rattle.sf_base.specs.Bytes.{is_white};
 ghost use Rattle.std.specs.Option.{option_map};
 ghost use Rattle.sf_base.specs.Data.{Number as NumberOf, Real as RealOf, datum_of_number, value_of};
@@ -10,6 +10,7 @@ ghost use Rattle.sf_format.specs.declared.directive.Conversion.{Conversion};
 ghost use Rattle.sf_format.specs.declared.directive.Directive.{Directive};
 ghost use Rattle.sf_format.specs.declared.directive.Directive.TheVariants as directive;
 ghost use Rattle.sf_format.specs.declared.directive.Shape.TheVariants.{Chars, Float, Int, Text};
+ghost use Rattle.sf_format.specs.declared.layout.Way.TheVariants as ways;
 ghost use Rattle.sf_format.specs.Layout.{most_of, row_of};
 ghost use Rattle.sf_format.specs.Proper.{IsProper, IsProperShape};
 ghost use Rattle.sf_item.specs.Scan.{HasLeft};
@@ -24,7 +25,7 @@ ghost use Rattle.sf_run.specs.Texts.{text_slot, opened_for, slot_of, slot_of_tex
 ghost use Rattle.sf_run.specs.Holding.{FallsBy};
 ghost use Rattle.sf_run.specs.Phases.{ShowsItem, Shows, CanAll, IsNumberGiven, end_of, is_failing, is_memory_failure};
 ghost use Rattle.sf_run.specs.Phases.{is_missing, passed_number, slot_closed, slot_given, slot_in};
-ghost use Rattle.sf_run.specs.Pieces.{Answers, EndsAt, EndsAtOnce, IsEnd, IsEndIn, IsEndOf, IsNumberRow, IsTextRow};
+ghost use Rattle.sf_run.specs.Pieces.{Answers, EndsAt, EndsAtOnce, IsEnd, IsEndIn, IsEndOf, IsNumberRow, IsSetItem, IsTextRow};
 ghost use Rattle.sf_run.specs.Pieces.{StaysAt, Suits, run_of};
 ghost use Rattle.sf_run.specs.Quick.{IsSure};
 ghost use Rattle.sf_run.specs.Stopping.{is_memory_status};
@@ -32,10 +33,10 @@ ghost use Rattle.sf_run.specs.Stopping.{is_memory_status};
 use crate::number::{decimal_real, number_of};
 use sf_base::{Kind, Number, Real, is_space, space_run};
 use sf_float_item::numeral_within;
-use sf_format::{Base, Conversion, Directive, Row, Shape};
+use sf_format::{Base, Conversion, Directive, Row, ScanFormat, Shape};
 use sf_item::{
     ItemEnd, ItemScan, WholeInteger, characters_item, decimal_within, hex_within, members_item,
-    text_item, whole_auto, whole_decimal, whole_hex,
+    text_item, until_item, whole_auto, whole_decimal, whole_hex,
 };
 use sf_report::Status;
 
@@ -774,19 +775,51 @@ pub(crate) fn text_at_once(row: &Row, piece: &[u8]) -> Option<Ended>
     })
 }
 
-/// As `text_at_once`, of a conversion by a set.
-#[inline(always)]
-pub(crate) fn members_at_once(row: &Row, directive: &Directive, piece: &[u8]) -> Option<Ended>
-    requires { row.now ≡ row_of directive.now }
-    ensures { (n : ℕ) → IfSome result (EndsAtOnce directive.now n piece.now) }
+/// As `members_item`, of the first of so many directives of a format that are left; None where that is by no set. It
+/// looks the directive up itself, so that a run by rows alone doesn't.
+#[cold]
+#[inline(never)]
+fn members_left(format: &ScanFormat, left: usize, most: usize, piece: &[u8]) -> Option<usize>
+    requires some { 0 < left }
+    requires within { left ≤ length format.now }
+    ensures { (d : Directive) → slice_get format.now (length format.now - left) ≡ Some d
+        → IfSome result (IsSetItem d most piece.now) }
 {
-    let Directive::Conv(conversion) = directive else {
+    let directives = format.directives();
+    let at = directives.len() - left;
+    let Directive::Conv(conversion) = &directives[at] else {
         return None;
     };
     match &conversion.shape {
-        Shape::Set(members) => bytes_by(row, members_item(members, row.width, piece), piece),
+        Shape::Set(members) => members_item(members, most, piece),
         _ => None,
     }
+}
+
+/// As `text_at_once`, of a conversion by a set, which is the first of so many directives of a format that are left.
+#[inline(always)]
+pub(crate) fn members_at_once(
+    row: &Row,
+    format: &ScanFormat,
+    left: usize,
+    piece: &[u8],
+) -> Option<Ended>
+    requires some { 0 < left }
+    requires within { left ≤ length format.now }
+    ensures { (d : Directive) → slice_get format.now (length format.now - left) ≡ Some d → row.now ≡ row_of d
+        → (n : ℕ) → IfSome result (EndsAtOnce d n piece.now) }
+{
+    let item = members_left(format, left, row.width, piece)?;
+    bytes_by(row, Some(item), piece)
+}
+
+/// As `text_at_once`, of a conversion by a set that lacks just one byte, by its row alone.
+#[inline(always)]
+pub(crate) fn until_at_once(row: &Row, piece: &[u8]) -> Option<Ended>
+    ensures { (d : Directive) → row.now ≡ row_of d → row.now.way ≡ ways.Until → (n : ℕ)
+        → IfSome result (EndsAtOnce d n piece.now) }
+{
+    bytes_by(row, until_item(row.due, row.width, piece), piece)
 }
 
 /// As `text_at_once`, of a conversion `c`.

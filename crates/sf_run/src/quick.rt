@@ -18,7 +18,7 @@ ghost use Rattle.sf_report.specs.Views.{report_by};
 
 use crate::directive::{
     Ended, Finished, characters_at_once, ended_within, members_at_once, number_at_once,
-    real_at_once, text_at_once, whole_byte, whole_space,
+    real_at_once, text_at_once, until_at_once, whole_byte, whole_space,
 };
 use crate::number::real_of;
 use sf_base::Number;
@@ -150,29 +150,30 @@ fn pass_whole<S: Store>(
     pass_so(store, directive, ended, piece, used)
 }
 
-/// As `pass_whole`, of the first of so many directives that are left. It looks the directive up itself, so that a run
-/// by rows alone doesn't.
+/// As `pass_whole`, of the first of so many directives of a format that are left. It looks the directive up itself, so
+/// that a run by rows alone doesn't.
 #[cold]
 #[inline(never)]
 fn pass_later<S: Store>(
     store: &mut S,
-    directives: &[Directive],
+    format: &ScanFormat,
     left: usize,
     piece: &[u8],
     used: u32,
 ) -> Option<usize>
     requires opened { (S.kept store.old).opened ≡ None }
     requires some { 0 < left }
-    requires within { left ≤ length directives.now }
-    requires free { (d : Directive) → slice_get directives.now (length directives.now - left) ≡ Some d
+    requires within { left ≤ length format.now }
+    requires free { (d : Directive) → slice_get format.now (length format.now - left) ≡ Some d
         → MayBeGiven S.slots (slot_of d) (S.kept store.old).values }
-    ensures passes { (d : Directive) → slice_get directives.now (length directives.now - left) ≡ Some d → IsProper d
+    ensures passes { (d : Directive) → slice_get format.now (length format.now - left) ≡ Some d → IsProper d
         → IfSome result (λ taken. Passes d used piece.now taken (S.kept store.old) (S.kept store.new)) }
     ensures within { IfSome result (λ taken. taken ≤ length piece.now) }
-    ensures sure { (d : Directive) → slice_get directives.now (length directives.now - left) ≡ Some d → IsProper d
+    ensures sure { (d : Directive) → slice_get format.now (length format.now - left) ≡ Some d → IsProper d
         → IsSure d used piece.now (S.kept store.old).room → IsSome result }
     ensures room { capacity_of (S.kept store.old) ≤ capacity_of (S.kept store.new) }
 {
+    let directives = format.directives();
     let at = directives.len() - left;
     let directive = &directives[at];
     pass_whole(store, directive, piece, used)
@@ -184,12 +185,17 @@ fn pass_later<S: Store>(
 #[inline(always)]
 fn pass<S: Store>(
     store: &mut S,
+    format: &ScanFormat,
+    left: usize,
     directive: &Directive,
     row: &Row,
     piece: &[u8],
     used: u32,
 ) -> Option<usize>
     requires opened { (S.kept store.old).opened ≡ None }
+    requires some { 0 < left }
+    requires within { left ≤ length format.now }
+    requires first { slice_get format.now (length format.now - left) ≡ Some directive.now }
     requires free { MayBeGiven S.slots (slot_of directive.now) (S.kept store.old).values }
     requires row { row.now ≡ row_of directive.now }
     ensures passes { IsProper directive.now → IfSome result
@@ -219,8 +225,12 @@ fn pass<S: Store>(
             let ended = text_at_once(row, piece);
             pass_so(store, directive, ended, piece, used)
         }
+        Way::Until => {
+            let ended = until_at_once(row, piece);
+            pass_so(store, directive, ended, piece, used)
+        }
         Way::Members => {
-            let ended = members_at_once(row, directive, piece);
+            let ended = members_at_once(row, format, left, piece);
             pass_so(store, directive, ended, piece, used)
         }
         Way::Characters => {
@@ -254,9 +264,9 @@ fn pass_all<S: Store>(store: &mut S, format: &ScanFormat, limit: u32, piece: &[u
         let at = rows.len() - left.len();
         let directive = &directives[at];
         let used = (front.len() - rest.len()) as u32;
-        let taken = match pass(store, directive, row, rest, used) {
+        let taken = match pass(store, format, left.len(), directive, row, rest, used) {
             Some(taken) => taken,
-            None => pass_later(store, directives, left.len(), rest, used)?,
+            None => pass_later(store, format, left.len(), rest, used)?,
         };
         let (_, after) = rest.split_at(taken);
         rest = after;

@@ -6,7 +6,8 @@ use sf_base::{ByteSet, Kind};
 use sf_format::{Base, Conversion, Shape};
 use sf_item::{
     ItemEnd, ItemScan, Radices, Step, WholeInteger, characters_item, decimal_within, hex_within,
-    members_item, prefix_radix, radices_of, text_item, whole_auto, whole_decimal, whole_hex,
+    members_item, prefix_radix, radices_of, text_item, until_item, whole_auto, whole_decimal,
+    whole_hex,
 };
 use sf_rows::{DecimalRow, Found, ItemRow, Reader, decimals, is, items};
 use std::test::Fail;
@@ -145,7 +146,7 @@ fn pieces_are_taken(_rt: HostRuntime) -> Result<(), Fail> {
 }
 
 /// Texts whose first bytes may be a hexadecimal integer that is known at once.
-static HEXES: [DecimalRow; 14] = [
+static HEXES: [DecimalRow; 25] = [
     (None, b"1f,", Some((2, false, 31))),
     (None, b"-0X1F ", Some((5, true, 31))),
     (None, b"0,", Some((1, false, 0))),
@@ -160,6 +161,17 @@ static HEXES: [DecimalRow; 14] = [
     (None, b"10000000000000000,", None),
     (None, b"1f", None),
     (None, b"-,", None),
+    (None, b"1f,45678", Some((2, false, 31))),
+    (None, b"1234567G,", Some((7, false, 0x1234567))),
+    (None, b"1234567`,", Some((7, false, 0x1234567))),
+    (None, b"@1234567,", None),
+    (None, b"12abcdef,", Some((8, false, 0x12ABCDEF))),
+    (None, b"0xFFFFFFFF,", Some((10, false, 4294967295))),
+    (None, b"-DEADBEEF ", Some((9, true, 3735928559))),
+    (None, b"12345678", None),
+    (None, b"123456789,", Some((9, false, 0x123456789))),
+    (Some(4), b"12345678,", Some((4, false, 0x1234))),
+    (Some(8), b"123456789", Some((8, false, 0x12345678))),
 ];
 
 /// Texts whose first bytes may be an integer of `%i`, which is known at once where no zero begins it.
@@ -246,6 +258,35 @@ fn whole_item(reader: Reader, width: Option<u16>, text: &[u8]) -> Option<usize> 
 fn whole_bytes_end_within(_rt: HostRuntime) -> Result<(), Fail> {
     for (reader, width, text, wanted) in &WHOLES {
         is(&whole_item(*reader, *width, text), wanted, text)?;
+    }
+    Ok(())
+}
+
+/// A byte that ends an item, a width, a text, and how many bytes the item has that ends within it.
+static UNTILS: [(u8, Option<u16>, &[u8], Option<usize>); 7] = [
+    (b',', None, b"ab,c", Some(2)),
+    (b',', Some(1), b"ab,c", Some(1)),
+    (b',', Some(2), b"ab,c", Some(2)),
+    (b',', None, b",ab", None),
+    (b',', None, b"abc", None),
+    (b'\n', None, b"a b, c and\t more than that\n", Some(26)),
+    (0, Some(17), b"abcdefghijklmnopqr s", Some(17)),
+];
+
+/// The set of all bytes but one.
+fn all_but(stop: u8) -> ByteSet {
+    let mut set = ByteSet::empty();
+    set.insert(stop);
+    set.complement();
+    set
+}
+
+#[test]
+fn items_end_before_a_byte(_rt: HostRuntime) -> Result<(), Fail> {
+    for (stop, width, text, wanted) in &UNTILS {
+        let most = most_of(*width);
+        is(&until_item(*stop, most, text), wanted, text)?;
+        is(&members_item(&all_but(*stop), most, text), wanted, text)?;
     }
     Ok(())
 }

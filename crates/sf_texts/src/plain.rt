@@ -1,9 +1,9 @@
 //! Values whose text is not padded: numbers that are a minus and decimal digits alone, and bytes that are printed as
 //! they are.
-ghost use Rattle.std.specs.Prelude.{◌≡◌, ◌≤◌, ◌<◌, ◌^◌, ◌++◌, length, IfSome};
+ghost use Rattle.std.specs.Prelude.{◌≡◌, ◌≤◌, ◌<◌, ◌^◌, ◌++◌, is_some, length, IfSome};
 ghost use Rattle.std.specs.Fmt.{decimal};
 ghost use Rattle.sf_base.specs.Data.{datum_of};
-ghost use Rattle.sf_texts.specs.Plain.{is_decimal, is_plain, minus};
+ghost use Rattle.sf_texts.specs.Plain.{is_decimal, is_plain, is_plain_number, is_plain_text, minus};
 ghost use Rattle.sf_texts.specs.Text.{value_text};
 
 use crate::text::{Printable, printable_of};
@@ -38,6 +38,7 @@ pub fn plain_number(conv: &PrintConv, value: &Value<'_>) -> Option<(bool, u64)>
     ensures text { IfSome result (λ p. value_text conv.now (datum_of value.now) ≡ minus p.0 ++ decimal p.1) }
     ensures short { IfSome result (λ p. length (decimal p.1) ≤ 20) }
     ensures fits { IfSome result (λ p. p.1 < 2 ^ 64) }
+    ensures answers { is_some result ≡ is_plain_number conv.now (datum_of value.now) }
 {
     if !is_plain_conv(conv) {
         return None;
@@ -51,7 +52,8 @@ pub fn plain_number(conv: &PrintConv, value: &Value<'_>) -> Option<(bool, u64)>
 /// The bytes of a text that is printed as it is.
 #[inline]
 pub fn plain_bytes<'a>(conv: &PrintConv, value: &Value<'a>) -> Option<&'a [u8]>
-    ensures { IfSome result (λ bytes. value_text conv.now (datum_of value.now) ≡ bytes.now) }
+    ensures text { IfSome result (λ bytes. value_text conv.now (datum_of value.now) ≡ bytes.now) }
+    ensures answers { is_some result ≡ is_plain_text conv.now (datum_of value.now) }
 {
     if conv.width > 0 || conv.precision.is_some() {
         return None;

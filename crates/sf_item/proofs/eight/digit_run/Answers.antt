@@ -1,10 +1,8 @@
-use Rattle.sf_item.proofs.EightDigits.{all_digits, some_digits}
+use Rattle.std.proofs.lemmas.Simd.{length-chunk}
+use Rattle.std.specs.Char.{is_ascii_digit}
+use lib.Lanes.{chunk}
 use Rattle.sf_item.proofs.eight.digit_run.Goals as goal
 
-pub returns-then-others-eq0 : goal.returns-then-others-eq0
-returns-then-others-eq0 c = all_digits c.args.piece.now c.other_mask-others.result c.requires c.other_mask-others.ensures
-    c.if-others-eq0.true
-
-pub returns-else-others-eq0 : goal.returns-else-others-eq0
-returns-else-others-eq0 c = some_digits c.args.piece.now c.other_mask-others.result c.requires c.other_mask-others.ensures
-    c.if-others-eq0.false
+pub returns : goal.returns
+returns c = c.lanes_before.ensures is_ascii_digit (chunk 0 8 c.args.piece.now) (length-chunk 0 8 c.args.piece.now c.requires)
+    c.other_mask.ensures

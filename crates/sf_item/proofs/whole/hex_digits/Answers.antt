@@ -32,8 +32,8 @@ loop-i-preserved c =
 
 pub returns-clause-read : goal.returns-clause-read
 returns-clause-read c =
-    let within = c.first_hex_digits-number.ensures.within in
-    let few = c.first_hex_digits-number.ensures.few in
+    let within = c.requires.first in
+    let few = c.requires.eight in
     let least = c.min-most.ensures in
     let end : c.loop-i.i ≤ c.min-most.result = c.loop-i.auto.i-end (omega (arith, within, few, least)) in
     let all : c.loop-i.i ≡ c.min-most.result = omega (arith, c.loop-i-test.false, end) in

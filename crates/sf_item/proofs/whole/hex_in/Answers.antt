@@ -3,8 +3,16 @@ use Rattle.std.proofs.lemmas.List.{length-take}
 use Rattle.sf_format.specs.declared.directive.Base.TheVariants.{Hex}
 use Rattle.sf_item.proofs.Readings.{length_rest}
 use Rattle.sf_item.proofs.Wholes.{hex_opened, large_integer, no_integer, whole_integer}
+use Rattle.sf_item.proofs.Zeros.{rest_front}
 use Rattle.sf_item.proofs.whole.hex_in.Goals.{then-count-eq0-via-then-count-eq0, then-count-eq0-via-else-count-eq0+then-end-piece}
 use Rattle.sf_item.proofs.whole.hex_in.Goals as goal
+
+pub hex_number-requires : goal.hex_number-requires
+hex_number-requires c =
+    let front = c.args.front.now in
+    let start = c.hex_opening-start.result.0 in
+    rest_front front c.args.piece.now start c.requires
+    (hex_opened front start c.hex_opening-start.result.1 c.hex_opening-start.ensures).inside
 
 pub returns-in_default : goal.returns-in_default
 returns-in_default c width is =

@@ -12,7 +12,7 @@ returns-clause-digits c =
     let n : ℕ = c.further_digits-number.result.1 in
     let e = c.further_digits-number.ensures in
     let few = e.few in
-    front_digits digits piece n c.further_digits-number.result.0 c.requires.front e.most e.read
+    front_digits 10 digits piece n c.further_digits-number.result.0 c.requires.front e.most e.read
     (λ below. elim c.else-count-eq-SURE_DECIMAL.branch [
       | else-count-eq-SURE_DECIMAL-via-then-count-eq-SURE_DECIMAL+else-is_digit_at w ↦ w.is_digit_at.ensures w.if-is_digit_at.false below
       | else-count-eq-SURE_DECIMAL-via-else-count-eq-SURE_DECIMAL w ↦

@@ -24,7 +24,7 @@ returns-clause-run c line is =
     let long : length c.args.ended.now ≡ length line + 1 = ended_length line c.args.ended.now is in
     whole_report c.done_runs_stay.ensures ds
     (subst AreProper c.directives-directives.ensures.value c.directives-directives.ensures.proper)
-    (c.if-not-ends_unbounded.ensures refl) c.args.limit line (10 ∷ []) report
+    (c.if-not-ends_unbounded.ensures.0 refl) c.args.limit line (10 ∷ []) report
     (with_newline ds c.args.limit line c.args.ended.now report is (c.in_ok-outcome.ensures.run [] End))
     c.in_ok-outcome.ensures.done
     (omega (arith, long, c.if-left-gt1.false, c.if-left-eq0.false, c.in_ok-outcome.ensures.used))

@@ -12,4 +12,4 @@ returns-in-Some-clause-text g c =
 pub returns-in-Some-plain_bytes-clause-text : goal.returns-in-Some-plain_bytes-clause-text
 returns-in-Some-plain_bytes-clause-text g c =
     Puts-same _ _ c.args.stage.now c.put.new.stage _ (value_text c.args.conv.now (datum_of c.args.value.now)) c.put.result
-    (sym c.in-Some-plain_bytes.ensures) c.put.ensures.text
+    (sym c.in-Some-plain_bytes.ensures.text) c.put.ensures.text

@@ -27,7 +27,7 @@ returns-clause-run g c =
     let rest : List ℕ = drop (length text + 1) c.lay_down.new.block in
     whole_report c.done_runs_stay.ensures ds
     (subst AreProper c.directives-directives.ensures.value c.directives-directives.ensures.proper)
-    (c.if-not-ends_unbounded.ensures refl) c.args.limit text (10 ∷ rest) report
+    (c.if-not-ends_unbounded.ensures.0 refl) c.args.limit text (10 ∷ rest) report
     (subst (λ (x : List ℕ). RunWithin ds c.args.limit x End report) (laid_down text c.lay_down.new.block c.lay_down.ensures.front)
     (c.in_ok-outcome.ensures.run [] End))
     c.in_ok-outcome.ensures.done (omega arith)

@@ -5,22 +5,25 @@ use Rattle.sf_format.specs.declared.directive.Directive.TheVariants.{Conv}
 use Rattle.sf_format.specs.declared.directive.Shape.{Shape}
 use Rattle.sf_format.specs.declared.layout.Row.{Row}
 use Rattle.sf_format.specs.Layout.{row_of}
+use Rattle.sf_item.specs.Wholes.{ItemWithin}
 use Rattle.sf_report.specs.Machine.{shape_skips}
-use Rattle.sf_run.specs.Pieces.{EndsAtOnce, IsTextRow, IsTextShape}
-use Rattle.sf_run.proofs.Pieces.{ends_unskipped, item_if}
+use Rattle.sf_run.specs.Pieces.{EndsAtOnce, IsSetItem, IsTextRow, IsTextShape}
+use Rattle.sf_run.proofs.Pieces.{ends_unskipped}
 use Rattle.sf_run.proofs.directive.members_at_once.Goals as goal
 
-pub returns-in-Set : goal.returns-in-Set
-returns-in-Set c n =
+pub returns : goal.returns
+returns c d at is n =
     let piece = c.args.piece.now in
-    let k = c.in-Conv.conversion in
-    let row : c.args.row.now ≡ row_of (Conv k) = c.requires ∙ ap row_of c.in-Conv.is in
-    let is : IsTextRow c.args.row.now k = record {
-      shape = subst (λ (s : Shape). IsTextShape s) (sym c.in-Set.is) tt;
+    let own : IsSetItem d c.args.row.now.width piece c.in_ok-item.item = c.in_ok-item.ensures d at in
+    let k = own.conversion in
+    let row : c.args.row.now ≡ row_of (Conv k) = is ∙ ap row_of own.is in
+    let texts : IsTextRow c.args.row.now k = record {
+      shape = subst (λ (s : Shape). IsTextShape s) (sym own.shape) tt;
       slot = sym (ap (λ (r : Row). r.slot) row);
       width = ap (λ (r : Row). r.width) row;
     } in
-    let item = item_if k.shape _ k.width piece c.members_item.result c.in-Set.is (c.members_item.ensures k.width is.width) in
-    let own = c.bytes_by.ensures in
-    subst (λ (d : Directive). IfSome c.bytes_by.result (EndsAtOnce d n piece)) (sym c.in-Conv.is)
-    (ends_unskipped k n piece c.bytes_by.result (ap shape_skips c.in-Set.is) (own.answers k is item) (own.fits k is item))
+    let item : ItemWithin k.shape k.width piece c.in_ok-item.item =
+    subst (λ (s : Shape). ItemWithin s k.width piece c.in_ok-item.item) (sym own.shape) (own.item k.width texts.width) in
+    let by = c.bytes_by.ensures in
+    subst (λ (e : Directive). IfSome c.bytes_by.result (EndsAtOnce e n piece)) (sym own.is)
+    (ends_unskipped k n piece c.bytes_by.result (ap shape_skips own.shape) (by.answers k texts item) (by.fits k texts item))

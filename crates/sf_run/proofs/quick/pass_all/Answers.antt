@@ -24,6 +24,20 @@ use Rattle.sf_run.proofs.quick.pass_all.Goals.{in-Some-pass, in-None+in_ok-taken
 as_many : (rows : List Row) (ds all : List Directive) → rows ≡ map row_of all → ds ≡ all → length rows ≡ length ds
 as_many rows ds all is same = ap length is ∙ length-map all row_of ∙ ap length (sym same)
 
+-- the directive of the first row that is left is that many from the end of the format
+from_end : (rows : List Row) (ds all : List Directive) (left : ℕ) (d : Directive) → rows ≡ map row_of all → ds ≡ all
+    → slice_get ds (length rows - left) ≡ Some d → slice_get all (length all - left) ≡ Some d
+from_end rows ds all left d is same at =
+    let many : length rows ≡ length all = ap length is ∙ length-map all row_of in
+    subst (λ n. slice_get all (n - left) ≡ Some d) many (subst (λ (l : List Directive). slice_get l (length rows - left) ≡ Some d) same at)
+
+from_start : (rows : List Row) (ds all : List Directive) (left : ℕ) (d : Directive) → rows ≡ map row_of all → ds ≡ all
+    → slice_get all (length all - left) ≡ Some d → slice_get ds (length rows - left) ≡ Some d
+from_start rows ds all left d is same at =
+    let many : length rows ≡ length all = ap length is ∙ length-map all row_of in
+    subst (λ (l : List Directive). slice_get l (length rows - left) ≡ Some d) (sym same)
+    (subst (λ n. slice_get all (n - left) ≡ Some d) (sym many) at)
+
 -- as long as a row is left, so is its directive
 still_left : (rows : List Row) (ds all : List Directive) (left others : List Row) (row : Row) → rows ≡ map row_of all → ds ≡ all
     → length left ≤ length rows → left ≡ row ∷ others → length rows - length left < length ds
@@ -88,17 +102,17 @@ pub pass_later-requires-clause-within : goal.pass_later-requires-clause-within
 pass_later-requires-clause-within g c =
     let ds = c.directives-directives in
     let many = as_many c.rows-rows.result.now ds.result.now _ c.rows-rows.ensures ds.ensures.value in
+    let same = ap length ds.ensures.value in
     let short = c.loop-row.invariant.short in
-    omega (arith, many, short)
+    omega (arith, many, same, short)
 
 pub pass_later-requires-clause-free : goal.pass_later-requires-clause-free
 pass_later-requires-clause-free g c d at =
     let ds = c.directives-directives in
     let rows : List Row = c.rows-rows.result.now in
     let left : List Row = c.loop-row.left.now in
-    let many = as_many rows ds.result.now _ c.rows-rows.ensures ds.ensures.value in
     let here : slice_get ds.result.now (length rows - length left) ≡ Some d =
-    subst (λ n. slice_get ds.result.now (n - length left) ≡ Some d) (sym many) at in
+    from_start rows ds.result.now c.args.format.now (length left) d c.rows-rows.ensures ds.ensures.value at in
     subst (λ (k : Kept). MayBeGiven g.S.Store.slots (slot_of d) k.values) (sym (c.in-None.ensures.same refl))
     (free_at g.S.Store.slots ds.result.now (length rows - length left) d (g.S.Store.kept c.loop-row.store).values here
     (placed g.S.Store.slots ds.result.now _ ds.ensures.value c.requires.slots ds.ensures.slots) (apart_from _ ds.ensures.slots.distinct)
@@ -137,9 +151,8 @@ loop-row-preserved g c =
     let new : Kept = g.S.Store.kept c.match-pass.store in
     let n : ℕ = length front - length rest in
     let others : List Row = c.in-Some.others.now in
-    let many = as_many rows ds.result.now _ c.rows-rows.ensures ds.ensures.value in
-    let later : slice_get ds.result.now (length ds.result.now - length left) ≡ Some d =
-    subst (λ k. slice_get ds.result.now (k - length left) ≡ Some d) many at in
+    let later : slice_get c.args.format.now (length c.args.format.now - length left) ≡ Some d =
+    from_end rows ds.result.now c.args.format.now (length left) d c.rows-rows.ensures ds.ensures.value at in
     let short = c.loop-row.invariant.short in
     let one : length left ≡ length others + 1 = ap length c.in-Some.ensures.cases.0 ∙ omega arith in
     let next : i + 1 ≡ length rows - length others = omega (arith, short, one) in
@@ -193,9 +206,8 @@ returns-in_err-taken-in-None-clause-answers g c = λ done.
     c.loop-row.invariant.room own in
     let here : IsSure d (length front - length rest) rest (g.S.Store.kept c.pass.new.store).room =
     subst (λ (k : Kept). IsSure d (length front - length rest) rest k.room) (sym (c.in-None.ensures.same refl)) sure in
-    let many = as_many rows ds.result.now _ c.rows-rows.ensures ds.ensures.value in
-    let later : slice_get ds.result.now (length ds.result.now - length left) ≡ Some d =
-    subst (λ k. slice_get ds.result.now (k - length left) ≡ Some d) many at in
+    let later : slice_get c.args.format.now (length c.args.format.now - length left) ≡ Some d =
+    from_end rows ds.result.now c.args.format.now (length left) d c.rows-rows.ensures ds.ensures.value at in
     absurd (let h = c.in_err-taken-in-None.ensures.sure d later proper here in cc)
 
 pub returns-clause-run : goal.returns-clause-run

@@ -41,7 +41,10 @@ invariant_of-result c =
       optional = c.has_optional-optional.ensures ∙ ap has_optional c.deref-5.ensures.value;
       reserve = c.unwrap_or-reserve.ensures
           ∙ ap (λ w. unwrap_or w 0) (c.sum_of_widths-widths.ensures ∙ ap width_sum c.deref-2.ensures.value);
-      unbounded = λ h. subst EndsUnbounded c.deref-6.ensures.value (c.ends_unbounded-unbounded.ensures h);
+      unbounded = (
+        λ h. subst EndsUnbounded c.deref-6.ensures.value (c.ends_unbounded-unbounded.ensures.0 h),
+        λ ends. c.ends_unbounded-unbounded.ensures.1 (subst EndsUnbounded (sym c.deref-6.ensures.value) ends),
+      );
     }
 
 pub returns-clause-fault : goal.returns-clause-fault

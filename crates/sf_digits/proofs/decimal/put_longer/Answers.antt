@@ -1,6 +1,6 @@
 use Rattle.std.proofs.Common.{arith}
 use Rattle.sf_digits.proofs.FourDigits.{behind, decimal_eight, length_eight}
-use Rattle.sf_digits.proofs.decimal.put_long.Goals as goal
+use Rattle.sf_digits.proofs.decimal.put_longer.Goals as goal
 
 pub put_high-end-requires : goal.put_high-end-requires
 put_high-end-requires c = (
