@@ -162,7 +162,8 @@ loop-row-preserved g c =
     let n : ℕ = length front - length rest in
     let others : List Row = c.split_at-in-Some-2.result.1.now in
     let first : left ≡ c.in-Some.row.now ∷ others =
-    opens left c.in-Some.row.now c.in-Some.ensures.value ∙ ap (λ (l : List Row). c.in-Some.row.now ∷ l) (sym c.split_at-in-Some-2.ensures.back) in
+    opens left c.in-Some.row.now c.in-Some.ensures.value
+    ∙ ap (λ (l : List Row). c.in-Some.row.now ∷ l) (sym c.split_at-in-Some-2.ensures.back) in
     let later : slice_get c.args.format.now (length c.args.format.now - length left) ≡ Some d =
     from_end rows ds.result.now c.args.format.now (length left) d c.rows-rows.ensures ds.ensures.value at in
     let short = c.loop-row.invariant.short in
