@@ -10,7 +10,7 @@ use crate::form::OutputForm;
 use crate::heads::{push_names, push_object, push_tagged};
 use crate::line::push_record;
 use crate::output::write_whole;
-use crate::short_line::{LINE_BYTES, Record, write_line};
+use crate::short_line::{LINE_BYTES, PlainRecord, Record, write_line};
 use sf_print::Sink;
 use sf_report::Report;
 use sf_store::Store;
@@ -117,13 +117,23 @@ impl FormWriter {
         ensures short { length (record_text self.old destinations report.now) < 1024
             → IsErrOf result RecordFault.Memory → ⊥ }
     {
-        let record = Record {
-            form: self.form,
-            report,
-            destinations,
-        };
-        if to.take_in_place(&record).is_some() {
-            return Ok(());
+        if self.form == OutputForm::Plain {
+            let record = PlainRecord {
+                report,
+                destinations,
+            };
+            if to.take_in_place(&record).is_some() {
+                return Ok(());
+            }
+        } else {
+            let record = Record {
+                form: self.form,
+                report,
+                destinations,
+            };
+            if to.take_in_place(&record).is_some() {
+                return Ok(());
+            }
         }
         self.write_apart(to, report.copied(), destinations)
     }

@@ -2,7 +2,8 @@
 ghost use Rattle.std.specs.Prelude.{◌≡◌, ◌++◌, ◌+◌, ◌<◌, ◌≤◌, ◌∷◌, [], if◌then◌else◌, map, length, take, IfSome};
 ghost use Rattle.std.specs.Prelude.{IsSome, true};
 ghost use Rattle.std.specs.List.{join_with_byte, range_with_len};
-ghost use Rattle.sf_base.specs.Data.{Bytes};
+ghost use Rattle.sf_base.specs.Data.{Bytes, Real as RealOf};
+ghost use Rattle.sf_base.specs.declared.real.Real.TheVariants.{F32, F64};
 ghost use Rattle.sf_forms.specs.Lone.{is_lone_in};
 ghost use Rattle.sf_forms.specs.declared.form.OutputForm.TheVariants.{Plain};
 ghost use Rattle.sf_forms.specs.Forms.{closing, missing_text, opening, record_text, separator, slot_text, value_text};
@@ -14,7 +15,7 @@ use crate::json::write_string;
 use crate::quote::write_between;
 use crate::real::write_real;
 use crate::tables::write_tsv_text;
-use sf_base::Shown;
+use sf_base::{Real, Shown};
 use sf_print::{TextInPlace, write_number};
 use sf_report::Report;
 use sf_store::Store;
@@ -55,6 +56,53 @@ fn write_missing(form: OutputForm, buf: &mut [u8], at: usize) -> usize
     }
 }
 
+/// Writes a text that a slot was given, as `write_slot` does. This and the next two are calls of their own, so that
+/// numbers don't pay for them.
+#[inline(never)]
+fn write_given_text<const PLAIN: bool>(
+    form: OutputForm,
+    text: &[u8],
+    buf: &mut [u8],
+    at: usize,
+) -> usize
+    requires plain { PLAIN ≡ true → form ≡ Plain }
+    requires room { at + 22 ≤ length buf.old }
+    ensures within { result ≤ length buf.new }
+    ensures written { result < length buf.new → take result buf.new ≡ take at buf.old ++ value_text form (Bytes text.now) }
+    ensures answers { at + length (value_text form (Bytes text.now)) + 21 ≤ length buf.old → result < length buf.new }
+{
+    let end = if PLAIN {
+        write_between(text, buf, at)
+    } else {
+        write_text(form, text, buf, at)
+    };
+    end.unwrap_or(buf.len())
+}
+
+/// As `write_given_text`, of a float of binary32.
+#[inline(never)]
+fn write_given_f32(form: OutputForm, bits: u32, buf: &mut [u8], at: usize) -> usize
+    requires { at + 22 ≤ length buf.old }
+    ensures within { result ≤ length buf.new }
+    ensures written { result < length buf.new → take result buf.new
+        ≡ take at buf.old ++ value_text form (RealOf (F32 bits)) }
+    ensures answers { at + length (value_text form (RealOf (F32 bits))) + 21 ≤ length buf.old → result < length buf.new }
+{
+    write_real(form, Real::F32(bits), buf, at).unwrap_or(buf.len())
+}
+
+/// As `write_given_text`, of a float of binary64.
+#[inline(never)]
+fn write_given_f64(form: OutputForm, bits: u64, buf: &mut [u8], at: usize) -> usize
+    requires { at + 22 ≤ length buf.old }
+    ensures within { result ≤ length buf.new }
+    ensures written { result < length buf.new → take result buf.new
+        ≡ take at buf.old ++ value_text form (RealOf (F64 bits)) }
+    ensures answers { at + length (value_text form (RealOf (F64 bits))) + 21 ≤ length buf.old → result < length buf.new }
+{
+    write_real(form, Real::F64(bits), buf, at).unwrap_or(buf.len())
+}
+
 /// Writes what a slot was given from a place on, and answers where it ends, which is before the end of the buffer.
 /// Where there is no room for it, the answer is the length of the buffer: one test then shows both.
 #[inline(always)]
@@ -71,16 +119,13 @@ fn write_slot<const PLAIN: bool, S: Store>(
     ensures written { result < length buf.new → take result buf.new ≡ take at buf.old ++ slot_text form report.now slot }
     ensures answers { at + length (slot_text form report.now slot) + 21 ≤ length buf.old → result < length buf.new }
 {
-    let end = match report.shown(slot) {
-        Some(Shown::Number(number)) => {
-            return write_number(number.negative, number.magnitude, buf, at);
-        }
-        Some(Shown::Text(text)) if PLAIN => write_between(text, buf, at),
-        Some(Shown::Text(text)) => write_text(form, text, buf, at),
-        Some(Shown::Real(real)) => write_real(form, real, buf, at),
-        None => return write_missing(form, buf, at),
-    };
-    end.unwrap_or(buf.len())
+    match report.shown(slot) {
+        Some(Shown::Number(number)) => write_number(number.negative, number.magnitude, buf, at),
+        Some(Shown::Text(text)) => write_given_text::<PLAIN>(form, text, buf, at),
+        Some(Shown::Real(Real::F32(bits))) => write_given_f32(form, bits, buf, at),
+        Some(Shown::Real(Real::F64(bits))) => write_given_f64(form, bits, buf, at),
+        None => write_missing(form, buf, at),
+    }
 }
 
 /// Writes the values of a record from a place on, and answers where they end. None where there is no room. After the
@@ -104,11 +149,11 @@ fn write_values<const PLAIN: bool, S: Store>(
     let separator = form.separator();
     let mut end = at;
     let mut next = at;
-    for before in 0..destinations {
+    for before in 0..destinations as usize {
         if buf.len() - next < NUMBER_BYTES {
             return None;
         }
-        end = write_slot::<PLAIN, S>(form, report, before + 1, buf, next);
+        end = write_slot::<PLAIN, S>(form, report, before as u8 + 1, buf, next);
         if end == buf.len() {
             return None;
         }
@@ -117,16 +162,21 @@ fn write_values<const PLAIN: bool, S: Store>(
     Some(end)
 }
 
-/// Writes what stands before the values of a record, and answers where it ends.
+/// Writes what stands before the values of a record, and answers where it ends. None where there is no room.
 #[inline(always)]
-fn write_opening(form: OutputForm, buf: &mut [u8]) -> usize
-    requires { 1 ≤ length buf.old }
-    ensures within { result ≤ length buf.new }
-    ensures written { take result buf.new ≡ opening form }
+fn write_opening<const PLAIN: bool>(form: OutputForm, buf: &mut [u8]) -> Option<usize>
+    requires plain { PLAIN ≡ true → form ≡ Plain }
+    ensures within { IfSome result (λ end. end ≤ length buf.new) }
+    ensures written { IfSome result (λ end. take end buf.new ≡ opening form) }
+    ensures answers { 1 ≤ length buf.old → IsSome result }
 {
+    if PLAIN {
+        return Some(0);
+    }
     match form {
-        OutputForm::Plain | OutputForm::Tsv | OutputForm::Csv => 0,
-        OutputForm::Json => write_byte(b'[', buf, 0),
+        OutputForm::Plain | OutputForm::Tsv | OutputForm::Csv => Some(0),
+        OutputForm::Json if buf.is_empty() => None,
+        OutputForm::Json => Some(write_byte(b'[', buf, 0)),
     }
 }
 
@@ -176,10 +226,7 @@ fn write_record<const PLAIN: bool, S: Store>(
     ensures written { IfSome result (λ end. take end buf.new ≡ record_text form destinations report.now) }
     ensures answers { length (record_text form destinations report.now) + 21 ≤ length buf.old → IsSome result }
 {
-    if buf.is_empty() {
-        return None;
-    }
-    let start = write_opening(form, buf);
+    let start = write_opening::<PLAIN>(form, buf)?;
     let values_end = write_values::<PLAIN, S>(form, report, destinations, buf, start)?;
     if buf.len() - values_end < 4 {
         return None;
@@ -247,5 +294,23 @@ impl<S: Store> TextInPlace for Record<'_, '_, S> {
     #[inline(always)]
     fn write_in(&self, room: &mut [u8]) -> Option<usize> {
         write_line(self.form, self.report, self.destinations, room)
+    }
+}
+
+/// The plain record of a format that has so many destinations, by the report of a run.
+#[derive(Drop)]
+pub(crate) struct PlainRecord<'a, 'r, S: Store> {
+    pub(crate) report: &'a Report<'r, S>,
+    pub(crate) destinations: u8,
+}
+
+impl<S: Store> TextInPlace for PlainRecord<'_, '_, S> {
+    ghost text = { λ r. record_text Plain r.destinations r.report.now };
+
+    ghost Fits = { λ r. Unit {0} };
+
+    #[inline(always)]
+    fn write_in(&self, room: &mut [u8]) -> Option<usize> {
+        write_record::<true, S>(OutputForm::Plain, self.report, self.destinations, room)
     }
 }

@@ -1,6 +1,7 @@
 //! What one directive makes of a piece of the input, and how it ends (C11 7.21.6.2p4 to p10).
 ghost use Rattle.std.specs.Prelude.{◌≡◌, ◌≢◌, ◌+◌, ◌<◌, ◌≤◌, ◌&&◌, ◌^◌, true, false, ℕ, ℤ, List, [], ◌++◌, length};
-ghost use Rattle.std.specs.Prelude.{◌-◌, slice_get, take, drop, get_or, if◌then◌else◌, not, Option, Some, None, IfSome, IsNone};
+ghost use Rattle.std.specs.Prelude.{◌-◌, slice_get, take, drop, get_or, if◌then◌else◌, not};
+ghost use Rattle.std.specs.Prelude.{Option, Some, None, IfSome, IsNone};
 ghost use Rattle.sf_base.specs.Bytes.{is_white};
 ghost use Rattle.std.specs.Option.{option_map};
 ghost use Rattle.sf_base.specs.Data.{Number as NumberOf, Real as RealOf, datum_of_number, value_of};
@@ -25,8 +26,8 @@ ghost use Rattle.sf_run.specs.Texts.{text_slot, opened_for, slot_of, slot_of_tex
 ghost use Rattle.sf_run.specs.Holding.{FallsBy};
 ghost use Rattle.sf_run.specs.Phases.{ShowsItem, Shows, CanAll, IsNumberGiven, end_of, is_failing, is_memory_failure};
 ghost use Rattle.sf_run.specs.Phases.{is_missing, passed_number, slot_closed, slot_given, slot_in};
-ghost use Rattle.sf_run.specs.Pieces.{Answers, EndsAt, EndsAtOnce, IsEnd, IsEndIn, IsEndOf, IsNumberRow, IsSetItem, IsTextRow};
-ghost use Rattle.sf_run.specs.Pieces.{StaysAt, Suits, run_of};
+ghost use Rattle.sf_run.specs.Pieces.{Answers, EndsAt, EndsAtOnce, IsEnd, IsEndIn, IsEndOf, IsNumberRow};
+ghost use Rattle.sf_run.specs.Pieces.{IsSetItem, IsTextRow, StaysAt, Suits, run_of};
 ghost use Rattle.sf_run.specs.Quick.{IsSure};
 ghost use Rattle.sf_run.specs.Stopping.{is_memory_status};
 

@@ -260,7 +260,7 @@ fn pass_all<S: Store>(store: &mut S, format: &ScanFormat, limit: u32, piece: &[u
     let rows = format.rows();
     let mut rest = front;
     let mut left = rows;
-    while let Some((row, others)) = left.split_first() {
+    while let Some(row) = left.first() {
         let at = rows.len() - left.len();
         let directive = &directives[at];
         let used = (front.len() - rest.len()) as u32;
@@ -270,6 +270,8 @@ fn pass_all<S: Store>(store: &mut S, format: &ScanFormat, limit: u32, piece: &[u
         };
         let (_, after) = rest.split_at(taken);
         rest = after;
+        // cut last, so that the loop's test is that of the count just taken down
+        let (_, others) = left.split_at(1);
         left = others;
     }
     Some(front.len() - rest.len())

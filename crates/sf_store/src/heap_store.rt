@@ -12,8 +12,9 @@ use std::marker::Model;
 /// A store on the heap.
 #[derive(Debug, Drop)]
 pub struct HeapStore {
-    entries: Vec<Entry>,
+    // (first, so that a call which gets the bytes gets the store's own address)
     bytes: Buffer,
+    entries: Vec<Entry>,
     /// How many of the bytes are closed texts.
     closed: usize,
     /// The slot of the opened text.

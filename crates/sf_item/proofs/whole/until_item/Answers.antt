@@ -20,7 +20,8 @@ front_fits x front is fits k = elim (cases_lt k (length front)) [
 
 -- the members that they begin with, of a set that lacks a byte alone
 count_until : (members : List Bool) (stop : ℕ) (x front : List ℕ) → lone_lack members ≡ Some stop → front ≡ take (length front) x
-    → ((k : ℕ) → Fits w8 (get_or x k 0)) → (count : ℕ) → count ≡ prefix_len (is_other stop) front → count ≡ prefix_len (has_byte members) front
+    → ((k : ℕ) → Fits w8 (get_or x k 0)) → (count : ℕ) → count ≡ prefix_len (is_other stop) front
+    → count ≡ prefix_len (has_byte members) front
 count_until members stop x front lacks is fits count counted =
     counted ∙ sym (same_front (has_byte members) (is_other stop) (lone_lack_lacks members stop lacks) front (front_fits x front is fits))
 

@@ -1,6 +1,7 @@
-use Rattle.std.proofs.Common.{◌≡◌, true, ◌<◌, ◌≤◌, ◌+◌, ◌-◌, ◌∷◌, ◌++◌, ◌∙◌, ℕ, List, length, map, drop, refl, sym, ap, Some, arith, subst}
+use Rattle.std.proofs.Common.{◌≡◌, true, ◌<◌, ◌≤◌, ◌+◌, ◌-◌, [], ◌∷◌, ◌++◌, ◌∙◌, ℕ, List, length, map, drop}
+use Rattle.std.proofs.Common.{refl, sym, ap, None, Some, arith, subst}
 use Rattle.std.proofs.lemmas.List.{drop-drop, drop-map, length-map}
-use Rattle.std.proofs.lemmas.Option.{slice_get_read}
+use Rattle.std.proofs.lemmas.Option.{none-some, slice_get_read}
 use Rattle.std.specs.Prelude.{slice_get}
 use Rattle.sf_store.specs.Kept.{Kept}
 use Rattle.sf_format.specs.declared.directive.Directive.{Directive}
@@ -23,6 +24,16 @@ use Rattle.sf_run.proofs.quick.pass_all.Goals.{in-Some-pass, in-None+in_ok-taken
 -- a format has as many rows as directives
 as_many : (rows : List Row) (ds all : List Directive) → rows ≡ map row_of all → ds ≡ all → length rows ≡ length ds
 as_many rows ds all is same = ap length is ∙ length-map all row_of ∙ ap length (sym same)
+
+-- a row that stands first opens the list
+opens : (left : List Row) (row : Row) → Some row ≡ slice_get left 0 → left ≡ row ∷ drop 1 left
+opens [] row is = absurd (none-some row (sym is))
+opens (r ∷ rs) row is = cc
+
+-- and where none does, the list has none
+nothing_left : (left : List Row) → None ≡ slice_get left 0 → length left ≡ 0
+nothing_left [] is = refl
+nothing_left (r ∷ rs) is = absurd (none-some r is)
 
 -- the directive of the first row that is left is that many from the end of the format
 from_end : (rows : List Row) (ds all : List Directive) (left : ℕ) (d : Directive) → rows ≡ map row_of all → ds ≡ all
@@ -77,8 +88,8 @@ pass-requires-clause-free g c =
     let rows : List Row = c.rows-rows.result.now in
     let left : List Row = c.loop-row.left.now in
     let i : ℕ = length rows - length left in
-    let within : i < length ds.result.now = still_left rows ds.result.now _ left c.in-Some.others.now c.in-Some.row.now c.rows-rows.ensures
-    ds.ensures.value c.loop-row.invariant.short c.in-Some.ensures.cases.0 in
+    let within : i < length ds.result.now = still_left rows ds.result.now _ left (drop 1 left) c.in-Some.row.now c.rows-rows.ensures
+    ds.ensures.value c.loop-row.invariant.short (opens left c.in-Some.row.now c.in-Some.ensures.value) in
     let at : slice_get ds.result.now i ≡ Some c.index-directives-at.result =
     slice_get_read ds.result.now (length ds.result.now) i c.index-directives-at.result refl within c.index-directives-at.is in
     free_at g.S.Store.slots ds.result.now i c.index-directives-at.result (g.S.Store.kept c.loop-row.store).values at
@@ -91,12 +102,12 @@ pass-requires-clause-row g c =
     let rows : List Row = c.rows-rows.result.now in
     let left : List Row = c.loop-row.left.now in
     let i : ℕ = length rows - length left in
-    let within : i < length ds.result.now = still_left rows ds.result.now _ left c.in-Some.others.now c.in-Some.row.now c.rows-rows.ensures
-    ds.ensures.value c.loop-row.invariant.short c.in-Some.ensures.cases.0 in
+    let within : i < length ds.result.now = still_left rows ds.result.now _ left (drop 1 left) c.in-Some.row.now c.rows-rows.ensures
+    ds.ensures.value c.loop-row.invariant.short (opens left c.in-Some.row.now c.in-Some.ensures.value) in
     let at : slice_get ds.result.now i ≡ Some c.index-directives-at.result =
     slice_get_read ds.result.now (length ds.result.now) i c.index-directives-at.result refl within c.index-directives-at.is in
-    first_left rows ds.result.now _ left c.in-Some.others.now c.in-Some.row.now i c.index-directives-at.result c.rows-rows.ensures
-    ds.ensures.value c.loop-row.invariant.ahead c.in-Some.ensures.cases.0 at
+    first_left rows ds.result.now _ left (drop 1 left) c.in-Some.row.now i c.index-directives-at.result c.rows-rows.ensures
+    ds.ensures.value c.loop-row.invariant.ahead (opens left c.in-Some.row.now c.in-Some.ensures.value) at
 
 pub pass_later-requires-clause-within : goal.pass_later-requires-clause-within
 pass_later-requires-clause-within g c =
@@ -139,8 +150,8 @@ loop-row-preserved g c =
     let rows : List Row = c.rows-rows.result.now in
     let left : List Row = c.loop-row.left.now in
     let i : ℕ = length rows - length left in
-    let within : i < length ds.result.now = still_left rows ds.result.now _ left c.in-Some.others.now c.in-Some.row.now c.rows-rows.ensures
-    ds.ensures.value c.loop-row.invariant.short c.in-Some.ensures.cases.0 in
+    let within : i < length ds.result.now = still_left rows ds.result.now _ left (drop 1 left) c.in-Some.row.now c.rows-rows.ensures
+    ds.ensures.value c.loop-row.invariant.short (opens left c.in-Some.row.now c.in-Some.ensures.value) in
     let d : Directive = c.index-directives-at.result in
     let at : slice_get ds.result.now i ≡ Some d = slice_get_read ds.result.now
     (length ds.result.now) i d refl within c.index-directives-at.is in
@@ -150,11 +161,14 @@ loop-row-preserved g c =
     let old : Kept = g.S.Store.kept c.loop-row.store in
     let new : Kept = g.S.Store.kept c.match-pass.store in
     let n : ℕ = length front - length rest in
-    let others : List Row = c.in-Some.others.now in
+    let others : List Row = c.split_at-in-Some-2.result.1.now in
+    let first : left ≡ c.in-Some.row.now ∷ others =
+    opens left c.in-Some.row.now c.in-Some.ensures.value
+    ∙ ap (λ (l : List Row). c.in-Some.row.now ∷ l) (sym c.split_at-in-Some-2.ensures.back) in
     let later : slice_get c.args.format.now (length c.args.format.now - length left) ≡ Some d =
     from_end rows ds.result.now c.args.format.now (length left) d c.rows-rows.ensures ds.ensures.value at in
     let short = c.loop-row.invariant.short in
-    let one : length left ≡ length others + 1 = ap length c.in-Some.ensures.cases.0 ∙ omega arith in
+    let one : length left ≡ length others + 1 = ap length first ∙ omega arith in
     let next : i + 1 ≡ length rows - length others = omega (arith, short, one) in
     let passes : Passes d (length front - length rest) rest c.match-pass.taken old new =
     elim c.match-pass.branch [
@@ -175,7 +189,7 @@ loop-row-preserved g c =
     ] in
     record {
       short = omega (arith, short, one);
-      ahead = left_next rows left others c.in-Some.row.now short c.loop-row.invariant.ahead c.in-Some.ensures.cases.0;
+      ahead = left_next rows left others c.in-Some.row.now short c.loop-row.invariant.ahead first;
       counted = subst (λ k. Counted ds.result.now front c.split_at-in-Some.result.1.now k new) next
           (counting_on ds.result.now front rest c.split_at-in-Some.result.1.now i d (length front - length rest) old new
           c.match-pass.taken at c.loop-row.invariant.counted refl passes c.split_at-in-Some.ensures.back);
@@ -188,8 +202,8 @@ returns-in_err-taken-in-None-clause-answers g c = λ done.
     let rows : List Row = c.rows-rows.result.now in
     let left : List Row = c.loop-row.left.now in
     let i : ℕ = length rows - length left in
-    let within : i < length ds.result.now = still_left rows ds.result.now _ left c.in-Some.others.now c.in-Some.row.now c.rows-rows.ensures
-    ds.ensures.value c.loop-row.invariant.short c.in-Some.ensures.cases.0 in
+    let within : i < length ds.result.now = still_left rows ds.result.now _ left (drop 1 left) c.in-Some.row.now c.rows-rows.ensures
+    ds.ensures.value c.loop-row.invariant.short (opens left c.in-Some.row.now c.in-Some.ensures.value) in
     let d : Directive = c.index-directives-at.result in
     let at : slice_get ds.result.now i ≡ Some d = slice_get_read ds.result.now
     (length ds.result.now) i d refl within c.index-directives-at.is in
@@ -219,7 +233,7 @@ returns-clause-run g c = λ z ending.
     let rest : List ℕ = c.loop-row.rest.now in
     let kept : Kept = g.S.Store.kept c.loop-row.store in
     let many = as_many rows ds.result.now _ c.rows-rows.ensures ds.ensures.value in
-    let none : length left ≡ 0 = c.in_default.ensures.cases in
+    let none : length left ≡ 0 = nothing_left left c.in_default.ensures.value in
     subst (λ (l : List Directive). RunWithin l c.args.limit (c.args.piece.now ++ z) ending
     (done_by l (length front - length rest) kept.values))
     ds.ensures.value
