@@ -79,21 +79,38 @@ def generics(head):
     return text, [re.findall(r"(?<!')\b[A-Za-z]\w*", it) for it in words]
 
 
+def parameters(head):
+    """The names of the parameters of a block, by what stands after its first word."""
+    text, depth = "", 0
+    for at, letter in enumerate(head):
+        depth += letter == "<"
+        text += letter if depth == 1 else ""
+        depth -= letter == ">" and head[at - 1] != "-"
+        if not depth:
+            break
+    return re.findall(r"[<,]\s*(?:const\s+)?([A-Z]\w*)", text)
+
+
 BLOCK = re.compile(r"^[ \t]*(?:pub\s+)?(?:unsafe\s+)?(impl|trait)\b([^{;]*)\{", re.M)
 PLAIN = re.compile(r"\s*(?:\w+::)*([A-Z]\w*)\s*")
-# The types whose names are no words with a capital: a check calls `u8` U8, and a tuple of three Tuple3.
+# Types whose names are no words with a capital, and what a check calls them: `u8` is U8, a tuple of three Tuple3.
 NUMBER = re.compile(r"\s*([iuf](?:8|16|32|64|128|size))\s*")
 TUPLE = re.compile(r"\s*\((?:\s*[A-Z]\w*\s*,)+(?:\s*[A-Z]\w*\s*)?\)\s*")
+OTHERS = {r"\s*[A-Z]\w*\s*": "Any", r"\s*&('\w+ )?mut [A-Z]\w*\s*": "RefMut", r"\s*&('\w+ )?\[u8\]\s*": "RefSliceU8"}
 
 
 def name_of(text, words, own):
-    """What a check calls a type or a trait, by its text without what stands in angle brackets, and the words that do. None: it has a type
-    at given arguments, but for `Vec<u8>` and the like, which is VecU8; or it is not known."""
+    """What a check calls a type or a trait, by its text without what stands in angle brackets, and the words that do; `own` has the
+    parameters of its `impl`. None: it has a type at given arguments, but for `Vec<u8>` and the like, which is VecU8; or it is not known."""
     given = [it for it in words if it not in own]
-    if TUPLE.fullmatch(text):
-        return f"Tuple{len(re.findall(r'[A-Z]', text))}" if not {*re.findall(r"\w+", text)} - {*own} else None
     plain = NUMBER.fullmatch(text) or PLAIN.fullmatch(text)
-    if not plain or not all(map(NUMBER.fullmatch, given)):
+    if not plain or plain[1] in own:
+        if {*re.findall(r"(?<!')\b[A-Za-z]\w*", text)} - {*own, "mut", "u8"}:
+            return None
+        if TUPLE.fullmatch(text):
+            return f"Tuple{len(re.findall('[A-Z]', text))}"
+        return next((name for pattern, name in OTHERS.items() if re.fullmatch(pattern, text)), None)
+    if not all(map(NUMBER.fullmatch, given)):
         return None
     return "".join(it.capitalize() if NUMBER.fullmatch(it) else it for it in (plain[1], *given))
 
@@ -109,9 +126,10 @@ def block_at(text, at):
                 names = PLAIN.fullmatch(generics(head)[0].split(":")[0])
                 return names and ("", names[1])
             parts = [generics(it) for it in re.split(r"\bfor\b", head)[::-1]]
-            own = parts[-1][1].pop(0) if head.startswith("<") else []
+            own = parameters(head)
+            parts[-1][1][: bool(own)] = []
             names = [name_of(it, [word for some in words for word in some], own) for it, words in parts]
-            return (*names, "")[:2] if all(names) and names[0] not in own else None
+            return (*names, "")[:2] if all(names) else None
     return "", ""
 
 
