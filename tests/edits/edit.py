@@ -101,7 +101,7 @@ OTHERS = {r"\s*[A-Z]\w*\s*": "Any", r"\s*&('\w+ )?mut [A-Z]\w*\s*": "RefMut", r"
 
 def name_of(text, words, own):
     """What a check calls a type or a trait, by its text without what stands in angle brackets, and the words that do; `own` has the
-    parameters of its `impl`. None: it has a type at given arguments, but for `Vec<u8>` and the like, which is VecU8; or it is not known."""
+    parameters of its `impl`. `Vec<u8>` is VecU8. None: that is not known."""
     given = [it for it in words if it not in own]
     plain = NUMBER.fullmatch(text) or PLAIN.fullmatch(text)
     if not plain or plain[1] in own:
@@ -110,7 +110,7 @@ def name_of(text, words, own):
         if TUPLE.fullmatch(text):
             return f"Tuple{len(re.findall('[A-Z]', text))}"
         return next((name for pattern, name in OTHERS.items() if re.fullmatch(pattern, text)), None)
-    if not all(map(NUMBER.fullmatch, given)):
+    if len(given) > 1 or not all(NUMBER.fullmatch(it) or PLAIN.fullmatch(it) for it in given):
         return None
     return "".join(it.capitalize() if NUMBER.fullmatch(it) else it for it in (plain[1], *given))
 
@@ -129,7 +129,8 @@ def block_at(text, at):
             own = parameters(head)
             parts[-1][1][: bool(own)] = []
             names = [name_of(it, [word for some in words for word in some], own) for it, words in parts]
-            return (*names, "")[:2] if all(names) else None
+            known = all(names) and (len(parts) == 2 or not {word for some in parts[0][1] for word in some} - {*own})
+            return (*names, "")[:2] if known else None
     return "", ""
 
 
