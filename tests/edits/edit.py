@@ -110,7 +110,7 @@ def name_of(text, words, own):
         if TUPLE.fullmatch(text):
             return f"Tuple{len(re.findall('[A-Z]', text))}"
         return next((name for pattern, name in OTHERS.items() if re.fullmatch(pattern, text)), None)
-    if len(given) > 1 or not all(NUMBER.fullmatch(it) or PLAIN.fullmatch(it) for it in given):
+    if not all(NUMBER.fullmatch(it) or PLAIN.fullmatch(it) for it in given):
         return None
     return "".join(it.capitalize() if NUMBER.fullmatch(it) else it for it in (plain[1], *given))
 
@@ -232,14 +232,14 @@ class Edit:
         file, name = self.place
         text, at = self.texts[file][0], self.spans[0][1]
         block = block_at(text, at)
-        module = module_of(file) if block is None or not block[0] else self.home(block[0], file)
+        module = self.home(block[0]) if block and block[0] and not block[1] else module_of(file)
         self.is_function = block is not None and module is not None
         path = [*module, *filter(None, ["".join(block)]), name] if self.is_function else module_of(file)
         return "::".join([self.crate, *path]) if path else None
 
-    def home(self, name, file):
-        """The module of a type of the crate, that of the file where it has none of that name, or None where it has several."""
-        found = types_of(self.folder).get(name, [module_of(file)])
+    def home(self, name):
+        """The module of a type of the crate, or None where it has none of that name, or several."""
+        found = types_of(self.folder).get(name, [])
         return found[0] if len(found) == 1 else None
 
     def names(self):
