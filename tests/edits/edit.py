@@ -1,7 +1,7 @@
 r"""An edit: a wrong body that the prover must refuse. A file tests/edits/CRATE/MODULE.FUNCTION.WHAT.edit has lines of these kinds:
 
     file: src/item.rt            the file that is changed
-    in: step                     the next texts are looked for in the body of this function alone
+    in: step                     the next texts are looked for in the body of this function alone (of an `impl`: `in: U8Field::kind`)
     old: self.left               a text that stands there exactly once
     new: None                    what stands in its place; further pairs apply to what the earlier ones made
     by: laws::says               of a definition: the function whose proof must be refused
@@ -79,23 +79,58 @@ def generics(head):
     return text, [re.findall(r"(?<!')\b[A-Za-z]\w*", it) for it in words]
 
 
+def parameters(head):
+    """The names of the parameters of a block, by what stands after its first word."""
+    text, depth = "", 0
+    for at, letter in enumerate(head):
+        depth += letter == "<"
+        text += letter if depth == 1 else ""
+        depth -= letter == ">" and head[at - 1] != "-"
+        if not depth:
+            break
+    return re.findall(r"[<,]\s*(?:const\s+)?([A-Z]\w*)", text)
+
+
 BLOCK = re.compile(r"^[ \t]*(?:pub\s+)?(?:unsafe\s+)?(impl|trait)\b([^{;]*)\{", re.M)
 PLAIN = re.compile(r"\s*(?:\w+::)*([A-Z]\w*)\s*")
+# Types whose names are no words with a capital, and what a check calls them: `u8` is U8, a tuple of three Tuple3.
+NUMBER = re.compile(r"\s*([iuf](?:8|16|32|64|128|size))\s*")
+TUPLE = re.compile(r"\s*\((?:\s*[A-Z]\w*\s*,)+(?:\s*[A-Z]\w*\s*)?\)\s*")
+OTHERS = {r"\s*[A-Z]\w*\s*": "Any", r"\s*&('\w+ )?mut [A-Z]\w*\s*": "RefMut", r"\s*&('\w+ )?\[u8\]\s*": "RefSliceU8"}
+
+
+def name_of(text, words, own):
+    """What a check calls a type or a trait, by its text without what stands in angle brackets, and the words that do; `own` has the
+    parameters of its `impl`. `Vec<u8>` is VecU8. None: that is not known."""
+    given = [it for it in words if it not in own]
+    plain = NUMBER.fullmatch(text) or PLAIN.fullmatch(text)
+    if not plain or plain[1] in own:
+        if {*re.findall(r"(?<!')\b[A-Za-z]\w*", text)} - {*own, "mut", "u8"}:
+            return None
+        if TUPLE.fullmatch(text):
+            return f"Tuple{len(re.findall('[A-Z]', text))}"
+        return next((name for pattern, name in OTHERS.items() if re.fullmatch(pattern, text)), None)
+    if not all(NUMBER.fullmatch(it) or PLAIN.fullmatch(it) for it in given):
+        return None
+    return "".join(it.capitalize() if NUMBER.fullmatch(it) else it for it in (plain[1], *given))
 
 
 def block_at(text, at):
     """The type and the trait of the `impl` in which a place of a source stands. Of a trait the first is empty, as the second is of an
-    `impl` of a type alone, and both are of a place in no block. None: what stands there is no plain name, or a type at given arguments."""
+    `impl` of a type alone, and both are of a place in no block. None: what a check calls them is not known."""
     text = without_text(text)
     for block in BLOCK.finditer(text):
         if block.end() <= at < closing(text, block.end() - 1):
-            head, words = generics(re.split(r"\bwhere\b", block[2])[0])
+            head = re.split(r"\bwhere\b", block[2])[0]
             if block[1] == "trait":
-                names = PLAIN.fullmatch(head.split(":")[0])
+                names = PLAIN.fullmatch(generics(head)[0].split(":")[0])
                 return names and ("", names[1])
-            own = words.pop(0) if block[2].startswith("<") else []
-            names = [it and it[1] for it in map(PLAIN.fullmatch, re.split(r"\bfor\b", head)[::-1])]
-            return (*names, "")[:2] if all(names) and not {it for some in words for it in some} - {*own} else None
+            parts = [generics(it) for it in re.split(r"\bfor\b", head)[::-1]]
+            own = parameters(head)
+            parts[-1][1][: bool(own)] = []
+            names = [name_of(it, [word for some in words for word in some], own) for it, words in parts]
+            known = all(names) and (len(parts) == 2 or not {word for some in parts[0][1] for word in some} - {*own})
+            return (*names, "")[:2] if known else None
     return "", ""
 
 
@@ -197,7 +232,7 @@ class Edit:
         file, name = self.place
         text, at = self.texts[file][0], self.spans[0][1]
         block = block_at(text, at)
-        module = module_of(file) if block is None or not block[0] else self.home(block[0])
+        module = self.home(block[0]) if block and block[0] and not block[1] else module_of(file)
         self.is_function = block is not None and module is not None
         path = [*module, *filter(None, ["".join(block)]), name] if self.is_function else module_of(file)
         return "::".join([self.crate, *path]) if path else None
@@ -208,17 +243,28 @@ class Edit:
         return found[0] if len(found) == 1 else None
 
     def names(self):
-        """What a check may call the function, and what stands inside it; of one whose name is not known, for any type of its module. A
-        round has one edit of them."""
+        """What a check may call the function, and what stands inside it; of one whose name is not known, for any type of its module."""
         if not self.place or self.is_function:
             return re.compile(rf"{re.escape(self.asks)}(::.*)?")
         file, name = self.place
         return re.compile("::".join([self.crate, *module_of(file)]) + rf"(::[^:]+)?::{name}(::.*)?")
 
+    def goes_with(self, other):
+        """Whether a round can have both: they change different functions, and what a check says of the one can't be taken for the other."""
+        return self.place != other.place or self.is_function and other.is_function and self.asks != other.asks
+
+
+def is_named(text, name, opens, wanted):
+    """Whether the function with this body is the one that is wanted: by its name alone, or with the type and the trait of its `impl`."""
+    *block, last = wanted.split("::")
+    return name == last and (not block or "".join(block_at(text, opens) or "") == block[0])
+
 
 def replaced(text, file, function, old, new):
     """The text with the new in place of the old, which stands there once: in the file, or in the body of the function."""
-    found = [(0, len(text))] if function is None else [(opens, closes) for name, opens, closes in bodies(text) if name == function]
+    found = [(0, len(text))]
+    if function is not None:
+        found = [(opens, closes) for name, opens, closes in bodies(text) if is_named(text, name, opens, function)]
     count = sum(text.count(old, opens, closes) for opens, closes in found)
     if count != 1:
         where = file if function is None else f"the body of {function} in {file}"

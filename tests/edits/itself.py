@@ -104,7 +104,7 @@ pub mod hidden {
 """
 
 # Each edit, and how what is said of it must begin. `same` is harmless, in a caller of what `twice` makes wrong. Of the three functions
-# `width` one is of a trait for a type, one can be named by its module alone, and the last has another name than the runner finds.
+# `width` one is of a trait for a type, one of that trait for a number, and the last has another name than the runner finds.
 EDITS = {
     "next.twice": ("in: next\nold: n + 1\nnew: n * 1", "low::next: "),
     "after_next.same": ("old: let following = next(n);\nnew: let following: u8 = next(n);", "NOT REFUSED"),
@@ -117,7 +117,7 @@ EDITS = {
     "third.stays": ("in: third\nold: next(following)\nnew: following", "low::third: "),
     "steps.size.none_of_a_step": ("in: size\nold: self.width\nnew: 0", "low::steps::Step::size: "),
     "steps.width.none_of_a_wide_step": ("in: width\nold: Step::size(self)\nnew: 0", "low::steps::StepWide::width: "),
-    "steps.width.none_of_a_number": ("in: width\nold: *self\nnew: 0", "low::steps::U8Wide::width: "),
+    "steps.width.none_of_a_number": ("in: U8Wide::width\nold: *self\nnew: 0", "low::steps::U8Wide::width: "),
     "steps.width.none_of_a_hidden_step": ("in: width\nold: 1 + 2\nnew: 1 + 1", "low::steps::hidden::width: "),
     "steps.widest.eight": ("old: u8 = 9;\nnew: u8 = 8;\nby: steps::widest", "alone: low::steps::widest: "),
     "steps.widest.judged_by_another": ("old: u8 = 9;\nnew: u8 = 8;\nby: steps::Step::size", "NOT REFUSED by"),

@@ -58,6 +58,15 @@ def has_ended(said):
     return any(re.match(r"(?:only=\d+ )?holes=", it) for it in said.lines[-6:])
 
 
+def together(edits):
+    """Those that one round can have, the first ones first."""
+    found = []
+    for edit in edits:
+        if all(map(edit.goes_with, found)):
+            found.append(edit)
+    return found
+
+
 class Tries:
     """The tries of one crate's edits, in a folder of this run."""
 
@@ -110,13 +119,19 @@ class Tries:
         if said.status == 2 and edits[0].place and flags and any(map(NO_SUCH.match, said.lines)):
             for it in edits:
                 it.asks, it.is_function = None, False
-            return self.asked(edits, texts) if self.proved() else said
+            return self.asked(edits, texts) if self.proved() and together(edits) == edits else said
         return said
 
     def round(self, edits):
         """Tries edits at once. Answers those that are refused, and those to be tried alone."""
         texts, lines = applied(edits)
         said = self.asked(edits, texts)
+        first = together(edits)
+        if first != edits:
+            # Some are called by other names than was thought, so that what is said of one may be of another.
+            refused, more = self.round(first)
+            others, left = self.round([it for it in edits if it not in first])
+            return refused + others, more + left
         if not has_ended(said):
             # What the front end refuses is tried alone, and the others once more without it.
             errors = filter(None, map(ERROR.match, said.lines))
@@ -160,7 +175,7 @@ class Tries:
         refused, left = [], [it for it in edits if it.place]
         alone = [it for it in edits if not it.place]
         while left:
-            now = list({it.place: it for it in reversed(left)}.values())
+            now = together(left)
             well, more = self.round(now)
             refused, alone = refused + well, alone + more
             left = [it for it in left if it not in now]
