@@ -106,11 +106,15 @@ fn scan_with_newline<K: Store, const N: usize>(
     let outcome = quick_run_into(store, format, limit, &block)?;
     done_runs_stay();
     open_inputs_are_used();
-    let used = outcome.used as usize;
-    if used < text.len() {
-        return Some(outcome);
+    let len = text.len() as u32;
+    if outcome.used != len {
+        return if outcome.used < len {
+            Some(outcome)
+        } else {
+            None
+        };
     }
-    if used > text.len() || !format.ends_unbounded() {
+    if !format.ends_unbounded() {
         return None;
     }
     Some(Outcome {

@@ -7,8 +7,8 @@ use Rattle.sf_run.specs.Views.{report_by}
 use Rattle.sf_read.proofs.Unbounded.{inside_report, whole_report, laid_down}
 use Rattle.sf_read.proofs.whole.scan_with_newline.Goals as goal
 
-pub returns-then-used-text-clause-run : goal.returns-then-used-text-clause-run
-returns-then-used-text-clause-run g c =
+pub returns-then-outcome-len-2-clause-run : goal.returns-then-outcome-len-2-clause-run
+returns-then-outcome-len-2-clause-run g c =
     let ds = c.args.format.now in
     let text : List ℕ = c.args.text.now in
     let report : RunReport = report_by c.in_ok-outcome.outcome (g.K.Store.kept c.quick_run_into.new.store).values in
@@ -17,7 +17,7 @@ returns-then-used-text-clause-run g c =
     (subst AreProper c.directives-directives.ensures.value c.directives-directives.ensures.proper) c.args.limit text (10 ∷ rest) report
     (subst (λ (x : List ℕ). RunWithin ds c.args.limit x End report) (laid_down text c.lay_down.new.block c.lay_down.ensures.front)
     (c.in_ok-outcome.ensures.run [] End))
-    c.in_ok-outcome.ensures.done c.in_ok-outcome.ensures.met c.if-used-text.true
+    c.in_ok-outcome.ensures.done c.in_ok-outcome.ensures.met (omega (arith, c.if-outcome-len-2.true, c.requires.shorter, c.requires.few))
 
 pub returns-clause-run : goal.returns-clause-run
 returns-clause-run g c =
