@@ -68,8 +68,10 @@ fn write_given_text<const PLAIN: bool>(
     requires plain { PLAIN ≡ true → form ≡ Plain }
     requires room { at + 22 ≤ length buf.old }
     ensures within { result ≤ length buf.new }
-    ensures written { result < length buf.new → take result buf.new ≡ take at buf.old ++ value_text form (Bytes text.now) }
-    ensures answers { at + length (value_text form (Bytes text.now)) + 21 ≤ length buf.old → result < length buf.new }
+    ensures written { result < length buf.new → take result buf.new
+        ≡ take at buf.old ++ value_text form (Bytes text.now) }
+    ensures answers { at + length (value_text form (Bytes text.now)) + 21 ≤ length buf.old
+        → result < length buf.new }
 {
     let end = if PLAIN {
         write_between(text, buf, at)
@@ -86,7 +88,8 @@ fn write_given_f32(form: OutputForm, bits: u32, buf: &mut [u8], at: usize) -> us
     ensures within { result ≤ length buf.new }
     ensures written { result < length buf.new → take result buf.new
         ≡ take at buf.old ++ value_text form (RealOf (F32 bits)) }
-    ensures answers { at + length (value_text form (RealOf (F32 bits))) + 21 ≤ length buf.old → result < length buf.new }
+    ensures answers { at + length (value_text form (RealOf (F32 bits))) + 21 ≤ length buf.old
+        → result < length buf.new }
 {
     write_real(form, Real::F32(bits), buf, at).unwrap_or(buf.len())
 }
@@ -98,7 +101,8 @@ fn write_given_f64(form: OutputForm, bits: u64, buf: &mut [u8], at: usize) -> us
     ensures within { result ≤ length buf.new }
     ensures written { result < length buf.new → take result buf.new
         ≡ take at buf.old ++ value_text form (RealOf (F64 bits)) }
-    ensures answers { at + length (value_text form (RealOf (F64 bits))) + 21 ≤ length buf.old → result < length buf.new }
+    ensures answers { at + length (value_text form (RealOf (F64 bits))) + 21 ≤ length buf.old
+        → result < length buf.new }
 {
     write_real(form, Real::F64(bits), buf, at).unwrap_or(buf.len())
 }
@@ -116,7 +120,8 @@ fn write_slot<const PLAIN: bool, S: Store>(
     requires plain { PLAIN ≡ true → form ≡ Plain }
     requires room { at + 22 ≤ length buf.old }
     ensures within { result ≤ length buf.new }
-    ensures written { result < length buf.new → take result buf.new ≡ take at buf.old ++ slot_text form report.now slot }
+    ensures written { result < length buf.new → take result buf.new
+        ≡ take at buf.old ++ slot_text form report.now slot }
     ensures answers { at + length (slot_text form report.now slot) + 21 ≤ length buf.old → result < length buf.new }
 {
     match report.shown(slot) {
