@@ -107,7 +107,9 @@ fn sum_of_text(alloc: Global, text: &[u8], format: &ScanFormat, count: u64) -> a
     for _ in 0..count {
         let scanned = sscan(alloc, text, format, LIMIT)?;
         let report = scanned.report();
-        if let (Some(left), Some(right)) = (report.get::<i32>(1), report.get::<i32>(2)) {
+        if let Some(left) = report.get::<i32>(1)
+            && let Some(right) = report.get::<i32>(2)
+        {
             sum = with_both(sum, (left, right));
         }
     }
@@ -120,7 +122,9 @@ fn sum_over(alloc: Global, text: &[u8], format: &ScanFormat, count: u64) -> anyh
     for _ in 0..count {
         let scanned = sscan_over(alloc, store, text, format, LIMIT)?;
         let report = scanned.report();
-        if let (Some(left), Some(right)) = (report.get::<i32>(1), report.get::<i32>(2)) {
+        if let Some(left) = report.get::<i32>(1)
+            && let Some(right) = report.get::<i32>(2)
+        {
             sum = with_both(sum, (left, right));
         }
         store = scanned.into_store();
