@@ -69,6 +69,15 @@ written_after block room text end (Some len) e within written =
     ∙ ap (λ (n : ℕ). take n (take end block ++ room)) {x = end + len} {y = length (take end block) + len} (omega arith)
     ∙ take-append-add (take end block) room len ∙ ap (λ (t : List ℕ). take end block ++ t) written
 
+-- So was what a writer wrote that room was lent.
+pub lent_after : (Writes : List ℕ → Type 0) (block room : List ℕ) (end : ℕ) (r : Option ℕ) → end ≤ length block
+    → IfSome r (λ len. len ≤ length room) → IfSome r (λ len. Writes (take len room))
+    → IfSome r (λ len. (text : List ℕ) × Writes text
+    × (take (end + len) (put_mid end (length block - end) block room) ≡ take end block ++ text))
+lent_after Writes block room end None e within written = tt
+lent_after Writes block room end (Some len) e within written =
+    (take len room, written, written_after block room (take len room) end (Some len) e within refl)
+
 -- Where the writer took the first n of the waiting bytes, the others wait.
 pub others_wait : (block : List ℕ) (start end n : ℕ) → start ≤ end → end ≤ length block → n ≤ length (slice_range block start end)
     → slice_range block start end ≡ take n (slice_range block start end) ++ slice_range block (start + n) end

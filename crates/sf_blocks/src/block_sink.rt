@@ -1,12 +1,13 @@
 //! A writer with a block of bytes in front of it.
-ghost use Rattle.std.specs.Prelude.{◌≡◌, ◌≤◌, ◌<◌, ◌+◌, ◌++◌, ◌||◌, false, true, [], length, take, Option, List, ℕ};
+ghost use Rattle.std.specs.Prelude.{◌≡◌, ◌≤◌, ◌<◌, ◌+◌, ◌-◌, ◌++◌, ◌||◌, false, true, [], length, take, Option, List};
+ghost use Rattle.std.specs.Prelude.{ℕ};
 ghost use Rattle.std.specs.Prelude.{None, Some, Ok, OnErr, OnOk, IfOk, IfErr, IfSome, IsNone, IsSome, is_err};
 ghost use Rattle.std.specs.Bool.{OnTrue, OnFalse};
 ghost use Rattle.std.specs.Io.{WritesAtMost};
 ghost use Rattle.std.specs.Io.KnownBytes.{Appends, Keeps, WriteAppends};
 
 use crate::writing::write_some;
-use sf_print::{Sink, SinkFault, TextInPlace, copy_over};
+use sf_print::{Sink, SinkFault, TextInPlace, WritesInPlace, copy_over};
 use std::alloc::{AllocError, Global};
 use std::io::{self, Write};
 
@@ -260,6 +261,20 @@ fn write_after<T: TextInPlace>(text: &T, block: &mut [u8], end: usize) -> Option
     text.write_in(&mut block[end..])
 }
 
+/// Lends the writer the room after the first `end` bytes of the block, which stay, and answers how many bytes it wrote
+/// there. None where it wrote none.
+#[inline(always)]
+fn lend_after<T: WritesInPlace>(writer: &mut T, block: &mut [u8], end: usize) -> Option<usize>
+    requires { end ≤ length block.old }
+    ensures within { IfSome result (λ len. end + len ≤ length block.new) }
+    ensures written { IfSome result (λ len. (text : List ℕ) × T.Writes writer.old writer.new text
+        × (take (end + len) block.new ≡ take end block.old ++ text)) }
+    ensures answers { T.Surely writer.old (length block.old - end) → IsSome result }
+    ensures before { take end block.new ≡ take end block.old }
+{
+    writer.write_in(&mut block[end..])
+}
+
 impl<W: Write + Drop> Sink for BlockSink<W> {
     ghost use Rattle.sf_print.specs.Sinks.{counted_on};
     ghost use Rattle.std.specs.Prelude.{if◌then◌else◌};
@@ -317,5 +332,27 @@ impl<W: Write + Drop> Sink for BlockSink<W> {
         let len = write_after(text, &mut self.block, self.end)?;
         self.end += len;
         Some(len)
+    }
+
+    /// Lends the writer the room after the bytes that wait.
+    #[inline(always)]
+    fn lend<T: WritesInPlace>(&mut self, writer: &mut T) -> bool
+        ensures took { OnTrue result ((text : List ℕ) × T.Writes writer.old writer.new text
+            × Appends (taken_by self.old) (taken_by self.new) text) }
+        ensures answers { T.Surely writer.old (room_of self.old) → result ≡ true }
+        ensures refused { OnFalse result (taken_by self.new ≡ taken_by self.old) }
+        ensures failures { ⟦<BlockSink<W> as Sink>⟧.failures self.new ≡ ⟦<BlockSink<W> as Sink>⟧.failures self.old }
+        ensures writer { writer_of self.new ≡ writer_of self.old }
+        ensures nothing { HoldsNothing self.old → HoldsNothing self.new }
+        ensures flushed { has_failed_flush self.new ≡ has_failed_flush self.old }
+        ensures error { last_error_of self.new ≡ last_error_of self.old }
+    {
+        match lend_after(writer, &mut self.block, self.end) {
+            Some(len) => {
+                self.end += len;
+                true
+            }
+            None => false,
+        }
     }
 }

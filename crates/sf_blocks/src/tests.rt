@@ -1,6 +1,8 @@
 //! Tests over a writer that takes as few bytes as it likes, and fails once.
+ghost use Rattle.std.specs.Prelude.{◌≡◌, ◌≤◌, length};
+
 use crate::BlockSink;
-use sf_print::{Sink, TextInPlace, copy_over};
+use sf_print::{Sink, TextInPlace, WritesInPlace, copy_over};
 use std::alloc::Global;
 use std::io::{self, ErrorKind, Write};
 use std::process::Abort;
@@ -75,6 +77,28 @@ impl TextInPlace for Text<'_> {
         if room.len() < self.bytes.len() {
             return None;
         }
+        copy_over(self.bytes, room, 0);
+        Some(self.bytes.len())
+    }
+}
+
+/// Writes its bytes, where there is room for them, and notes the room.
+#[derive(Drop)]
+struct Lent<'a> {
+    bytes: &'a [u8],
+    room: usize,
+}
+
+impl WritesInPlace for Lent<'_> {
+    ghost Writes = { λ old new text. text ≡ old.bytes.now };
+
+    ghost Surely = { λ lent room. length lent.bytes.now ≤ room };
+
+    fn write_in(&mut self, room: &mut [u8]) -> Option<usize> {
+        if room.len() < self.bytes.len() {
+            return None;
+        }
+        self.room = room.len();
         copy_over(self.bytes, room, 0);
         Some(self.bytes.len())
     }
@@ -214,4 +238,32 @@ fn texts_go_at_once(rt: HostRuntime) {
             "at {count}"
         );
     }
+}
+
+/// What is written into a room that is lent comes after what was taken before, and a writer that finds none takes no
+/// byte of it.
+#[test]
+fn room_is_lent(rt: HostRuntime) -> Result<(), Fail> {
+    let mut sink = BlockSink::in_blocks(rt.alloc(), Device::new(rt.alloc(), 9000, u64::MAX))?;
+    let mut first = Lent {
+        bytes: &[b'a'; 8000],
+        room: 0,
+    };
+    let mut second = Lent {
+        bytes: b"record\n",
+        room: 0,
+    };
+    let mut third = Lent {
+        bytes: &[b'c'; 186],
+        room: 0,
+    };
+    assert!(rt; sink.lend(&mut first) && first.room == 8192);
+    assert!(rt; sink.lend(&mut second) && second.room == 192);
+    assert!(rt; !sink.lend(&mut third) && third.room == 0);
+    let flushed = sink.flush().is_ok();
+    assert!(rt; flushed && sink.writer().bytes.len() == 8007);
+    assert!(rt; are_texts(&sink.writer().bytes[8000..], b"record\n", 1));
+    let mut at_once = BlockSink::at_once(rt.alloc(), Device::new(rt.alloc(), 9, u64::MAX));
+    assert!(rt; !at_once.lend(&mut second) && at_once.writer().bytes.is_empty());
+    Ok(())
 }

@@ -18,5 +18,7 @@ pub use in_place::{write_plain_bytes, write_plain_number, write_value, write_vis
 pub use judging::value_of_slot;
 pub use print::{fprint, printed_len};
 pub use sf_digits::{copy_over, push_number, write_number};
-pub use sf_sink::{ListSink, ScriptSink, Sink, SinkFault, StdSink, TextInPlace, WriteStep};
+pub use sf_sink::{
+    ListSink, ScriptSink, Sink, SinkFault, StdSink, TextInPlace, WriteStep, WritesInPlace,
+};
 pub use sf_texts::{core_len, least_len, visible_bytes, visible_len};

@@ -8,5 +8,5 @@ mod std_sink;
 
 pub use list_sink::ListSink;
 pub use script_sink::{ScriptSink, WriteStep};
-pub use sink::{Sink, SinkFault, TextInPlace};
+pub use sink::{Sink, SinkFault, TextInPlace, WritesInPlace};
 pub use std_sink::StdSink;

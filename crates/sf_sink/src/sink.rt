@@ -1,6 +1,7 @@
 //! Where printed bytes go.
 ghost use Rattle.std.specs.Prelude.{◌≡◌, ◌<◌, ◌≤◌, ◌+◌, ℕ, List, Option, length, take, IfOk, IfSome, IsNone, IsSome};
 ghost use Rattle.std.specs.Prelude.{is_err, if◌then◌else◌};
+ghost use Rattle.std.specs.Bool.{OnTrue, OnFalse};
 ghost use Rattle.std.specs.Io.{WritesAtMost};
 ghost use Rattle.std.specs.Io.KnownBytes.{Appends};
 ghost use Rattle.std.specs.Io.KnownBytes.{WriteAppends};
@@ -28,6 +29,21 @@ pub trait TextInPlace {
         ensures written { IfSome result (λ len. take len room.new ≡ text self.now) }
         ensures fits { IfSome result (λ _. Fits self.now) }
         ensures answers { Fits self.now → length (text self.now) + 21 ≤ length room.old → IsSome result };
+}
+
+/// What writes into room that is lent for it, and keeps what it learns by that.
+pub trait WritesInPlace {
+    /// What it may write, by what it was and what it is then.
+    ghost Writes: { Self → Self → List ℕ → Type 0 };
+
+    /// It writes something for sure, in room for so many bytes.
+    ghost Surely: { Self → ℕ → Type 0 };
+
+    /// Writes at the start of the room, and answers how many bytes. None where nothing is to be taken.
+    fn write_in(&mut self, room: &mut [u8]) -> Option<usize>
+        ensures within { IfSome result (λ len. len ≤ length room.new) }
+        ensures written { IfSome result (λ len. Writes self.old self.new (take len room.new)) }
+        ensures answers { Surely self.old (length room.old) → IsSome result };
 }
 
 /// What takes bytes.
@@ -60,6 +76,19 @@ pub trait Sink {
         let _ = text;
         None
     }
+
+    /// Lends the writer room in a block of its own, and takes what is written there, which can't fail. False, and
+    /// nothing is taken, where there is no block, or nothing is to be taken. A sink without a block leaves this as it
+    /// is.
+    fn lend<T: WritesInPlace>(&mut self, writer: &mut T) -> bool
+        ensures took { OnTrue result ((text : List ℕ) × T.Writes writer.old writer.new text
+            × Appends (contents self.old) (contents self.new) text) }
+        ensures refused { OnFalse result (contents self.new ≡ contents self.old) }
+        ensures failures { failures self.new ≡ failures self.old }
+    {
+        let _ = writer;
+        false
+    }
 }
 
 impl<K: Sink> Sink for &mut K {
@@ -74,5 +103,10 @@ impl<K: Sink> Sink for &mut K {
     #[inline(always)]
     fn take_in_place<T: TextInPlace>(&mut self, text: &T) -> Option<usize> {
         Sink::take_in_place(&mut **self, text)
+    }
+
+    #[inline(always)]
+    fn lend<T: WritesInPlace>(&mut self, writer: &mut T) -> bool {
+        Sink::lend(&mut **self, writer)
     }
 }
