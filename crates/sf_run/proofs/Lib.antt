@@ -21,6 +21,7 @@ pub mod Stages
 pub mod Brought
 pub mod Pieces
 pub mod Moves
+pub mod RowsLeft
 pub mod Coming
 pub mod Slots
 pub mod Waits
@@ -28,3 +29,5 @@ pub mod Refusals
 pub mod TwoStores
 pub mod AtOnce
 pub mod Surely
+pub mod Writing
+pub mod Ordered

@@ -50,7 +50,7 @@ with-append : (slot : Option ℕ) (ms ns : List ℕ) → with_slot slot (ms ++ n
 unfolding with_slot
 with-append slot ms ns = grind arith
 
-slots_split : (ds : List Directive) (p : ℕ) → slots_of ds ≡ slots_of (take p ds) ++ slots_of (drop p ds)
+pub slots_split : (ds : List Directive) (p : ℕ) → slots_of ds ≡ slots_of (take p ds) ++ slots_of (drop p ds)
 slots_split ds zero = refl
 slots_split [] (suc p) = refl
 slots_split (d ∷ ds) (suc p) = grind (arith, slots_split ds)
@@ -67,21 +67,32 @@ slots_taken (x ∷ ds) (suc p) d at =
 one_more : (p : ℕ) → suc p ≡ p + 1
 one_more p = omega arith
 
+-- the slots with that of one more directive
+pub slots_after_none : (ds : List Directive) (p : ℕ) (d : Directive) → slice_get ds p ≡ Some d → slot_of d ≡ None
+    → slots_of (take (p + 1) ds) ≡ slots_of (take p ds)
+unfolding with_slot
+slots_after_none ds p d at none =
+    ap (λ n. slots_of (take n ds)) (sym (one_more p)) ∙ slots_taken ds p d at
+    ∙ ap (λ s. slots_of (take p ds) ++ with_slot s []) none ∙ append-nil _
+
+pub slots_after_some : (ds : List Directive) (p : ℕ) (d : Directive) (slot : ℕ) → slice_get ds p ≡ Some d → slot_of d ≡ Some slot
+    → slots_of (take (p + 1) ds) ≡ slots_of (take p ds) ++ slot ∷ []
+unfolding with_slot
+slots_after_some ds p d slot at own =
+    ap (λ n. slots_of (take n ds)) (sym (one_more p)) ∙ slots_taken ds p d at
+    ∙ ap (λ s. slots_of (take p ds) ++ with_slot s []) own
+
 pub slots_none : (ds : List Directive) (p : ℕ) (d : Directive) (values : List Assigned) → slice_get ds p ≡ Some d → slot_of d ≡ None
     → slots_in values ≡ slots_of (take p ds)
     → slots_in values ≡ slots_of (take (p + 1) ds)
-unfolding with_slot
-slots_none ds p d values at none is = is ∙ sym (append-nil _) ∙ ap (λ s. slots_of (take p ds) ++ with_slot s []) (sym none)
-    ∙ sym (slots_taken ds p d at) ∙ ap (λ n. slots_of (take n ds)) (one_more p)
+slots_none ds p d values at none is = is ∙ sym (slots_after_none ds p d at none)
 
 pub slots_more : (ds : List Directive) (p : ℕ) (d : Directive) (values : List Assigned) (slot : ℕ) (v : Datum) → slice_get ds p ≡ Some d
     → slot_of d ≡ Some slot → slots_in values ≡ slots_of (take p ds)
     → slots_in (values ++ assigned slot v ∷ []) ≡ slots_of (take (p + 1) ds)
-unfolding with_slot
 slots_more ds p d values slot v at own is =
     map-append (λ (a : Assigned). a.slot) values (assigned slot v ∷ []) ∙ ap (λ l. l ++ slot ∷ []) is
-    ∙ ap (λ s. slots_of (take p ds) ++ with_slot s []) (sym own) ∙ sym (slots_taken ds p d at)
-    ∙ ap (λ n. slots_of (take n ds)) (one_more p)
+    ∙ sym (slots_after_some ds p d slot at own)
 
 -- ---- the slots that were given something, among those of the directives that have passed
 

@@ -21,4 +21,5 @@ pub mod Standing
 pub mod Scanner
 pub mod Laws
 pub mod Quick
+pub mod Written
 pub mod Wording

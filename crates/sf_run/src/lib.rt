@@ -8,8 +8,10 @@ mod number;
 mod quick;
 mod scanner;
 mod tally;
+mod written;
 
 pub use feeding::{Fed, FeedState, StartFault};
 pub use quick::{quick_run, quick_run_into};
 pub use scanner::{MOST_BYTES, Scanner};
 pub use sf_report::{Ending, Outcome, Report, Scanned, Status};
+pub use written::{ValueWriter, WrittenRuns, may_write, write_runs};

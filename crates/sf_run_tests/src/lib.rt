@@ -19,3 +19,5 @@ mod starts;
 mod stores;
 #[cfg(test)]
 mod texts;
+#[cfg(test)]
+mod written;

@@ -1,7 +1,7 @@
-use Rattle.std.proofs.Common.{◌≡◌, true, ◌<◌, ◌≤◌, ◌+◌, ◌-◌, [], ◌∷◌, ◌++◌, ◌∙◌, ℕ, List, length, map, drop}
-use Rattle.std.proofs.Common.{refl, sym, ap, None, Some, arith, subst}
-use Rattle.std.proofs.lemmas.List.{drop-drop, drop-map, length-map}
-use Rattle.std.proofs.lemmas.Option.{none-some, slice_get_read}
+use Rattle.std.proofs.Common.{◌≡◌, true, ◌<◌, ◌≤◌, ◌+◌, ◌-◌, ◌∷◌, ◌++◌, ◌∙◌, ℕ, List, length, map, drop}
+use Rattle.std.proofs.Common.{refl, sym, ap, Some, arith, subst}
+use Rattle.std.proofs.lemmas.List.{length-map}
+use Rattle.std.proofs.lemmas.Option.{slice_get_read}
 use Rattle.std.specs.Prelude.{slice_get}
 use Rattle.sf_store.specs.Kept.{Kept}
 use Rattle.sf_format.specs.declared.directive.Directive.{Directive}
@@ -15,25 +15,12 @@ use Rattle.sf_run.specs.Holding.{are_placed}
 use Rattle.sf_run.specs.Quick.{IsDoneWithin, IsSure, MayBeGiven, Passes, done_by}
 use Rattle.sf_run.specs.Texts.{slot_of}
 use Rattle.sf_run.proofs.AtOnce.{Counted, counted_run, counting_on, free_at, nothing_counted, passes_as}
-use Rattle.sf_run.proofs.Moves.{drop_at, proper_at}
+use Rattle.sf_run.proofs.Moves.{proper_at}
+use Rattle.sf_run.proofs.RowsLeft.{as_many, first_left, left_next, nothing_left, opens, still_left}
 use Rattle.sf_run.proofs.Slots.{apart_from, placed_from}
 use Rattle.sf_run.proofs.Surely.{sure_next}
 use Rattle.sf_run.proofs.quick.pass_all.Goals as goal
 use Rattle.sf_run.proofs.quick.pass_all.Goals.{in-Some-pass, in-None+in_ok-taken-in-None}
-
--- a format has as many rows as directives
-as_many : (rows : List Row) (ds all : List Directive) → rows ≡ map row_of all → ds ≡ all → length rows ≡ length ds
-as_many rows ds all is same = ap length is ∙ length-map all row_of ∙ ap length (sym same)
-
--- a row that stands first opens the list
-opens : (left : List Row) (row : Row) → Some row ≡ slice_get left 0 → left ≡ row ∷ drop 1 left
-opens [] row is = absurd (none-some row (sym is))
-opens (r ∷ rs) row is = cc
-
--- and where none does, the list has none
-nothing_left : (left : List Row) → None ≡ slice_get left 0 → length left ≡ 0
-nothing_left [] is = refl
-nothing_left (r ∷ rs) is = absurd (none-some r is)
 
 -- the directive of the first row that is left is that many from the end of the format
 from_end : (rows : List Row) (ds all : List Directive) (left : ℕ) (d : Directive) → rows ≡ map row_of all → ds ≡ all
@@ -48,32 +35,6 @@ from_start rows ds all left d is same at =
     let many : length rows ≡ length all = ap length is ∙ length-map all row_of in
     subst (λ (l : List Directive). slice_get l (length rows - left) ≡ Some d) (sym same)
     (subst (λ n. slice_get all (n - left) ≡ Some d) (sym many) at)
-
--- as long as a row is left, so is its directive
-still_left : (rows : List Row) (ds all : List Directive) (left others : List Row) (row : Row) → rows ≡ map row_of all → ds ≡ all
-    → length left ≤ length rows → left ≡ row ∷ others → length rows - length left < length ds
-still_left rows ds all left others row is same short first =
-    let many = as_many rows ds all is same in
-    let one : length left ≡ length others + 1 = ap length first ∙ omega arith in
-    omega (arith, many, short, one)
-
--- the first row that is left is that of its directive
-first_left : (rows : List Row) (ds all : List Directive) (left others : List Row) (row : Row) (i : ℕ) (d : Directive)
-    → rows ≡ map row_of all → ds ≡ all → left ≡ drop i rows → left ≡ row ∷ others → slice_get ds i ≡ Some d → row ≡ row_of d
-first_left rows ds all left others row i d is same ahead first at =
-    let from : drop i ds ≡ d ∷ drop (i + 1) ds = drop_at ds i d at in
-    let rest : row ∷ others ≡ row_of d ∷ map row_of (drop (i + 1) ds) =
-    sym first ∙ ahead ∙ ap (drop i) is ∙ ap (λ l. drop i (map row_of l)) (sym same) ∙ drop-map row_of i ds ∙ ap (map row_of) from in
-    cc
-
--- the rows after it are left then
-left_next : (rows left others : List Row) (row : Row) → length left ≤ length rows → left ≡ drop (length rows - length left) rows
-    → left ≡ row ∷ others → others ≡ drop (length rows - length others) rows
-left_next rows left others row short ahead first =
-    let one : length left ≡ length others + 1 = ap length first ∙ omega arith in
-    let next : length rows - length left + 1 ≡ length rows - length others = omega (arith, one, short) in
-    let rest : others ≡ drop 1 left = ap (drop 1) (sym first) in
-    rest ∙ ap (drop 1) ahead ∙ drop-drop 1 (length rows - length left) rows ∙ ap (λ n. drop n rows) next
 
 -- the slots of a format are those of a store with as many
 placed : (slots : ℕ) (ds all : List Directive) → ds ≡ all → length (destinations_of all) ≤ slots → AreSlots (destinations_of ds)

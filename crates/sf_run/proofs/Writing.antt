@@ -1,0 +1,168 @@
+-- Runs whose values are written as they are read.
+use Rattle.std.proofs.Common.{◌≡◌, ℕ, true, List, [], ◌∷◌, ◌++◌, ◌∙◌, ◌+◌, ◌-◌, ◌≤◌, false, arith, refl, sym, ap, subst, None, take}
+use Rattle.std.proofs.Common.{drop, length, length-drop, Option, Some}
+use Rattle.std.proofs.lemmas.List.{append-nil, drop-drop, length-append, length-take-le, take-take}
+use Rattle.std.proofs.lemmas.Slice.{take-put_mid}
+use Rattle.std.proofs.Math.Seq.{take-append-add}
+use borrow.Rule.Slice.PartMut.{put_mid}
+use Rattle.std.specs.Prelude.{IfSome}
+use Rattle.std.proofs.lemmas.Grind.{flat_map-append}
+use Rattle.sf_base.specs.Data.{Assigned, Datum}
+use Rattle.sf_store.specs.Kept.{Kept, texts_in}
+use Rattle.sf_format.specs.declared.directive.Directive.{Directive}
+use Rattle.sf_format.specs.Proper.{IsProper}
+use Rattle.sf_report.specs.Runs.{passed, stored}
+use Rattle.sf_report.specs.Steps.{StepEnd, Passes, Stores, Misses, Fails}
+use Rattle.sf_run.specs.declared.directive.Ended.{Ended}
+use Rattle.sf_run.specs.declared.directive.Finished.{Finished}
+use Rattle.sf_run.specs.Phases.{end_of, is_failing, is_missing, slot_given}
+use Rattle.sf_run.specs.Pieces.{EndsAtOnce}
+use Rattle.sf_run.specs.Quick.{slot_stored}
+use Rattle.sf_run.specs.Quick as quick
+use Rattle.sf_run.specs.Tallies.{values_with}
+use Rattle.sf_run.specs.Texts.{slot_of}
+use Rattle.sf_run.specs.Written.{AreParts, AreRecords, IsPart, IsRecord, Part, PassesWriting, records_by, text_given, texts_by, used_by}
+use Rattle.sf_run.specs.declared.written.WrittenRun.{WrittenRun}
+
+-- with what a directive gives that ends so
+abbrev pub kept_with : StepEnd → Kept → Kept
+kept_with end k = record {
+  values = values_with end k.values;
+  closed = texts_in (values_with end k.values);
+  opened = None;
+  room = 0;
+}
+
+-- what a directive gave that passes so may be kept after any values
+pub keeps : (text : Datum → List ℕ) (d : Directive) (n : ℕ) (piece : List ℕ) (taken : ℕ) (old new : List ℕ) (k : Kept)
+    → (w : PassesWriting text d n piece taken old new) → quick.Passes d n piece taken k (kept_with w.end k)
+keeps text d n piece taken old new k w = (
+  stored w.end,
+  record {
+    end = w.end;
+    takes = w.takes;
+    gives = record {
+      passes = record { passes = w.passes; stored = refl };
+      values = refl;
+      opened = refl;
+      joined = λ _. refl;
+    };
+    own = w.own;
+  },
+)
+
+-- the texts of the values with that
+pub text_after : (text : Datum → List ℕ) (end : StepEnd) (values : List Assigned)
+    → texts_by text (values_with end values) ≡ texts_by text values ++ text_given text end
+text_after text Passes values = sym (append-nil (texts_by text values))
+text_after text (Stores slot v) values =
+    flat_map-append (λ a. text a.datum) values (record { slot = slot; datum = v } ∷ [])
+    ∙ ap (λ (t : List ℕ). texts_by text values ++ t) (append-nil (text v))
+text_after text Misses values = sym (append-nil (texts_by text values))
+text_after text (Fails status) values = sym (append-nil (texts_by text values))
+
+-- the slot of what a directive gives that passes is its own
+own_slot : (d : Directive) (f : Finished) (item : List ℕ) → (is_failing f ≡ false → is_missing f ≡ false → slot_given f ≡ slot_of d)
+    → passed (end_of item f) ≡ true → slot_stored (end_of item f) ≡ slot_of d
+own_slot d f item given ok = grind arith
+
+-- a directive that ends so within the piece has passed, where what it gives was written
+pub passes_writing : (text : Datum → List ℕ) (d : Directive) (n : ℕ) (piece : List ℕ) (e : Ended) (old new : List ℕ) → IsProper d
+    → EndsAtOnce d n piece e
+    → passed (end_of (take e.item (drop e.before piece)) e.finished) ≡ true
+    → new ≡ old ++ text_given text (end_of (take e.item (drop e.before piece)) e.finished)
+    → PassesWriting text d n piece (e.before + e.item) old new
+passes_writing text d n piece e old new proper is ok written = record {
+  end = end_of (take e.item (drop e.before piece)) e.finished;
+  takes = (is.answers proper).goes;
+  passes = ok;
+  own = own_slot d e.finished (take e.item (drop e.before piece)) is.fits.given ok;
+  written = written;
+}
+
+-- ---- run after run
+
+parts_more : (ds : List Directive) (m : ℕ) (piece : List ℕ) (ps : List Part) (p : Part) → AreParts ds m piece ps
+    → IsPart ds m (drop (used_by ps) piece) p → AreParts ds m piece (ps ++ p ∷ [])
+parts_more ds m piece [] p are is = (is, tt)
+parts_more ds m piece (q ∷ qs) p are is = (
+  are.0,
+  parts_more ds m (drop q.used piece) qs p are.1
+      (subst (λ y. IsPart ds m y p) (sym (drop-drop (used_by qs) q.used piece)) is),
+)
+
+used_more : (ps : List Part) (p : Part) → used_by (ps ++ p ∷ []) ≡ used_by ps + p.used
+used_more [] p = omega arith
+used_more (q ∷ qs) p = let e = used_more qs p in omega (arith, e)
+
+-- these runs have passed one after the other, and the rest is what they left; the bytes are their records
+pub record Runs (text : List Assigned → List ℕ) (ds : List Directive) (m : ℕ) (piece rest : List ℕ) (count : ℕ) (bytes : List ℕ) : Type 0
+  where
+    pub parts : List Part
+    pub are : AreParts ds m piece parts
+    pub count_is : count ≡ length parts
+    pub left : rest ≡ drop (used_by parts) piece
+    pub low : used_by parts ≤ length piece
+    pub written : bytes ≡ records_by text parts
+
+pub no_runs : (text : List Assigned → List ℕ) (ds : List Directive) (m : ℕ) (piece : List ℕ) → Runs text ds m piece piece 0 []
+no_runs text ds m piece = record {
+  parts = [];
+  are = tt;
+  count_is = refl;
+  left = refl;
+  low = omega arith;
+  written = refl;
+}
+
+-- with the next one
+pub runs_more : (text : List Assigned → List ℕ) (ds : List Directive) (m : ℕ) (piece rest after : List ℕ) (count used : ℕ)
+    (bytes new out : List ℕ) → Runs text ds m piece rest count bytes → IsRecord text ds m rest used new → after ≡ drop used rest
+    → out ≡ bytes ++ new → Runs text ds m piece after (count + 1) out
+runs_more text ds m piece rest after count used bytes new out h is on more =
+    let p : Part = record { used = used; values = is.values } in
+    let here : IsPart ds m (drop (used_by h.parts) piece) p = subst (λ y. IsPart ds m y p) h.left is.part in
+    let sum = used_more h.parts p in
+    let short : length (drop (used_by h.parts) piece) ≡ length piece - used_by h.parts = length-drop (used_by h.parts) piece in
+    let low = h.low in
+    let within = here.within in
+    record {
+      parts = h.parts ++ p ∷ [];
+      are = parts_more ds m piece h.parts p h.are here;
+      count_is = ap (λ n. n + 1) h.count_is ∙ sym (length-append h.parts (p ∷ []));
+      left = on ∙ ap (drop used) h.left ∙ drop-drop used (used_by h.parts) piece ∙ ap (λ n. drop n piece) (sym sum);
+      low = omega (arith, sum, short, low, within);
+      written = more ∙ ap (λ (t : List ℕ). t ++ new) h.written ∙ ap (λ (t : List ℕ). records_by text h.parts ++ t) is.written
+          ∙ sym (flat_map-append (λ (q : Part). text q.values) h.parts (p ∷ [])
+          ∙ ap (λ (t : List ℕ). records_by text h.parts ++ t) (append-nil (text is.values)));
+    }
+
+pub runs_told : (text : List Assigned → List ℕ) (ds : List Directive) (m : ℕ) (piece rest : List ℕ) (count : ℕ) (bytes : List ℕ)
+    → Runs text ds m piece rest count bytes → AreRecords text ds m piece count (length piece - length rest) bytes
+runs_told text ds m piece rest count bytes h =
+    let short : length rest ≡ length piece - used_by h.parts = ap length h.left ∙ length-drop (used_by h.parts) piece in
+    let low = h.low in
+    record {
+      parts = h.parts;
+      are = h.are;
+      count_is = h.count_is;
+      used_is = omega (arith, short, low);
+      written = h.written;
+    }
+
+-- a record that was written into what follows a front of the room
+pub after_front : (Is : ℕ → List ℕ → Type 0) (room part : List ℕ) (end : ℕ) (r : Option WrittenRun) → end ≤ length room
+    → IfSome r (λ run. run.end ≤ length part) → IfSome r (λ run. Is run.used (take run.end part))
+    → IfSome r (λ run. (bytes : List ℕ) × Is run.used bytes
+    × (take (end + run.end) (put_mid end (length room - end) room part) ≡ take end room ++ bytes))
+after_front Is room part end None e within is = tt
+after_front Is room part end (Some run) e within is =
+    let whole = length-take-le end room e in
+    let all : List ℕ = put_mid end (length room - end) room part in (
+      take run.end part,
+      is,
+      sym (take-take (end + run.end) (end + length part) all (omega (arith, within)))
+          ∙ ap (take (end + run.end)) (take-put_mid end (length room - end) room part (end + length part) refl e)
+          ∙ ap (λ (n : ℕ). take n (take end room ++ part)) {x = end + run.end} {y = length (take end room) + run.end} (omega (arith, whole))
+          ∙ take-append-add (take end room) part run.end,
+    )

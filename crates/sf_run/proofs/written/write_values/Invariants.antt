@@ -1,0 +1,18 @@
+use Rattle.std.proofs.Common.{◌≡◌, ◌-◌, ◌≤◌, drop, length, take}
+use Rattle.sf_store.specs.Kept.{Kept}
+use Rattle.sf_run.specs.Written.{texts_by}
+use Rattle.sf_run.proofs.AtOnce.{Counted}
+use Rattle.sf_run.proofs.written.write_values.Given as goal
+
+-- the directives before the rows that are left have passed, and the room has the texts of what they gave
+abbrev pub invariant-loop-row : goal.invariant-loop-row
+invariant-loop-row g l = record {
+  short : length l.left ≤ length l.rows;
+  ahead : l.left ≡ drop (length l.rows - length l.left) l.rows;
+  place : l.end ≤ length l.room;
+  counted : (kept : Kept) × Counted l.directives l.front l.rest (length l.rows - length l.left) kept
+      × (take l.end l.room ≡ texts_by g.W.ValueWriter.text kept.values);
+}
+
+abbrev pub decreases-loop-row : goal.decreases-loop-row
+decreases-loop-row g l = length l.left

@@ -1,0 +1,313 @@
+//! Runs that begin and pass within a piece of the input, read at once, whose values are written as they are read.
+ghost use Rattle.std.specs.Prelude.{◌≡◌, ◌↔◌, ◌<◌, ◌≤◌, ◌+◌, ◌-◌, ◌++◌, ℕ, List, length, slice_get, take, drop, true};
+ghost use Rattle.std.specs.Prelude.{Some, IfSome};
+ghost use Rattle.sf_base.specs.Data.{Assigned, Bytes, Datum, datum_of_number};
+ghost use Rattle.sf_format.specs.declared.directive.Directive.{Directive};
+ghost use Rattle.sf_format.specs.Layout.{row_of};
+ghost use Rattle.sf_format.specs.Proper.{IsProper};
+ghost use Rattle.sf_report.specs.Runs.{passed};
+ghost use Rattle.sf_run.specs.Phases.{IsNumberGiven, end_of};
+ghost use Rattle.sf_run.specs.Pieces.{EndsAtOnce};
+ghost use Rattle.sf_run.specs.Written.{AreRecords, IsRecord, IsWritten, MayBeWritten, PassesWriting};
+ghost use Rattle.sf_run.specs.Written.{text_given, texts_by};
+
+use crate::directive::{
+    Ended, Finished, characters_at_once, members_at_once, number_at_once, text_at_once,
+    until_at_once, whole_byte, whole_space,
+};
+use sf_base::Number;
+use sf_format::{Base, Directive, Row, ScanFormat, Way};
+
+/// Writes the values of a run, each into room that is lent for it.
+pub trait ValueWriter {
+    /// The text of a value.
+    ghost text: { Datum → List ℕ };
+
+    /// The record of values, which are one at least.
+    ghost whole: { List Assigned → List ℕ };
+
+    /// Writes the text of a number from a place on, and answers where it ends. None where there is no room.
+    fn write_number(number: Number, room: &mut [u8], at: usize) -> Option<usize>
+        requires { at ≤ length room.old }
+        ensures within { IfSome result (λ end. end ≤ length room.new) }
+        ensures written { IfSome result (λ end. take end room.new
+            ≡ take at room.old ++ text (datum_of_number number)) };
+
+    /// Writes what a text is written as, likewise.
+    fn write_text(bytes: &[u8], room: &mut [u8], at: usize) -> Option<usize>
+        requires { at ≤ length room.old }
+        ensures within { IfSome result (λ end. end ≤ length room.new) }
+        ensures written { IfSome result (λ end. take end room.new ≡ take at room.old ++ text (Bytes bytes.now)) };
+
+    /// Makes a record of the texts of values, which stand at the front of the room up to this place, and answers where
+    /// it ends. None where there is no room, or there is no value.
+    fn end_record(room: &mut [u8], end: usize) -> Option<usize>
+        requires { end ≤ length room.old }
+        ensures within { IfSome result (λ to. to ≤ length room.new) }
+        ensures ended { (values : List Assigned) → take end room.old ≡ texts_by text values
+            → IfSome result (λ to. take to room.new ≡ whole values) };
+}
+
+/// A run, or a directive of it, that has passed, and whose values are written.
+#[derive(Clone, Copy)]
+struct WrittenRun {
+    /// How many bytes it used.
+    used: usize,
+    /// Where the text of the values ends.
+    end: usize,
+}
+
+/// How a directive ends that took nothing yet, where it is seen at once to do so within the piece, the way that its row
+/// says. It is the first of so many directives of a format that are left.
+#[inline(always)]
+fn ended_at_once(
+    format: &ScanFormat,
+    left: usize,
+    directive: &Directive,
+    row: &Row,
+    piece: &[u8],
+) -> Option<Ended>
+    requires some { 0 < left }
+    requires within { left ≤ length format.now }
+    requires first { slice_get format.now (length format.now - left) ≡ Some directive.now }
+    requires row { row.now ≡ row_of directive.now }
+    ensures { (n : ℕ) → IfSome result (EndsAtOnce directive.now n piece.now) }
+{
+    let _directive = directive;
+    match row.way {
+        Way::Space => whole_space(piece),
+        Way::Byte => whole_byte(row.due, piece),
+        Way::Decimal => number_at_once(row, Base::Dec, piece),
+        Way::Hexadecimal => number_at_once(row, Base::Hex, piece),
+        Way::Text => text_at_once(row, piece),
+        Way::Until => until_at_once(row, piece),
+        Way::Members => members_at_once(row, format, left, piece),
+        Way::Characters => characters_at_once(row, piece),
+        Way::Another => None,
+    }
+}
+
+/// Writes, from a place on, what a directive gives that ends so within the piece, and answers where that ends. None
+/// where the directive fails, where it gives a float, or where there is no room.
+#[inline(always)]
+fn write_given<W: ValueWriter>(
+    ended: Ended,
+    piece: &[u8],
+    room: &mut [u8],
+    at: usize,
+) -> Option<usize>
+    requires place { at ≤ length room.old }
+    requires number { IsNumberGiven ended.finished }
+    requires within { ended.before + ended.item ≤ length piece.now }
+    ensures within { IfSome result (λ end. end ≤ length room.new) }
+    ensures written { IfSome result (λ end. take end room.new ≡ take at room.old
+        ++ text_given W.text (end_of (take ended.item (drop ended.before piece.now)) ended.finished)) }
+    ensures passes { IfSome result (λ _. passed (end_of (take ended.item (drop ended.before piece.now)) ended.finished)
+        ≡ true) }
+{
+    match ended.finished {
+        Finished::Passes => Some(at),
+        Finished::Stores {
+            kind,
+            negative,
+            magnitude,
+            ..
+        } => {
+            let number = Number {
+                kind,
+                negative,
+                magnitude,
+            };
+            W::write_number(number, room, at)
+        }
+        Finished::Closes { .. } => {
+            let (_, rest) = piece.split_at(ended.before);
+            let (item, _) = rest.split_at(ended.item);
+            W::write_text(item, room, at)
+        }
+        Finished::Reads { .. } | Finished::Misses | Finished::Fails(_) => None,
+    }
+}
+
+/// Passes a directive that ends so within the piece, and writes what it gives. None where it isn't said to end, or
+/// nothing can be written.
+#[inline(always)]
+fn pass_so<W: ValueWriter>(
+    directive: &Directive,
+    ended: Option<Ended>,
+    piece: &[u8],
+    used: u32,
+    room: &mut [u8],
+    at: usize,
+) -> Option<WrittenRun>
+    requires place { at ≤ length room.old }
+    requires ends { IfSome ended (EndsAtOnce directive.now used piece.now) }
+    ensures passes { IsProper directive.now → IfSome result (λ run. PassesWriting W.text directive.now used piece.now
+        run.used (take at room.old) (take run.end room.new)) }
+    ensures within { IfSome result (λ run. run.used ≤ length piece.now) }
+    ensures place { IfSome result (λ run. run.end ≤ length room.new) }
+{
+    let _directive = directive;
+    let _used = used;
+    let ended = ended?;
+    let end = write_given::<W>(ended, piece, room, at)?;
+    Some(WrittenRun {
+        used: ended.before + ended.item,
+        end,
+    })
+}
+
+/// Reads a record at once that begins and passes within a piece of the input, and writes its values at the front of the
+/// room, in the order of their directives. None where the record isn't seen to be Done whatever follows the piece,
+/// where a directive of it has no way of its own, or where there is no room.
+#[inline(always)]
+fn write_values<W: ValueWriter>(
+    format: &ScanFormat,
+    limit: u32,
+    piece: &[u8],
+    room: &mut [u8],
+) -> Option<WrittenRun>
+    ensures run { IfSome result (λ run. IsWritten W.text format.now limit piece.now run.used (take run.end room.new)) }
+    ensures used { IfSome result (λ run. run.used ≤ length piece.now) }
+    ensures place { IfSome result (λ run. run.end ≤ length room.new) }
+{
+    let most = (limit as usize).min(piece.len());
+    let (front, _) = piece.split_at(most);
+    let directives = format.directives();
+    let rows = format.rows();
+    let mut rest = front;
+    let mut left = rows;
+    let mut end = 0;
+    while let Some(row) = left.first() {
+        let at = rows.len() - left.len();
+        let directive = &directives[at];
+        let used = (front.len() - rest.len()) as u32;
+        let ended = ended_at_once(format, left.len(), directive, row, rest);
+        let passed = pass_so::<W>(directive, ended, rest, used, room, end)?;
+        end = passed.end;
+        let (_, after) = rest.split_at(passed.used);
+        rest = after;
+        // cut last, so that the loop's test is that of the count just taken down
+        let (_, others) = left.split_at(1);
+        left = others;
+    }
+    Some(WrittenRun {
+        used: front.len() - rest.len(),
+        end,
+    })
+}
+
+/// As `write_values`, and makes a record of them. None, too, where the record has no byte.
+#[inline(always)]
+fn write_record<W: ValueWriter>(
+    format: &ScanFormat,
+    limit: u32,
+    piece: &[u8],
+    room: &mut [u8],
+) -> Option<WrittenRun>
+    ensures written { IfSome result (λ run. IsRecord W.whole format.now limit piece.now run.used
+        (take run.end room.new)) }
+    ensures place { IfSome result (λ run. run.end ≤ length room.new) }
+{
+    let run = write_values::<W>(format, limit, piece, room)?;
+    if run.used == 0 {
+        return None;
+    }
+    let end = W::end_record(room, run.end)?;
+    Some(WrittenRun {
+        used: run.used,
+        end,
+    })
+}
+
+/// As `write_record`, after the first `end` bytes of the room, which stay.
+#[inline(always)]
+fn write_after<W: ValueWriter>(
+    format: &ScanFormat,
+    limit: u32,
+    piece: &[u8],
+    room: &mut [u8],
+    end: usize,
+) -> Option<WrittenRun>
+    requires { end ≤ length room.old }
+    ensures written { IfSome result (λ run. (bytes : List ℕ)
+        × IsRecord W.whole format.now limit piece.now run.used bytes
+        × (take (end + run.end) room.new ≡ take end room.old ++ bytes)) }
+    ensures place { IfSome result (λ run. end + run.end ≤ length room.new) }
+    ensures before { take end room.new ≡ take end room.old }
+{
+    write_record::<W>(format, limit, piece, &mut room[end..])
+}
+
+/// Runs that have passed one after the other, and whose records are written.
+#[derive(Clone, Copy, Debug, PartialEq, Eq)]
+pub struct WrittenRuns {
+    /// How many they are.
+    pub records: u32,
+    /// How many bytes they used.
+    pub used: usize,
+    /// Where the last record ends.
+    pub end: usize,
+}
+
+/// Reads records at once, one after the other, as long as each begins and passes within what those before it left of a
+/// piece of the input, and writes them into room that is lent for them: at most so many. What it answers is the result
+/// of these runs on every input that begins with the piece, with every ending; each consumes one byte at least and at
+/// most `limit` bytes.
+///
+/// It stops before a record that isn't seen to be Done whatever follows the piece, that has a directive without a way
+/// of its own, or for which there is no room. Of that record it says nothing, and what the room holds after the last
+/// one may be anything.
+#[inline(never)]
+pub fn write_runs<W: ValueWriter>(
+    format: &ScanFormat,
+    limit: u32,
+    piece: &[u8],
+    room: &mut [u8],
+    most: u32,
+) -> WrittenRuns
+    ensures runs { AreRecords W.whole format.now limit piece.now result.records result.used (take result.end room.new) }
+    ensures most { result.records ≤ most }
+    ensures used { result.used ≤ length piece.now }
+    ensures place { result.end ≤ length room.new }
+{
+    let mut rest = piece;
+    let mut end = 0;
+    let mut records = 0;
+    while records < most {
+        let Some(run) = write_after::<W>(format, limit, rest, room, end) else {
+            break;
+        };
+        let (_, after) = rest.split_at(run.used);
+        rest = after;
+        end += run.end;
+        records += 1;
+    }
+    WrittenRuns {
+        records,
+        used: piece.len() - rest.len(),
+        end,
+    }
+}
+
+/// Whether `write_runs` can write the values of the format, and in the order of their slots: each directive has a way
+/// of its own, and no slot comes before one with a lower number.
+pub fn may_write(format: &ScanFormat) -> bool
+    ensures { (result ≡ true) ↔ MayBeWritten format.now }
+{
+    // What this has for each format: it has few destinations.
+    let _ = format.destinations();
+    let mut next = 1;
+    for row in format.rows() {
+        if let Way::Another = row.way {
+            return false;
+        }
+        if let Some(slot) = row.slot {
+            if slot != next {
+                return false;
+            }
+            next = slot.saturating_add(1);
+        }
+    }
+    true
+}
