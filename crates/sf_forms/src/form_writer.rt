@@ -73,6 +73,13 @@ impl FormWriter {
         }
     }
 
+    /// The form.
+    pub fn form(&self) -> OutputForm
+        ensures { result ≡ self.now }
+    {
+        self.form
+    }
+
     /// As `write`, where the sink doesn't have the record written in place. It is a call of its own, with a report of
     /// its own, so that records in place don't pay for it.
     #[inline(never)]

@@ -21,4 +21,4 @@ pub use form_writer::{FormWriter, RecordFault};
 pub use heads::TAG_NAME;
 pub use line::push_record;
 pub use output::write_whole;
-pub use quote::push_quoted;
+pub use quote::{push_quoted, write_between};

@@ -212,7 +212,7 @@ fn write_long(bytes: &[u8], buf: &mut [u8], at: usize) -> Option<usize>
 /// Writes the bytes between quotes from a place on, and answers where they end. None where there is no room. Most texts
 /// are short: they are written as they are, and only what follows the first byte that isn't plain is written anew.
 #[inline(always)]
-pub(crate) fn write_between(bytes: &[u8], buf: &mut [u8], at: usize) -> Option<usize>
+pub fn write_between(bytes: &[u8], buf: &mut [u8], at: usize) -> Option<usize>
     requires { at + 21 ≤ length buf.old }
     ensures within { IfSome result (λ end. end ≤ length buf.new) }
     ensures written { IfSome result (λ end. take end buf.new ≡ take at buf.old ++ quoted bytes.now) }

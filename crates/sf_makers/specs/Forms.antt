@@ -1,7 +1,8 @@
 -- What a scan writes of each report: its record, in a form.
-use Rattle.std.specs.Prelude.{ℕ, true, List, length}
+use Rattle.std.specs.Prelude.{◌≡◌, ℕ, true, if◌then◌else◌, List, length, Option, Some, None}
 use Rattle.sf_format.specs.declared.directive.Directive.{Directive}
 use Rattle.sf_format.specs.Proper.{destinations_of}
+use Rattle.sf_report.specs.Runs.{RunReport}
 use Rattle.sf_forms.specs.declared.form.OutputForm.{OutputForm}
 pub use Rattle.sf_forms.specs.Forms.{record_text, row_text}
 pub use Rattle.sf_forms.specs.Heads.{Heading, bare, headed_text, header_text}
@@ -19,3 +20,12 @@ scanning ds = record { fits = λ r. true; text = line_of (length (destinations_o
 -- the record of the values under this heading, by the format with this number
 abbrev pub writing_under : Heading → ℕ → List Directive → Work
 writing_under h number ds = record { fits = λ r. true; text = headed_text h number (length (destinations_of ds)) }
+
+-- what is made of the report is its record in this form
+pub record IsBare (form : OutputForm) (w : Work) (ds : List Directive) (report : RunReport) : Type 0 where
+  pub fits : w.fits report ≡ true
+  pub text : w.text report ≡ record_text form (length (destinations_of ds)) report
+
+-- the form of records that have no heading
+abbrev pub bare_form_of : Heading → Option OutputForm
+bare_form_of h = if h.tagged then None else (elim h.names [ None ↦ Some h.form | Some names ↦ None ])

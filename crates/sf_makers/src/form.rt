@@ -1,8 +1,10 @@
 //! The records of reports, in a form.
-ghost use Rattle.std.specs.Prelude.{◌≡◌, ℕ, List, Option, refl, true, if◌then◌else◌};
+ghost use Rattle.std.specs.Prelude.{◌≡◌, ℕ, List, Option, IfSome, refl, true, if◌then◌else◌};
+ghost use Rattle.sf_format.specs.declared.directive.Directive.{Directive};
+ghost use Rattle.sf_report.specs.Runs.{RunReport};
 ghost use Rattle.sf_forms.specs.Written.{WritesText, is_sink_fault};
 ghost use Rattle.sf_print.specs.Sinks.{counted_on};
-ghost use Rattle.sf_makers.specs.Forms.{bare, header_text, headed_text, writing_under};
+ghost use Rattle.sf_makers.specs.Forms.{IsBare, bare, bare_form_of, header_text, headed_text, writing_under};
 ghost use Rattle.sf_makers.specs.Works.{Writes, sink_failed};
 
 use crate::maker::{Maker, Unwritten};
@@ -131,6 +133,17 @@ impl Maker for FormMaker<'_> {
             return as_made(self.write_headed(to, number as u64, report.copied(), destinations));
         }
         as_made(self.writer.write(to, report, destinations))
+    }
+
+    fn bare_form(&self) -> Option<OutputForm>
+        ensures form { result ≡ bare_form_of self.now }
+        ensures bare { IfSome result (λ form. (number : ℕ) (format : List Directive) (report : RunReport)
+            → IsBare form (writing_under self.now number format) format report) }
+    {
+        if self.tagged || self.names.is_some() {
+            return None;
+        }
+        Some(self.writer.form())
     }
 
     ghost unmet = { λ heading number ds report met. record { fits = refl; text = refl } };

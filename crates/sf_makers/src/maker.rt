@@ -1,12 +1,14 @@
 //! What is written of a report, or why not.
-ghost use Rattle.std.specs.Prelude.{◌≡◌, ℕ, List, Option, if◌then◌else◌};
+ghost use Rattle.std.specs.Prelude.{◌≡◌, ℕ, List, Option, IfSome, if◌then◌else◌};
 ghost use Rattle.sf_format.specs.declared.directive.Directive.{Directive};
 ghost use Rattle.sf_print.specs.Sinks.{counted_on};
 ghost use Rattle.sf_report.specs.Runs.{RunReport};
 ghost use Rattle.sf_report.specs.declared.outcome.Ending.{Ending};
+ghost use Rattle.sf_makers.specs.Forms.{IsBare};
 ghost use Rattle.sf_makers.specs.Works.{Makes, SameWithMet, Work, sink_failed};
 
 use sf_format::ScanFormat;
+use sf_forms::OutputForm;
 use sf_print::Sink;
 use sf_report::Report;
 use sf_store::Store;
@@ -45,6 +47,15 @@ pub trait Maker {
             result }
         ensures failures { K.failures to.new
             ≡ (if sink_failed result then counted_on (K.failures to.old) else K.failures to.old) };
+
+    /// The form, where all that it makes of any report is its record in a form, without a heading. Such a record may be
+    /// written without the maker.
+    fn bare_form(&self) -> Option<OutputForm>
+        ensures { IfSome result (λ form. (number : ℕ) (format : List Directive) (report : RunReport)
+            → IsBare form (work self.now number format) format report) }
+    {
+        None
+    }
 
     // It makes the same whatever the run met.
     ghost unmet: { (maker : Self) (number : ℕ) (format : List Directive) (report : RunReport)
