@@ -1,6 +1,7 @@
 -- The loop over the records of a source: how it goes on, and what holds where it stops.
 use Rattle.std.proofs.Common.{◌≡◌, ℕ, ◌+◌, ◌<◌, ◌≤◌, Bool, true, false, cond, List, [], ◌∷◌, ◌++◌, length, take, drop, Option, Some, ◌⊎◌}
 use Rattle.std.proofs.Common.{inl, inr, refl, sym, ap, subst, ◌∙◌, arith, append_assoc, append-nil, length-append, true≢false}
+use Rattle.std.proofs.Common.{None}
 use Rattle.std.proofs.lemmas.List.{take-append-drop, length-take-le}
 use Rattle.std.proofs.lemmas.Grind.{flat_map-append}
 use Rattle.std.proofs.Math.Seq.{take-append-add, drop-append-add, drop-append_seam}
@@ -11,6 +12,7 @@ use Rattle.sf_format.specs.Proper.{AreProper}
 use Rattle.sf_format.specs.Widths.{width_sum}
 use Rattle.sf_run.specs.outcome.Ending.{Ending}
 use Rattle.sf_run.specs.outcome.Ending.TheVariants.{End, Fault}
+use Rattle.sf_run.specs.outcome.Status.TheVariants.{Done}
 use Rattle.sf_run.specs.Runs.{RunReport}
 use Rattle.sf_run.specs.Limits.{RunWithin, RunTold}
 use Rattle.sf_run.specs.Stopping.{is_memory_status}
@@ -73,6 +75,11 @@ pub same_ahead : {S : Type 0} {w : Work} {to_come : S → Option (List ℕ)} {ds
     (failures_of : S → ℕ) → new ≡ now → Going w to_come ds m t now was is failures (failures_of now.source) n
     → Going w to_come ds m t new was is failures (failures_of new.source) n
 same_ahead failures_of e g = rw e g
+
+-- the loop goes on after a run that is Done, met nothing and used a byte, and whose record fits
+pub plain_goes : (w : Work) (ds : List Directive) (r : RunReport) → w.fits r ≡ true → r.status ≡ Done → r.met ≡ None → 0 < r.used
+    → turn_in w ds r ≡ Goes
+plain_goes w ds r fits done met some = grind arith
 
 -- a scan whose report is known by another name
 pub scan_as : {S : Type 0} {to_come : S → Option (List ℕ)} {ds : List Directive} {m : ℕ} {t : List ℕ} {old new : Ahead S}
@@ -291,6 +298,11 @@ module _ {S : Type 0} {w : Work} {to_come : S → Option (List ℕ)} {ds : List 
               ∙ sym (flat_map-append w.text g.front (r ∷ []))) (Appends-then _ _ _ _ _ g.appends wrote_is);
           no_failure = count ∙ rw f g.no_failure;
         }
+
+    pub next_front : (wrote : Option (List ℕ)) (goes : turn_in w ds r ≡ Goes) (wrote_is : Appends is wrote (w.text r))
+        → (next wrote goes wrote_is).front ≡ g.front ++ r ∷ []
+    unfolding next
+    next_front wrote goes wrote_is = refl
 
     -- where the storing of a byte was refused, the source has not failed
     refused_by : (b : Bool) → is_fault r.met ≡ b → (at : Reached b) → is_memory_status r.status ≡ true

@@ -10,6 +10,7 @@ pub mod Forms
 pub mod Judging
 pub mod Laws
 pub mod Lines
+pub mod Plain
 pub mod ReadingBack
 pub mod Records
 pub mod Texts

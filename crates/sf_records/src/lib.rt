@@ -6,6 +6,7 @@ mod copy;
 mod copy_maker;
 mod end;
 pub mod laws;
+mod plain;
 mod records;
 mod scan;
 mod turn;

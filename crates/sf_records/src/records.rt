@@ -2,20 +2,26 @@
 ghost use Rattle.std.specs.Prelude.{◌≡◌, ◌≢◌, ◌<◌, ◌≤◌, ℕ, List, Some, None, true, if◌then◌else◌, IfOk, IfErr, IfSome};
 ghost use Rattle.std.specs.Prelude.{MatchOption};
 ghost use Rattle.std.specs.Result.{result_err};
+ghost use Rattle.sf_format.specs.Proper.{AreInOrder};
+ghost use Rattle.sf_forms.specs.declared.form.OutputForm.TheVariants.{Plain};
+ghost use Rattle.sf_makers.specs.Forms.{IsBare};
 ghost use Rattle.sf_print.specs.Sinks.{counted_on};
 ghost use Rattle.sf_read.specs.Ahead.{input_of};
 ghost use Rattle.sf_records.specs.Judging.{Judges, fault_by, fault_of, is_write};
+ghost use Rattle.sf_run.specs.Runs.{RunReport};
 ghost use Rattle.sf_run.specs.outcome.Status.TheVariants as Status;
 ghost use Rattle.sf_records.specs.Records.{Loops, end_by, ended, status_by};
 ghost use Rattle.sf_records.specs.Works.{turn_in};
 
 use crate::end::{ToolEnd, ToolFault, ended_by};
+use crate::plain::write_plain;
 use crate::turn::{Turn, next_turn};
 use sf_format::ScanFormat;
+use sf_forms::OutputForm;
 use sf_makers::{Maker, Unwritten};
 use sf_print::Sink;
 use sf_read::{Lookahead, Source, fscan_held, fscan_over};
-use sf_run::Report;
+use sf_run::{Report, may_write};
 use sf_store::{HeapStore, Store};
 use std::alloc::Global;
 
@@ -129,6 +135,16 @@ fn write_held<M: Maker, K: Sink, T: Store>(
     }
 }
 
+/// Whether the records of the format may be written as they are read: they are in the plain form, and their values come
+/// in the order of their slots.
+fn is_plain<M: Maker>(maker: &M, format: &ScanFormat) -> bool
+    ensures form { result ≡ true → (number : ℕ) (report : RunReport)
+        → IsBare Plain (M.work maker.now number format.now) format.now report }
+    ensures order { result ≡ true → AreInOrder format.now }
+{
+    matches!(maker.bare_form(), Some(OutputForm::Plain)) && may_write(format)
+}
+
 /// Scans record after record of what the lookahead holds and its source gives, by runs of at most `limit` bytes, and
 /// has each written by a maker, to which the format has the number 1. It ends cleanly where fscanf would return EOF at
 /// the end of the input (C11 7.21.6.2p16); else it reports why, and the records before stand. What the runs did not use
@@ -156,27 +172,33 @@ pub fn run_records<M: Maker, S: Source, K: Sink, const N: usize>(
     let Ok(mut store) = HeapStore::new(alloc, format.width_sum().unwrap_or(TEXT_BYTES)) else {
         return ended_by(0, ToolFault::Memory);
     };
-    for records in 0..MOST_RECORDS {
+    let plain = is_plain(maker, format);
+    let mut records = 0;
+    'records: loop {
+        let passed = records + write_plain(plain, from, to, format, limit, MOST_RECORDS - records);
+        if passed == MOST_RECORDS {
+            return ended_by(MOST_RECORDS, ToolFault::TooMany);
+        }
+        records = passed + 1;
         if let Some(outcome) = fscan_held(&mut store, from, format, limit) {
             let report = Report::new(outcome, &store);
             if outcome.used > 0 {
-                match write_held(maker, to, format, &report, records) {
+                match write_held(maker, to, format, &report, passed) {
                     Ok(()) => continue,
-                    Err(fault) => return ended_by(records, fault),
+                    Err(fault) => return ended_by(passed, fault),
                 }
             }
-            if let Some(end) = judge(maker, to, format, &report, records) {
+            if let Some(end) = judge(maker, to, format, &report, passed) {
                 return end;
             }
             continue;
         }
         let Ok(scanned) = fscan_over(alloc, store, from, format, limit) else {
-            return ended_by(records, ToolFault::Memory);
+            return ended_by(passed, ToolFault::Memory);
         };
-        if let Some(end) = judge(maker, to, format, &scanned.report(), records) {
+        if let Some(end) = judge(maker, to, format, &scanned.report(), passed) {
             return end;
         }
         store = scanned.into_store();
     }
-    ended_by(MOST_RECORDS, ToolFault::TooMany)
 }

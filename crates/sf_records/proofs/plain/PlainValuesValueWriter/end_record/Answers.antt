@@ -1,0 +1,8 @@
+use Rattle.std.proofs.Common.{arith}
+use Rattle.sf_records.proofs.PlainTexts.{plain_ended}
+use Rattle.sf_records.proofs.plain.PlainValuesValueWriter.end_record.Goals as goal
+
+pub returns-clause-ended : goal.returns-clause-ended
+returns-clause-ended c values texts =
+    plain_ended values c.args.room.now c.end_line.new.room c.args.end (omega (arith, c.if-end-eq0.false)) c.requires texts
+    c.end_line.ensures
