@@ -3,7 +3,7 @@ use Rattle.std.proofs.Common.{◌≡◌, ℕ, zero, suc, ◌+◌, ◌-◌, ◌<�
 use Rattle.std.proofs.Common.{eqb, length, take, drop, replicate, set, length-set, append_assoc, refl, sym, ap, ◌∙◌}
 use Rattle.std.proofs.Common.{arith, true≢false, Option, Some, None, IfSome}
 use Rattle.std.proofs.lemmas.List.{take-take, take_all, take_at, take_more_set, take-append-drop, length-take, length-take-le, length-drop}
-use Rattle.std.proofs.lemmas.List.{length-append, drop-replicate}
+use Rattle.std.proofs.lemmas.List.{drop-take, length-append, drop-replicate}
 use Rattle.std.proofs.lemmas.List.Folds.{list_all-append}
 use Rattle.std.proofs.lemmas.Bool.{eqb-true, eq-eqb}
 use Rattle.std.proofs.lemmas.Simd.{leading_from_mask_l}
@@ -255,6 +255,16 @@ pub rest_written_if : (r : Option ℕ) (buf begun new xs : List ℕ) (at plain :
 rest_written_if None buf begun new xs at plain low within count front is = tt
 rest_written_if (Some end) buf begun new xs at plain low within count front is =
     rest_written buf begun new xs at plain end low within count front is
+
+-- the end of a front of a piece, by the piece
+pub cut_rest : (piece : List ℕ) (count plain : ℕ) → count ≤ length piece → plain ≤ count
+    → slice_range piece plain count ≡ slice_range (take count piece) plain (length (take count piece))
+cut_rest piece count plain within low =
+    let xs : List ℕ = take count piece in
+    let long : length xs ≡ count = length-take-le count piece within in
+    let sum : plain + (count - plain) ≡ count = omega (arith, low) in
+    sym (drop-take plain (count - plain) piece) ∙ ap (λ (k : ℕ). drop plain (take k piece)) sum
+    ∙ sym (take_all (length xs - plain) (drop plain xs) (omega (arith, length-drop plain xs)))
 
 -- how long the rest is
 pub rest_length : (xs : List ℕ) (plain : ℕ) → plain ≤ length xs → plain ≡ prefix_len is_plain xs

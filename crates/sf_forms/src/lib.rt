@@ -21,4 +21,5 @@ pub use form_writer::{FormWriter, RecordFault};
 pub use heads::TAG_NAME;
 pub use line::push_record;
 pub use output::write_whole;
-pub use quote::{push_quoted, write_between};
+pub use quote::{push_quoted, write_front_between};
+pub use real::write_real;

@@ -51,7 +51,7 @@ pub(crate) fn push_real(
 
 /// Writes a float from a place on, and answers where its text ends. None where there is no room.
 #[inline(never)]
-pub(crate) fn write_real(form: OutputForm, real: Real, buf: &mut [u8], at: usize) -> Option<usize>
+pub fn write_real(form: OutputForm, real: Real, buf: &mut [u8], at: usize) -> Option<usize>
     requires { at < length buf.old }
     ensures within { IfSome result (λ end. end ≤ length buf.new) }
     ensures written { IfSome result (λ end. take end buf.new ≡ take at buf.old ++ real_text form real) }

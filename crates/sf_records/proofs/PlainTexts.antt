@@ -1,9 +1,9 @@
 -- The plain record of values that were written one after the other.
-use Rattle.std.proofs.Common.{◌≡◌, ℕ, ◌+◌, ◌-◌, ◌<◌, ◌≤◌, List, [], ◌∷◌, ◌++◌, length, map, take, Some}
-use Rattle.std.proofs.Common.{refl, sym, ap, ◌∙◌, arith, append_assoc, append-nil, length-append}
+use Rattle.std.proofs.Common.{◌≡◌, ◌≢◌, ℕ, ◌+◌, ◌-◌, ◌<◌, ◌≤◌, List, [], ◌∷◌, ◌++◌, length, map, take, Some}
+use Rattle.std.proofs.Common.{refl, sym, ap, subst, drop, ◌∙◌, arith, append_assoc, append-nil, length-append}
 use Rattle.std.proofs.lemmas.List.{length-map, length-take-le, take-take, take_at}
 use Rattle.std.specs.List.{flat_map, join_with_byte, range_with_len}
-use Rattle.sf_base.specs.Data.{Assigned, datum_at}
+use Rattle.sf_base.specs.Data.{Assigned, Datum, datum_at}
 use Rattle.sf_format.specs.declared.directive.Directive.{Directive}
 use Rattle.sf_format.specs.Proper.{AreInOrder, destinations_of, slots_of}
 use Rattle.sf_format.specs.Slots.{slots_from}
@@ -11,7 +11,7 @@ use Rattle.sf_forms.specs.declared.form.OutputForm.TheVariants.{Plain}
 use Rattle.sf_forms.specs.Forms.{given_text, record_text, value_text}
 use Rattle.sf_run.specs.Runs.{RunReport}
 use Rattle.sf_run.specs.Texts.{slots_in}
-use Rattle.sf_run.specs.Written.{texts_by}
+use Rattle.sf_run.specs.Written.{AreRecords, CanFollow, Part, records_by, texts_by, used_by}
 use Rattle.sf_records.specs.Plain.{plain_line}
 
 -- the texts with a blank after each are the texts joined, and a blank
@@ -95,3 +95,48 @@ plain_record ds report values order are slots =
     let many : n ≡ length values =
     sym (length-map (destinations_of ds) (λ s. s.0)) ∙ ap length (sym slots) ∙ length-map values (λ a. a.slot) in
     record_is n report values are many (slots ∙ order)
+
+-- where a text ends that was written from a place on
+pub ends_after : (old new text : List ℕ) (at end : ℕ) → at ≤ length old → end ≤ length new → take end new ≡ take at old ++ text
+    → end ≡ at + length text
+ends_after old new text at end low within is =
+    let whole : length (take end new) ≡ end = length-take-le end new within in
+    let front : length (take at old) ≡ at = length-take-le at old low in
+    omega (arith, ap length is, length-append (take at old) text, whole, front)
+
+-- a value at least has a text
+some_text : (values : List Assigned) → values ≢ [] → 0 < length (texts_by (λ datum. value_text Plain datum ++ 32 ∷ []) values)
+some_text [] some = absurd (some refl)
+some_text (v ∷ vs) some =
+    let text : Datum → List ℕ = λ datum. value_text Plain datum ++ 32 ∷ [] in
+    omega (
+      arith,
+      length-append (text v.datum) (texts_by text vs),
+      length-append (value_text Plain v.datum) (32 ∷ []),
+    )
+
+-- so a record of some value doesn't end where it begins
+pub ends_somewhere : (values : List Assigned) (room : List ℕ) (end : ℕ) → values ≢ []
+    → take end room ≡ texts_by (λ datum. value_text Plain datum ++ 32 ∷ []) values → end ≡ 0 → ⊥
+ends_somewhere values room end some is none =
+    let long = some_text values some in
+    let same = ap length is in
+    let nothing : length (take end room) ≡ 0 = ap (λ n. length (take n room)) none in
+    omega (arith, long, same, nothing)
+
+no_part : (ps : List Part) → length ps ≡ 0 → ps ≡ []
+no_part [] none = refl
+no_part (p ∷ ps) none = absurd (omega (arith, none))
+
+-- a record that may follow none in the room may follow at its start
+pub follows_at_first : (text : Datum → List ℕ) (spare : ℕ) (whole : List Assigned → List ℕ) (ds : List Directive) (m : ℕ)
+    (piece : List ℕ) (count used end : ℕ) (room new : List ℕ) → count ≡ 0 → AreRecords whole ds m piece count used (take end new)
+    → end ≤ length new → length new ≡ length room → CanFollow text spare ds m piece (length room)
+    → CanFollow text spare ds m (drop used piece) (length new - end)
+follows_at_first text spare whole ds m piece count used end room new none are within wide follows =
+    let parts : are.parts ≡ [] = no_part are.parts (sym are.count_is ∙ none) in
+    let nothing : used ≡ 0 = are.used_is ∙ ap used_by parts in
+    let empty : take end new ≡ [] = are.written ∙ ap (records_by whole) parts in
+    let start : end ≡ 0 = nothing_there new end within empty in
+    subst (λ n. CanFollow text spare ds m (drop n piece) (length new - end)) (sym nothing)
+    (subst (λ n. CanFollow text spare ds m piece n) {x = length room} {y = length new - end} (omega (arith, start, wide)) follows)

@@ -1,20 +1,21 @@
 //! Records in the plain form whose values are written as they are read.
-ghost use Rattle.std.specs.Prelude.{◌≡◌, ◌+◌, ◌-◌, ◌<◌, ◌≤◌, ◌∷◌, ◌++◌, ℕ, List, [], Some, IfSome, length, take, true};
+ghost use Rattle.std.specs.Prelude.{◌≡◌, ◌+◌, ◌-◌, ◌<◌, ◌≤◌, ◌∷◌, ◌++◌, ℕ, List, [], Some, IfSome, IsSome, length};
+ghost use Rattle.std.specs.Prelude.{take, true};
 ghost use Rattle.std.specs.Io.KnownBytes.{IsAtEnd};
 ghost use Rattle.sf_base.specs.Data.{datum_of_number};
 ghost use Rattle.sf_forms.specs.declared.form.OutputForm.TheVariants.{Plain};
 ghost use Rattle.sf_forms.specs.Forms.{value_text};
-ghost use Rattle.sf_run.specs.Written.{AreRecords};
+ghost use Rattle.sf_run.specs.Written.{AreRecords, CanFollow};
 ghost use Rattle.sf_records.specs.Plain.{WritesPlain, plain_line};
 
-use sf_base::Number;
+use sf_base::{Number, Real};
 use sf_format::ScanFormat;
-use sf_forms::write_between;
+use sf_forms::{OutputForm, write_front_between, write_real};
 use sf_print::{Sink, WritesInPlace, write_number};
 use sf_read::{Lookahead, Source};
 use sf_run::{ValueWriter, write_runs};
 
-/// The room for any number, and for a blank after it. A text takes no more beside its bytes, where all are plain.
+/// The room for any number, and for a blank after it; so much is asked for before a float or a text, too.
 const NUMBER_BYTES: usize = 22;
 
 /// Writes a value as the plain form has it, and a blank.
@@ -36,6 +37,7 @@ fn put_blank(room: &mut [u8], end: usize) -> usize
 fn write_blank(room: &mut [u8], end: usize) -> Option<usize>
     ensures within { IfSome result (λ next. next ≤ length room.new) }
     ensures written { IfSome result (λ next. take next room.new ≡ take end room.old ++ 32 ∷ []) }
+    ensures answers { end < length room.old → IsSome result }
 {
     if end >= room.len() {
         return None;
@@ -58,6 +60,8 @@ impl ValueWriter for PlainValues {
 
     ghost whole = { plain_line };
 
+    ghost spare = { 22 };
+
     #[inline(always)]
     fn write_number(number: Number, room: &mut [u8], at: usize) -> Option<usize> {
         if room.len() - at < NUMBER_BYTES {
@@ -68,11 +72,20 @@ impl ValueWriter for PlainValues {
     }
 
     #[inline(never)]
-    fn write_text(text: &[u8], room: &mut [u8], at: usize) -> Option<usize> {
-        if room.len() - at < text.len() + NUMBER_BYTES {
+    fn write_real(real: Real, room: &mut [u8], at: usize) -> Option<usize> {
+        if room.len() - at < NUMBER_BYTES {
             return None;
         }
-        let end = write_between(text, room, at)?;
+        let end = write_real(OutputForm::Plain, real, room, at)?;
+        write_blank(room, end)
+    }
+
+    #[inline(never)]
+    fn write_text(piece: &[u8], count: usize, room: &mut [u8], at: usize) -> Option<usize> {
+        if room.len() - at < NUMBER_BYTES {
+            return None;
+        }
+        let end = write_front_between(piece, count, room, at)?;
         write_blank(room, end)
     }
 
@@ -103,7 +116,8 @@ impl WritesInPlace for PlainRuns<'_> {
     ghost Writes = { λ old new text. (new.records ≤ old.most) × (new.used ≤ length old.piece.now)
         × AreRecords plain_line old.format.now old.limit old.piece.now new.records new.used text };
 
-    ghost Surely = { λ runs room. ⊥ };
+    ghost Surely = { λ runs room. (0 < runs.most) × CanFollow (λ datum. value_text Plain datum ++ 32 ∷ []) 22
+        runs.format.now runs.limit runs.piece.now room };
 
     #[inline(always)]
     fn write_in(&mut self, room: &mut [u8]) -> Option<usize> {

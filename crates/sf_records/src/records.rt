@@ -21,7 +21,7 @@ use sf_forms::OutputForm;
 use sf_makers::{Maker, Unwritten};
 use sf_print::Sink;
 use sf_read::{Lookahead, Source, fscan_held, fscan_over};
-use sf_run::{Report, may_write};
+use sf_run::{Report, is_in_order};
 use sf_store::{HeapStore, Store};
 use std::alloc::Global;
 
@@ -142,7 +142,7 @@ fn is_plain<M: Maker>(maker: &M, format: &ScanFormat) -> bool
         → IsBare Plain (M.work maker.now number format.now) format.now report }
     ensures order { result ≡ true → AreInOrder format.now }
 {
-    matches!(maker.bare_form(), Some(OutputForm::Plain)) && may_write(format)
+    matches!(maker.bare_form(), Some(OutputForm::Plain)) && is_in_order(format)
 }
 
 /// Scans record after record of what the lookahead holds and its source gives, by runs of at most `limit` bytes, and

@@ -30,4 +30,5 @@ pub mod TwoStores
 pub mod AtOnce
 pub mod Surely
 pub mod Writing
+pub mod Following
 pub mod Ordered

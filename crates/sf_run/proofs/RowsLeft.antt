@@ -1,5 +1,5 @@
 -- The rows of a format that are left of those of its directives.
-use Rattle.std.proofs.Common.{◌≡◌, ◌<◌, ◌≤◌, ◌+◌, ◌-◌, [], ◌∷◌, ◌∙◌, ℕ, List, length, map, drop, refl, sym, ap, None, Some, arith}
+use Rattle.std.proofs.Common.{◌≡◌, ◌<◌, ◌≤◌, ◌+◌, ◌-◌, [], ◌∷◌, ◌∙◌, ℕ, List, length, map, drop, refl, sym, ap, subst, None, Some, arith}
 use Rattle.std.proofs.lemmas.List.{drop-drop, drop-map, length-map}
 use Rattle.std.proofs.lemmas.Option.{none-some}
 use Rattle.std.specs.Prelude.{slice_get}
@@ -47,3 +47,10 @@ left_next rows left others row short ahead first =
     let next : length rows - length left + 1 ≡ length rows - length others = omega (arith, one, short) in
     let rest : others ≡ drop 1 left = ap (drop 1) (sym first) in
     rest ∙ ap (drop 1) ahead ∙ drop-drop 1 (length rows - length left) rows ∙ ap (λ n. drop n rows) next
+
+-- the directive of the first row that is left is that many from the end of the format
+pub from_end : (rows : List Row) (ds all : List Directive) (left : ℕ) (d : Directive) → rows ≡ map row_of all → ds ≡ all
+    → slice_get ds (length rows - left) ≡ Some d → slice_get all (length all - left) ≡ Some d
+from_end rows ds all left d is same at =
+    let many : length rows ≡ length all = ap length is ∙ length-map all row_of in
+    subst (λ n. slice_get all (n - left) ≡ Some d) many (subst (λ (l : List Directive). slice_get l (length rows - left) ≡ Some d) same at)

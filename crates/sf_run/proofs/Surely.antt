@@ -6,6 +6,7 @@ use Rattle.std.specs.List.{list_any}
 use Rattle.std.proofs.lemmas.Bool.{or_left, or_right}
 use Rattle.std.proofs.lemmas.List.{append-nil, take-append-drop}
 use Rattle.std.proofs.lemmas.List.Sums.{sum_by-append, sum_by-cons}
+use Rattle.sf_base.specs.Data.{Assigned, Datum}
 use Rattle.sf_store.specs.Kept.{Kept, texts_in, text_of, Opened, buffer_of}
 use Rattle.sf_format.specs.declared.directive.Directive.{Directive}
 use Rattle.sf_format.specs.Layout.{items_taken, takes_item}
@@ -19,12 +20,14 @@ use Rattle.sf_report.specs.Residual.{Part, Tally, by_end, counted, nothing_yet, 
 use Rattle.sf_report.specs.Runs.{RunReport, passed}
 use Rattle.sf_report.specs.Steps.{StepEnd, Passes, Stores, Misses, Fails}
 use Rattle.sf_run.specs.Tallies.{tally_of}
+use Rattle.sf_run.specs.Written.{text_given, texts_by}
 use Rattle.sf_run.proofs.AtOnce.{Counted, Going}
 use Rattle.sf_run.proofs.Moves.{drop_at}
 use Rattle.sf_report.proofs.Machines.{by_option, some_is}
 use Rattle.sf_report.proofs.Openness.{counted-used, uses_more}
 use Rattle.sf_run.proofs.Refusals.{never_done}
 use Rattle.sf_run.proofs.Slots.{texts-push}
+use Rattle.sf_run.proofs.Writing.{text_after}
 use Rattle.sf_report.proofs.Told.{run_told}
 
 -- ---- the texts of a run
@@ -36,6 +39,20 @@ texts_more : (ds : List Directive) (at : ℕ) (t : Tally) (x : List ℕ)
     → length (texts_in t.values) ≤ length (texts_in (run_of None ds at t x).values)
 texts_more [] at t x = omega arith
 texts_more (d ∷ ds) at t x = grind (arith, texts_counted, length-append, texts_more ds)
+
+-- ---- what is written of a run
+
+by_counted : (text : Datum → List ℕ) (d : Directive) (end : StepEnd) (t : Tally)
+    → texts_by text (counted d end t).values ≡ texts_by text t.values ++ text_given text end
+by_counted text d Passes t = sym (append-nil (texts_by text t.values))
+by_counted text d (Stores slot v) t = text_after text (Stores slot v) t.values
+by_counted text d Misses t = sym (append-nil (texts_by text t.values))
+by_counted text d (Fails status) t = sym (append-nil (texts_by text t.values))
+
+written_more : (text : Datum → List ℕ) (ds : List Directive) (at : ℕ) (t : Tally) (x : List ℕ)
+    → length (texts_by text t.values) ≤ length (texts_by text (run_of None ds at t x).values)
+written_more text [] at t x = omega arith
+written_more text (d ∷ ds) at t x = grind (arith, by_counted, length-append, written_more text ds)
 
 -- ---- what a run counts
 
@@ -72,6 +89,8 @@ record FirstOf (d : Directive) (t : Tally) (x : List ℕ) (r : RunReport) : Type
   pub passes : passed (one_from d Skipping t.used x).end ≡ true
   pub early : (one_from d Skipping t.used x).used ≤ r.used
   pub texts : length (texts_in t.values) + length (text_stored (one_from d Skipping t.used x).end) ≤ length (texts_in r.values)
+  pub written : (text : Datum → List ℕ)
+      → length (texts_by text t.values) + length (text_given text (one_from d Skipping t.used x).end) ≤ length (texts_by text r.values)
 
 -- the rest of a run after its first directive, which ends so
 abbrev behind : Directive → List Directive → ℕ → Tally → Part → StepEnd → RunReport
@@ -118,6 +137,17 @@ first_of d ds at t x done whole = by_case (one_from d Skipping t.used x).end ref
           passes = ap passed is ∙ ok;
           early = omega (arith, used', on, later);
           texts = omega (arith, texts', same', long, own, longer);
+          written = λ text.
+              let all : length (texts_by text (run_of None (d ∷ ds) at t x).values)
+              ≡ length (texts_by text (run_of None ds (at + 1) u p.left).values) =
+              ap (λ (r : RunReport). length (texts_by text r.values)) whole in
+              let with : length (texts_by text u.values) ≡ length (texts_by text t.values ++ text_given text end) =
+              ap length (by_counted text d end (with_used p.used t)) in
+              let both = length-append (texts_by text t.values) (text_given text end) in
+              let one : length (text_given text p.end) ≡ length (text_given text end) =
+              ap (λ (e : StepEnd). length (text_given text e)) is in
+              let more = written_more text ds (at + 1) u p.left in
+              omega (arith, all, with, both, one, more);
         }
 
     by_case : (end : StepEnd) → (one_from d Skipping t.used x).end ≡ end → FirstOf d t x (run_of None (d ∷ ds) at t x)
@@ -137,14 +167,21 @@ items_split : (ds : List Directive) (p : ℕ) → items_taken ds ≡ items_taken
 items_split ds p = ap items_taken (sym (take-append-drop p ds))
     ∙ sum_by-append (λ e. one_if (takes_item e)) (take p ds) (drop p ds)
 
+-- the next directive of a run with this report passes within the rest, and what is written of it and before is a part of what is
+-- written of the run
+pub record NextOf (d : Directive) (n : ℕ) (rest : List ℕ) (room : ℕ) (values : List Assigned) (report : RunReport) : Type 0 where
+  pub sure : IsSure d n rest room
+  pub written : (text : Datum → List ℕ) → length (texts_by text values)
+      + length (text_given text (one_from d Skipping n (rest ++ sure.after)).end) ≤ length (texts_by text report.values)
+
 -- where the run on the front and what follows is Done within the front, and no item of it is missing, the next directive passes within it
-pub sure_at : (ds : List Directive) (front rest : List ℕ) (p : ℕ) (d : Directive) (t : code.Tally) (kept : Kept) (capacity : ℕ)
+sure_at : (ds : List Directive) (front rest : List ℕ) (p : ℕ) (d : Directive) (t : code.Tally) (kept : Kept) (capacity : ℕ)
     → slice_get ds p ≡ Some d → Going ds front p t kept
     → (run_of None ds 1 nothing_yet (front ++ rest)).status ≡ Done → (run_of None ds 1 nothing_yet (front ++ rest)).used < length front
     → length (texts_in (run_of None ds 1 nothing_yet (front ++ rest)).values) ≤ capacity → capacity ≤ capacity_of kept
     → t.converted ≡ items_taken (take p ds)
     → (has_optional ds ≡ true → (run_of None ds 1 nothing_yet (front ++ rest)).converted ≡ items_taken ds)
-    → IsSure d t.used (drop t.used front) kept.room
+    → NextOf d t.used (drop t.used front) kept.room kept.values (run_of None ds 1 nothing_yet (front ++ rest))
 sure_at ds front rest p d t kept capacity at h done early fits roomy counts all =
     let x : List ℕ = drop t.used front ++ rest in
     let u : Tally = tally_of t kept.values in
@@ -164,10 +201,16 @@ sure_at ds front rest p d t kept capacity at h done early fits roomy counts all 
     let held : length (buffer_of kept) ≡ length kept.closed = ap (λ (o : Option Opened). length (kept.closed ++ text_of o)) h.opened
     ∙ ap length (append-nil kept.closed) in
     record {
-      after = rest;
-      passes = first.passes;
-      early = omega (arith, used', left, low, soon, early);
-      fits = omega (arith, texts', text, closed, held, fits, roomy);
+      sure = record {
+        after = rest;
+        passes = first.passes;
+        early = omega (arith, used', left, low, soon, early);
+        fits = omega (arith, texts', text, closed, held, fits, roomy);
+      };
+      written = λ text.
+          let all = ap (λ (r : RunReport). length (texts_by text r.values)) whole in
+          let part = first.written text in
+          omega (arith, all, part);
     }
 
 -- the run on the front of a piece that is Done before a byte of it is lacking
@@ -176,12 +219,12 @@ pub done_on : (ds : List Directive) → AreProper ds → (limit : ℕ) (piece : 
 done_on ds proper limit piece capacity h = grind (arith, run_told)
 
 -- the next directive of a run on a piece that is Done before a byte of it is lacking
-pub sure_next : (ds : List Directive) → AreProper ds → (limit most n : ℕ) (piece front rest : List ℕ) (p : ℕ) (d : Directive)
+pub next_of : (ds : List Directive) → AreProper ds → (limit most n : ℕ) (piece front rest : List ℕ) (p : ℕ) (d : Directive)
     (kept : Kept) (capacity : ℕ) → slice_get ds p ≡ Some d
     → front ≡ take most piece → length front ≡ most → most ≡ min limit (length piece) → Counted ds front rest p kept
     → n ≡ length front - length rest → capacity ≤ capacity_of kept
-    → IsDoneWithin ds limit piece capacity → IsSure d n rest kept.room
-sure_next ds proper limit most n piece front rest p d kept capacity at is long least h begins roomy done =
+    → (done : IsDoneWithin ds limit piece capacity) → NextOf d n rest kept.room kept.values done.report
+next_of ds proper limit most n piece front rest p d kept capacity at is long least h begins roomy done =
     let r : RunReport = record done.report { met = None } in
     let whole : front ++ drop most piece ≡ piece = ap (λ (y : List ℕ). y ++ drop most piece) is ∙ take-append-drop most piece in
     let same : run_of None ds 1 nothing_yet (front ++ drop most piece) ≡ r =
@@ -195,8 +238,22 @@ sure_next ds proper limit most n piece front rest p d kept capacity at is long l
     let within = h.going.within in
     let short = ap length h.rest ∙ length-drop h.tally.used front in
     let here : h.tally.used ≡ n = omega (arith, begins, short, within) in
-    let sure : IsSure d h.tally.used (drop h.tally.used front) kept.room =
+    let next : NextOf d h.tally.used (drop h.tally.used front) kept.room kept.values
+    (run_of None ds 1 nothing_yet (front ++ drop most piece)) =
     sure_at ds front (drop most piece) p d h.tally kept capacity at h.going (ap (λ (r : RunReport). r.status) same ∙ done.done)
     (omega (arith, used', early, low, long, least)) (omega (arith, texts', fits)) roomy h.converted
     (λ is. ap (λ (r : RunReport). r.converted) same ∙ done.whole is) in
-    subst (λ m. IsSure d m rest kept.room) here (subst (λ y. IsSure d h.tally.used y kept.room) (sym h.rest) sure)
+    let of : NextOf d n rest kept.room kept.values r =
+    subst (λ q. NextOf d n rest kept.room kept.values q) same (subst (λ m. NextOf d m rest kept.room kept.values
+    (run_of None ds 1 nothing_yet (front ++ drop most piece))) here
+    (subst (λ y. NextOf d h.tally.used y kept.room kept.values (run_of None ds 1 nothing_yet (front ++ drop most piece))) (sym h.rest)
+    next)) in
+    record { sure = of.sure; written = of.written }
+
+pub sure_next : (ds : List Directive) → AreProper ds → (limit most n : ℕ) (piece front rest : List ℕ) (p : ℕ) (d : Directive)
+    (kept : Kept) (capacity : ℕ) → slice_get ds p ≡ Some d
+    → front ≡ take most piece → length front ≡ most → most ≡ min limit (length piece) → Counted ds front rest p kept
+    → n ≡ length front - length rest → capacity ≤ capacity_of kept
+    → IsDoneWithin ds limit piece capacity → IsSure d n rest kept.room
+sure_next ds proper limit most n piece front rest p d kept capacity at is long least h begins roomy done =
+    (next_of ds proper limit most n piece front rest p d kept capacity at is long least h begins roomy done).sure

@@ -1,6 +1,6 @@
 -- Runs whose values are written as they are read.
 use Rattle.std.proofs.Common.{◌≡◌, ℕ, true, List, [], ◌∷◌, ◌++◌, ◌∙◌, ◌+◌, ◌-◌, ◌≤◌, false, arith, refl, sym, ap, subst, None, take}
-use Rattle.std.proofs.Common.{drop, length, length-drop, Option, Some}
+use Rattle.std.proofs.Common.{drop, length, Option, Some}
 use Rattle.std.proofs.lemmas.List.{append-nil, drop-drop, length-append, length-take-le, take-take}
 use Rattle.std.proofs.lemmas.Slice.{take-put_mid}
 use Rattle.std.proofs.Math.Seq.{take-append-add}
@@ -11,17 +11,20 @@ use Rattle.sf_base.specs.Data.{Assigned, Datum}
 use Rattle.sf_store.specs.Kept.{Kept, texts_in}
 use Rattle.sf_format.specs.declared.directive.Directive.{Directive}
 use Rattle.sf_format.specs.Proper.{IsProper}
+use Rattle.sf_report.specs.Machine.{Skipping}
+use Rattle.sf_report.specs.Residual.{Part as Part', one_from}
 use Rattle.sf_report.specs.Runs.{passed, stored}
 use Rattle.sf_report.specs.Steps.{StepEnd, Passes, Stores, Misses, Fails}
 use Rattle.sf_run.specs.declared.directive.Ended.{Ended}
 use Rattle.sf_run.specs.declared.directive.Finished.{Finished}
 use Rattle.sf_run.specs.Phases.{end_of, is_failing, is_missing, slot_given}
 use Rattle.sf_run.specs.Pieces.{EndsAtOnce}
-use Rattle.sf_run.specs.Quick.{slot_stored}
+use Rattle.sf_run.specs.Quick.{IsSure, slot_stored, text_stored}
 use Rattle.sf_run.specs.Quick as quick
 use Rattle.sf_run.specs.Tallies.{values_with}
 use Rattle.sf_run.specs.Texts.{slot_of}
-use Rattle.sf_run.specs.Written.{AreParts, AreRecords, IsPart, IsRecord, Part, PassesWriting, records_by, text_given, texts_by, used_by}
+use Rattle.sf_run.specs.Written.{AreParts, AreRecords, IsPart, IsRecord, IsWrittenSurely, Part, PassesWriting, records_by, text_given}
+use Rattle.sf_run.specs.Written.{texts_by, used_by}
 use Rattle.sf_run.specs.declared.written.WrittenRun.{WrittenRun}
 
 -- with what a directive gives that ends so
@@ -30,7 +33,7 @@ kept_with end k = record {
   values = values_with end k.values;
   closed = texts_in (values_with end k.values);
   opened = None;
-  room = 0;
+  room = k.room;
 }
 
 -- what a directive gave that passes so may be kept after any values
@@ -80,6 +83,25 @@ passes_writing text d n piece e old new proper is ok written = record {
   written = written;
 }
 
+-- one that passes surely, and ends so, has passed, and what is written of it fits
+pub surely_given : (text : Datum → List ℕ) (d : Directive) (n : ℕ) (piece : List ℕ) (room : ℕ) (e : Ended) → IsProper d
+    → EndsAtOnce d n piece e → IsWrittenSurely text d n piece room
+    → (passed (end_of (take e.item (drop e.before piece)) e.finished) ≡ true)
+    × (length (text_given text (end_of (take e.item (drop e.before piece)) e.finished)) ≤ room)
+surely_given text d n piece room e proper is sure =
+    let end : StepEnd = end_of (take e.item (drop e.before piece)) e.finished in
+    let same : (one_from d Skipping n (piece ++ sure.after)).end ≡ end =
+    ap (λ (p : Part'). p.end) ((is.answers proper).goes.takes sure.after) in
+    (ap passed (sym same) ∙ sure.passes, subst (λ (t : StepEnd). length (text_given text t) ≤ room) same sure.fits)
+
+-- a store with enough room may keep what is written of one that passes surely
+pub stored_surely : (text : Datum → List ℕ) (d : Directive) (n : ℕ) (piece : List ℕ) (room : ℕ) → IsWrittenSurely text d n piece room
+    → (capacity : ℕ) × IsSure d n piece capacity
+stored_surely text d n piece room sure = (
+  length (text_stored (one_from d Skipping n (piece ++ sure.after)).end),
+  record { after = sure.after; passes = sure.passes; early = sure.early; fits = omega arith },
+)
+
 -- ---- run after run
 
 parts_more : (ds : List Directive) (m : ℕ) (piece : List ℕ) (ps : List Part) (p : Part) → AreParts ds m piece ps
@@ -95,59 +117,30 @@ used_more : (ps : List Part) (p : Part) → used_by (ps ++ p ∷ []) ≡ used_by
 used_more [] p = omega arith
 used_more (q ∷ qs) p = let e = used_more qs p in omega (arith, e)
 
--- these runs have passed one after the other, and the rest is what they left; the bytes are their records
-pub record Runs (text : List Assigned → List ℕ) (ds : List Directive) (m : ℕ) (piece rest : List ℕ) (count : ℕ) (bytes : List ℕ) : Type 0
-  where
-    pub parts : List Part
-    pub are : AreParts ds m piece parts
-    pub count_is : count ≡ length parts
-    pub left : rest ≡ drop (used_by parts) piece
-    pub low : used_by parts ≤ length piece
-    pub written : bytes ≡ records_by text parts
-
-pub no_runs : (text : List Assigned → List ℕ) (ds : List Directive) (m : ℕ) (piece : List ℕ) → Runs text ds m piece piece 0 []
-no_runs text ds m piece = record {
+pub no_records : (text : List Assigned → List ℕ) (ds : List Directive) (m : ℕ) (piece : List ℕ) → AreRecords text ds m piece 0 0 []
+no_records text ds m piece = record {
   parts = [];
   are = tt;
   count_is = refl;
-  left = refl;
-  low = omega arith;
+  used_is = refl;
   written = refl;
 }
 
 -- with the next one
-pub runs_more : (text : List Assigned → List ℕ) (ds : List Directive) (m : ℕ) (piece rest after : List ℕ) (count used : ℕ)
-    (bytes new out : List ℕ) → Runs text ds m piece rest count bytes → IsRecord text ds m rest used new → after ≡ drop used rest
-    → out ≡ bytes ++ new → Runs text ds m piece after (count + 1) out
-runs_more text ds m piece rest after count used bytes new out h is on more =
-    let p : Part = record { used = used; values = is.values } in
-    let here : IsPart ds m (drop (used_by h.parts) piece) p = subst (λ y. IsPart ds m y p) h.left is.part in
-    let sum = used_more h.parts p in
-    let short : length (drop (used_by h.parts) piece) ≡ length piece - used_by h.parts = length-drop (used_by h.parts) piece in
-    let low = h.low in
-    let within = here.within in
+pub records_more : (text : List Assigned → List ℕ) (ds : List Directive) (m : ℕ) (piece : List ℕ) (count used one : ℕ)
+    (bytes new out : List ℕ) → AreRecords text ds m piece count used bytes → IsRecord text ds m (drop used piece) one new
+    → out ≡ bytes ++ new → AreRecords text ds m piece (count + 1) (used + one) out
+records_more text ds m piece count used one bytes new out h is more =
+    let p : Part = record { used = one; values = is.values } in
+    let here : IsPart ds m (drop (used_by h.parts) piece) p = subst (λ n. IsPart ds m (drop n piece) p) h.used_is is.part in
     record {
       parts = h.parts ++ p ∷ [];
       are = parts_more ds m piece h.parts p h.are here;
       count_is = ap (λ n. n + 1) h.count_is ∙ sym (length-append h.parts (p ∷ []));
-      left = on ∙ ap (drop used) h.left ∙ drop-drop used (used_by h.parts) piece ∙ ap (λ n. drop n piece) (sym sum);
-      low = omega (arith, sum, short, low, within);
+      used_is = ap (λ n. n + one) h.used_is ∙ sym (used_more h.parts p);
       written = more ∙ ap (λ (t : List ℕ). t ++ new) h.written ∙ ap (λ (t : List ℕ). records_by text h.parts ++ t) is.written
           ∙ sym (flat_map-append (λ (q : Part). text q.values) h.parts (p ∷ [])
           ∙ ap (λ (t : List ℕ). records_by text h.parts ++ t) (append-nil (text is.values)));
-    }
-
-pub runs_told : (text : List Assigned → List ℕ) (ds : List Directive) (m : ℕ) (piece rest : List ℕ) (count : ℕ) (bytes : List ℕ)
-    → Runs text ds m piece rest count bytes → AreRecords text ds m piece count (length piece - length rest) bytes
-runs_told text ds m piece rest count bytes h =
-    let short : length rest ≡ length piece - used_by h.parts = ap length h.left ∙ length-drop (used_by h.parts) piece in
-    let low = h.low in
-    record {
-      parts = h.parts;
-      are = h.are;
-      count_is = h.count_is;
-      used_is = omega (arith, short, low);
-      written = h.written;
     }
 
 -- a record that was written into what follows a front of the room

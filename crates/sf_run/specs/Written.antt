@@ -1,18 +1,17 @@
 -- Runs whose values are written as they are read.
 use Rattle.std.specs.Prelude.{◌≡◌, ◌≢◌, ℕ, ◌+◌, ◌<◌, ◌≤◌, true, List, [], ◌∷◌, ◌++◌, length, drop}
-use Rattle.std.specs.List.{AllByRecursion, flat_map}
+use Rattle.std.specs.List.{flat_map}
 use Rattle.sf_base.specs.Data.{Assigned, Datum}
 use Rattle.sf_format.specs.declared.directive.Directive.{Directive}
-use Rattle.sf_format.specs.declared.layout.Way.TheVariants.{Another}
-use Rattle.sf_format.specs.Layout.{row_of}
-use Rattle.sf_format.specs.Proper.{AreInOrder, slots_of}
+use Rattle.sf_format.specs.Proper.{slots_of}
 use Rattle.sf_report.specs.declared.outcome.Ending.{Ending}
 use Rattle.sf_report.specs.Limits.{RunWithin}
 use Rattle.sf_report.specs.Machine.{Skipping}
+use Rattle.sf_report.specs.Residual.{one_from}
 use Rattle.sf_report.specs.Runs.{passed}
 use Rattle.sf_report.specs.Steps.{StepEnd, Stores}
 use Rattle.sf_run.specs.Pieces.{EndsIn}
-use Rattle.sf_run.specs.Quick.{done_by, slot_stored}
+use Rattle.sf_run.specs.Quick.{IsDoneWithin, done_by, slot_stored}
 use Rattle.sf_run.specs.Texts.{slot_of, slots_in}
 
 -- what is written of a directive that ends so
@@ -83,7 +82,19 @@ pub record AreRecords (text : List Assigned → List ℕ) (ds : List Directive) 
   pub used_is : used ≡ used_by parts
   pub written : bytes ≡ records_by text parts
 
--- each directive has a way of its own, and the values come in the order of their slots
-pub record MayBeWritten (ds : List Directive) : Type 0 where
-  pub ways : AllByRecursion (λ d. (row_of d).way ≢ Another) ds
-  pub order : AreInOrder ds
+-- On the piece and what follows it, the directive passes before a byte of the piece is lacking, and what is written of it has so many
+-- bytes at most.
+pub record IsWrittenSurely (text : Datum → List ℕ) (d : Directive) (n : ℕ) (piece : List ℕ) (room : ℕ) : Type 0 where
+  pub after : List ℕ
+  pub passes : passed (one_from d Skipping n (piece ++ after)).end ≡ true
+  pub early : (one_from d Skipping n (piece ++ after)).used < n + length piece
+  pub fits : length (text_given text (one_from d Skipping n (piece ++ after)).end) ≤ room
+
+-- The run on the rest is Done before a byte of it, or one that the limit allows, is lacking, and no item of it is missing. It used a
+-- byte and has a value, and the room has the texts of its values, and so many bytes more.
+pub record CanFollow (text : Datum → List ℕ) (spare : ℕ) (ds : List Directive) (limit : ℕ) (rest : List ℕ) (room : ℕ) : Type 0 where
+  pub capacity : ℕ
+  pub run : IsDoneWithin ds limit rest capacity
+  pub some : 0 < run.report.used
+  pub valued : run.report.values ≢ []
+  pub fits : length (texts_by text run.report.values) + spare ≤ room

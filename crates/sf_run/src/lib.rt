@@ -14,4 +14,4 @@ pub use feeding::{Fed, FeedState, StartFault};
 pub use quick::{quick_run, quick_run_into};
 pub use scanner::{MOST_BYTES, Scanner};
 pub use sf_report::{Ending, Outcome, Report, Scanned, Status};
-pub use written::{ValueWriter, WrittenRuns, may_write, write_runs};
+pub use written::{ValueWriter, WrittenRuns, is_in_order, write_runs};

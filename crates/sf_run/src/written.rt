@@ -1,21 +1,24 @@
 //! Runs that begin and pass within a piece of the input, read at once, whose values are written as they are read.
-ghost use Rattle.std.specs.Prelude.{◌≡◌, ◌↔◌, ◌<◌, ◌≤◌, ◌+◌, ◌-◌, ◌++◌, ℕ, List, length, slice_get, take, drop, true};
-ghost use Rattle.std.specs.Prelude.{Some, IfSome};
-ghost use Rattle.sf_base.specs.Data.{Assigned, Bytes, Datum, datum_of_number};
+ghost use Rattle.std.specs.Prelude.{◌≡◌, ◌≢◌, ◌↔◌, ◌<◌, ◌≤◌, ◌+◌, ◌-◌, ◌++◌, ℕ, List, [], length, slice_get, take};
+ghost use Rattle.std.specs.Prelude.{drop, true, Some, IfSome, IsSome};
+ghost use Rattle.sf_base.specs.Data.{Assigned, Bytes, Datum, Real as RealOf, datum_of_number};
 ghost use Rattle.sf_format.specs.declared.directive.Directive.{Directive};
 ghost use Rattle.sf_format.specs.Layout.{row_of};
-ghost use Rattle.sf_format.specs.Proper.{IsProper};
+ghost use Rattle.sf_format.specs.Proper.{AreInOrder, IsProper};
 ghost use Rattle.sf_report.specs.Runs.{passed};
+ghost use Rattle.sf_report.specs.Steps.{StepEnd};
 ghost use Rattle.sf_run.specs.Phases.{IsNumberGiven, end_of};
 ghost use Rattle.sf_run.specs.Pieces.{EndsAtOnce};
-ghost use Rattle.sf_run.specs.Written.{AreRecords, IsRecord, IsWritten, MayBeWritten, PassesWriting};
+ghost use Rattle.sf_run.specs.Quick.{IsDoneWithin};
+ghost use Rattle.sf_run.specs.Written.{AreRecords, CanFollow, IsRecord, IsWritten, IsWrittenSurely, PassesWriting};
 ghost use Rattle.sf_run.specs.Written.{text_given, texts_by};
 
 use crate::directive::{
-    Ended, Finished, characters_at_once, members_at_once, number_at_once, text_at_once,
-    until_at_once, whole_byte, whole_space,
+    Ended, Finished, ReadReal, characters_at_once, ended_within, members_at_once, number_at_once,
+    real_at_once, text_at_once, until_at_once, whole_byte, whole_space,
 };
-use sf_base::Number;
+use crate::number::real_of;
+use sf_base::{Number, Real};
 use sf_format::{Base, Directive, Row, ScanFormat, Way};
 
 /// Writes the values of a run, each into room that is lent for it.
@@ -26,18 +29,33 @@ pub trait ValueWriter {
     /// The record of values, which are one at least.
     ghost whole: { List Assigned → List ℕ };
 
+    /// How many bytes of room are enough after what is written.
+    ghost spare: { ℕ };
+
     /// Writes the text of a number from a place on, and answers where it ends. None where there is no room.
     fn write_number(number: Number, room: &mut [u8], at: usize) -> Option<usize>
         requires { at ≤ length room.old }
         ensures within { IfSome result (λ end. end ≤ length room.new) }
         ensures written { IfSome result (λ end. take end room.new
-            ≡ take at room.old ++ text (datum_of_number number)) };
+            ≡ take at room.old ++ text (datum_of_number number)) }
+        ensures answers { at + length (text (datum_of_number number)) + spare ≤ length room.old → IsSome result };
 
-    /// Writes what a text is written as, likewise.
-    fn write_text(bytes: &[u8], room: &mut [u8], at: usize) -> Option<usize>
+    /// Writes the text of a float, likewise.
+    fn write_real(real: Real, room: &mut [u8], at: usize) -> Option<usize>
         requires { at ≤ length room.old }
         ensures within { IfSome result (λ end. end ≤ length room.new) }
-        ensures written { IfSome result (λ end. take end room.new ≡ take at room.old ++ text (Bytes bytes.now)) };
+        ensures written { IfSome result (λ end. take end room.new ≡ take at room.old ++ text (RealOf real)) }
+        ensures answers { at + length (text (RealOf real)) + spare ≤ length room.old → IsSome result };
+
+    /// Writes what a text is written as, likewise: it is the first `count` bytes of the piece.
+    fn write_text(piece: &[u8], count: usize, room: &mut [u8], at: usize) -> Option<usize>
+        requires of { count ≤ length piece.now }
+        requires place { at ≤ length room.old }
+        ensures within { IfSome result (λ end. end ≤ length room.new) }
+        ensures written { IfSome result (λ end. take end room.new
+            ≡ take at room.old ++ text (Bytes (take count piece.now))) }
+        ensures answers { at + length (text (Bytes (take count piece.now))) + spare ≤ length room.old
+            → IsSome result };
 
     /// Makes a record of the texts of values, which stand at the front of the room up to this place, and answers where
     /// it ends. None where there is no room, or there is no value.
@@ -45,7 +63,9 @@ pub trait ValueWriter {
         requires { end ≤ length room.old }
         ensures within { IfSome result (λ to. to ≤ length room.new) }
         ensures ended { (values : List Assigned) → take end room.old ≡ texts_by text values
-            → IfSome result (λ to. take to room.new ≡ whole values) };
+            → IfSome result (λ to. take to room.new ≡ whole values) }
+        ensures answers { (values : List Assigned) → values ≢ [] → take end room.old ≡ texts_by text values
+            → length (texts_by text values) + spare ≤ length room.old → IsSome result };
 }
 
 /// A run, or a directive of it, that has passed, and whose values are written.
@@ -88,7 +108,7 @@ fn ended_at_once(
 }
 
 /// Writes, from a place on, what a directive gives that ends so within the piece, and answers where that ends. None
-/// where the directive fails, where it gives a float, or where there is no room.
+/// where the directive fails, or where there is no room.
 #[inline(always)]
 fn write_given<W: ValueWriter>(
     ended: Ended,
@@ -104,6 +124,9 @@ fn write_given<W: ValueWriter>(
         ++ text_given W.text (end_of (take ended.item (drop ended.before piece.now)) ended.finished)) }
     ensures passes { IfSome result (λ _. passed (end_of (take ended.item (drop ended.before piece.now)) ended.finished)
         ≡ true) }
+    ensures answers { passed (end_of (take ended.item (drop ended.before piece.now)) ended.finished) ≡ true
+        → at + length (text_given W.text (end_of (take ended.item (drop ended.before piece.now)) ended.finished))
+        + W.spare ≤ length room.old → IsSome result }
 {
     match ended.finished {
         Finished::Passes => Some(at),
@@ -122,34 +145,39 @@ fn write_given<W: ValueWriter>(
         }
         Finished::Closes { .. } => {
             let (_, rest) = piece.split_at(ended.before);
-            let (item, _) = rest.split_at(ended.item);
-            W::write_text(item, room, at)
+            W::write_text(rest, ended.item, room, at)
         }
-        Finished::Reads { .. } | Finished::Misses | Finished::Fails(_) => None,
+        Finished::Reads { kind, .. } => {
+            let (_, rest) = piece.split_at(ended.before);
+            let (item, _) = rest.split_at(ended.item);
+            W::write_real(real_of(kind, item)?, room, at)
+        }
+        Finished::Misses | Finished::Fails(_) => None,
     }
 }
 
-/// Passes a directive that ends so within the piece, and writes what it gives. None where it isn't said to end, or
-/// nothing can be written.
+/// Passes a directive that ends so within the piece, and writes what it gives. None where it fails, or where there is
+/// no room.
 #[inline(always)]
 fn pass_so<W: ValueWriter>(
     directive: &Directive,
-    ended: Option<Ended>,
+    ended: Ended,
     piece: &[u8],
     used: u32,
     room: &mut [u8],
     at: usize,
 ) -> Option<WrittenRun>
     requires place { at ≤ length room.old }
-    requires ends { IfSome ended (EndsAtOnce directive.now used piece.now) }
+    requires ends { EndsAtOnce directive.now used piece.now ended }
     ensures passes { IsProper directive.now → IfSome result (λ run. PassesWriting W.text directive.now used piece.now
         run.used (take at room.old) (take run.end room.new)) }
     ensures within { IfSome result (λ run. run.used ≤ length piece.now) }
     ensures place { IfSome result (λ run. run.end ≤ length room.new) }
+    ensures sure { IsProper directive.now → (free : ℕ) → IsWrittenSurely W.text directive.now used piece.now free
+        → at + free + W.spare ≤ length room.old → IsSome result }
 {
     let _directive = directive;
     let _used = used;
-    let ended = ended?;
     let end = write_given::<W>(ended, piece, room, at)?;
     Some(WrittenRun {
         used: ended.before + ended.item,
@@ -157,9 +185,95 @@ fn pass_so<W: ValueWriter>(
     })
 }
 
+/// As `pass_so`, of a directive that is seen at once to give a float.
+#[inline(always)]
+fn pass_real<W: ValueWriter>(
+    directive: &Directive,
+    read: ReadReal,
+    piece: &[u8],
+    used: u32,
+    room: &mut [u8],
+    at: usize,
+) -> Option<WrittenRun>
+    requires place { at ≤ length room.old }
+    requires ends { EndsAtOnce directive.now used piece.now read.ended }
+    requires real { end_of (take read.ended.item (drop read.ended.before piece.now)) read.ended.finished
+        ≡ StepEnd.Stores read.slot (RealOf read.real) }
+    ensures passes { IsProper directive.now → IfSome result (λ run. PassesWriting W.text directive.now used piece.now
+        run.used (take at room.old) (take run.end room.new)) }
+    ensures within { IfSome result (λ run. run.used ≤ length piece.now) }
+    ensures place { IfSome result (λ run. run.end ≤ length room.new) }
+    ensures sure { IsProper directive.now → (free : ℕ) → IsWrittenSurely W.text directive.now used piece.now free
+        → at + free + W.spare ≤ length room.old → IsSome result }
+{
+    let _directive = directive;
+    let _piece = piece;
+    let _used = used;
+    let end = W::write_real(read.real, room, at)?;
+    Some(WrittenRun {
+        used: read.ended.before + read.ended.item,
+        end,
+    })
+}
+
+/// As `pass_so`, whichever directive it is. None only where it may go on after the piece, where it fails, or where
+/// there is no room.
+#[inline(always)]
+fn pass_whole<W: ValueWriter>(
+    directive: &Directive,
+    piece: &[u8],
+    used: u32,
+    room: &mut [u8],
+    at: usize,
+) -> Option<WrittenRun>
+    requires place { at ≤ length room.old }
+    ensures passes { IsProper directive.now → IfSome result (λ run. PassesWriting W.text directive.now used piece.now
+        run.used (take at room.old) (take run.end room.new)) }
+    ensures within { IfSome result (λ run. run.used ≤ length piece.now) }
+    ensures place { IfSome result (λ run. run.end ≤ length room.new) }
+    ensures sure { IsProper directive.now → (free : ℕ) → IsWrittenSurely W.text directive.now used piece.now free
+        → at + free + W.spare ≤ length room.old → IsSome result }
+{
+    if let Some(read) = real_at_once(directive, piece) {
+        return pass_real::<W>(directive, read, piece, used, room, at);
+    }
+    let ended = ended_within(directive, piece, used)?;
+    pass_so::<W>(directive, ended, piece, used, room, at)
+}
+
+/// As `pass_whole`, of the first of so many directives of a format that are left. It looks the directive up itself, so
+/// that a run by rows alone doesn't.
+#[cold]
+#[inline(never)]
+fn pass_later<W: ValueWriter>(
+    format: &ScanFormat,
+    left: usize,
+    piece: &[u8],
+    used: u32,
+    room: &mut [u8],
+    at: usize,
+) -> Option<WrittenRun>
+    requires some { 0 < left }
+    requires within { left ≤ length format.now }
+    requires place { at ≤ length room.old }
+    ensures passes { (d : Directive) → slice_get format.now (length format.now - left) ≡ Some d → IsProper d
+        → IfSome result (λ run. PassesWriting W.text d used piece.now run.used (take at room.old)
+        (take run.end room.new)) }
+    ensures within { IfSome result (λ run. run.used ≤ length piece.now) }
+    ensures place { IfSome result (λ run. run.end ≤ length room.new) }
+    ensures sure { (d : Directive) → slice_get format.now (length format.now - left) ≡ Some d → IsProper d
+        → (free : ℕ) → IsWrittenSurely W.text d used piece.now free → at + free + W.spare ≤ length room.old
+        → IsSome result }
+{
+    let directives = format.directives();
+    let index = directives.len() - left;
+    let directive = &directives[index];
+    pass_whole::<W>(directive, piece, used, room, at)
+}
+
 /// Reads a record at once that begins and passes within a piece of the input, and writes its values at the front of the
-/// room, in the order of their directives. None where the record isn't seen to be Done whatever follows the piece,
-/// where a directive of it has no way of its own, or where there is no room.
+/// room, in the order of their directives. None where the record isn't seen to be Done whatever follows the piece, or
+/// where there is no room.
 #[inline(always)]
 fn write_values<W: ValueWriter>(
     format: &ScanFormat,
@@ -170,6 +284,8 @@ fn write_values<W: ValueWriter>(
     ensures run { IfSome result (λ run. IsWritten W.text format.now limit piece.now run.used (take run.end room.new)) }
     ensures used { IfSome result (λ run. run.used ≤ length piece.now) }
     ensures place { IfSome result (λ run. run.end ≤ length room.new) }
+    ensures answers { (capacity : ℕ) (done : IsDoneWithin format.now limit piece.now capacity)
+        → length (texts_by W.text done.report.values) + W.spare ≤ length room.old → IsSome result }
 {
     let most = (limit as usize).min(piece.len());
     let (front, _) = piece.split_at(most);
@@ -182,8 +298,10 @@ fn write_values<W: ValueWriter>(
         let at = rows.len() - left.len();
         let directive = &directives[at];
         let used = (front.len() - rest.len()) as u32;
-        let ended = ended_at_once(format, left.len(), directive, row, rest);
-        let passed = pass_so::<W>(directive, ended, rest, used, room, end)?;
+        let passed = match ended_at_once(format, left.len(), directive, row, rest) {
+            Some(ended) => pass_so::<W>(directive, ended, rest, used, room, end)?,
+            None => pass_later::<W>(format, left.len(), rest, used, room, end)?,
+        };
         end = passed.end;
         let (_, after) = rest.split_at(passed.used);
         rest = after;
@@ -208,7 +326,10 @@ fn write_record<W: ValueWriter>(
     ensures written { IfSome result (λ run. IsRecord W.whole format.now limit piece.now run.used
         (take run.end room.new)) }
     ensures place { IfSome result (λ run. run.end ≤ length room.new) }
+    ensures answers { CanFollow W.text W.spare format.now limit piece.now (length room.old) → IsSome result }
 {
+    // What this has for each format: its directives are proper.
+    let _ = format.directives();
     let run = write_values::<W>(format, limit, piece, room)?;
     if run.used == 0 {
         return None;
@@ -235,6 +356,7 @@ fn write_after<W: ValueWriter>(
         × (take (end + run.end) room.new ≡ take end room.old ++ bytes)) }
     ensures place { IfSome result (λ run. end + run.end ≤ length room.new) }
     ensures before { take end room.new ≡ take end room.old }
+    ensures answers { CanFollow W.text W.spare format.now limit piece.now (length room.old - end) → IsSome result }
 {
     write_record::<W>(format, limit, piece, &mut room[end..])
 }
@@ -255,9 +377,9 @@ pub struct WrittenRuns {
 /// of these runs on every input that begins with the piece, with every ending; each consumes one byte at least and at
 /// most `limit` bytes.
 ///
-/// It stops before a record that isn't seen to be Done whatever follows the piece, that has a directive without a way
-/// of its own, or for which there is no room. Of that record it says nothing, and what the room holds after the last
-/// one may be anything.
+/// It stops before a record that isn't Done before a byte of the piece or of the limit is lacking, of which an item is
+/// missing, that has no byte or no value, or for which there is no room: before no other. Of that record it says
+/// nothing, and what the room holds after the last one may be anything.
 #[inline(never)]
 pub fn write_runs<W: ValueWriter>(
     format: &ScanFormat,
@@ -270,38 +392,34 @@ pub fn write_runs<W: ValueWriter>(
     ensures most { result.records ≤ most }
     ensures used { result.used ≤ length piece.now }
     ensures place { result.end ≤ length room.new }
+    ensures answers { result.records < most → CanFollow W.text W.spare format.now limit (drop result.used piece.now)
+        (length room.new - result.end) → ⊥ }
 {
-    let mut rest = piece;
-    let mut end = 0;
-    let mut records = 0;
-    while records < most {
-        let Some(run) = write_after::<W>(format, limit, rest, room, end) else {
-            break;
+    let mut runs = WrittenRuns {
+        records: 0,
+        used: 0,
+        end: 0,
+    };
+    while runs.records < most {
+        let (_, rest) = piece.split_at(runs.used);
+        let Some(run) = write_after::<W>(format, limit, rest, room, runs.end) else {
+            return runs;
         };
-        let (_, after) = rest.split_at(run.used);
-        rest = after;
-        end += run.end;
-        records += 1;
+        runs.records += 1;
+        runs.used += run.used;
+        runs.end += run.end;
     }
-    WrittenRuns {
-        records,
-        used: piece.len() - rest.len(),
-        end,
-    }
+    runs
 }
 
-/// Whether `write_runs` can write the values of the format, and in the order of their slots: each directive has a way
-/// of its own, and no slot comes before one with a lower number.
-pub fn may_write(format: &ScanFormat) -> bool
-    ensures { (result ≡ true) ↔ MayBeWritten format.now }
+/// Whether the values of the format come in the order of their slots, so that `write_runs` writes them in that order.
+pub fn is_in_order(format: &ScanFormat) -> bool
+    ensures { (result ≡ true) ↔ AreInOrder format.now }
 {
     // What this has for each format: it has few destinations.
     let _ = format.destinations();
     let mut next = 1;
     for row in format.rows() {
-        if let Way::Another = row.way {
-            return false;
-        }
         if let Some(slot) = row.slot {
             if slot != next {
                 return false;

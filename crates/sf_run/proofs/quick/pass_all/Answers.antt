@@ -16,18 +16,11 @@ use Rattle.sf_run.specs.Quick.{IsDoneWithin, IsSure, MayBeGiven, Passes, done_by
 use Rattle.sf_run.specs.Texts.{slot_of}
 use Rattle.sf_run.proofs.AtOnce.{Counted, counted_run, counting_on, free_at, nothing_counted, passes_as}
 use Rattle.sf_run.proofs.Moves.{proper_at}
-use Rattle.sf_run.proofs.RowsLeft.{as_many, first_left, left_next, nothing_left, opens, still_left}
+use Rattle.sf_run.proofs.RowsLeft.{as_many, first_left, from_end, left_next, nothing_left, opens, still_left}
 use Rattle.sf_run.proofs.Slots.{apart_from, placed_from}
 use Rattle.sf_run.proofs.Surely.{sure_next}
 use Rattle.sf_run.proofs.quick.pass_all.Goals as goal
 use Rattle.sf_run.proofs.quick.pass_all.Goals.{in-Some-pass, in-None+in_ok-taken-in-None}
-
--- the directive of the first row that is left is that many from the end of the format
-from_end : (rows : List Row) (ds all : List Directive) (left : ℕ) (d : Directive) → rows ≡ map row_of all → ds ≡ all
-    → slice_get ds (length rows - left) ≡ Some d → slice_get all (length all - left) ≡ Some d
-from_end rows ds all left d is same at =
-    let many : length rows ≡ length all = ap length is ∙ length-map all row_of in
-    subst (λ n. slice_get all (n - left) ≡ Some d) many (subst (λ (l : List Directive). slice_get l (length rows - left) ≡ Some d) same at)
 
 from_start : (rows : List Row) (ds all : List Directive) (left : ℕ) (d : Directive) → rows ≡ map row_of all → ds ≡ all
     → slice_get all (length all - left) ≡ Some d → slice_get ds (length rows - left) ≡ Some d

@@ -1,4 +1,4 @@
-use Rattle.std.proofs.Common.{◌≡◌, ◌-◌, ◌≤◌, drop, length, take}
+use Rattle.std.proofs.Common.{◌≡◌, ◌-◌, ◌≤◌, ℕ, drop, length, take}
 use Rattle.sf_store.specs.Kept.{Kept}
 use Rattle.sf_run.specs.Written.{texts_by}
 use Rattle.sf_run.proofs.AtOnce.{Counted}
@@ -10,8 +10,9 @@ invariant-loop-row g l = record {
   short : length l.left ≤ length l.rows;
   ahead : l.left ≡ drop (length l.rows - length l.left) l.rows;
   place : l.end ≤ length l.room;
-  counted : (kept : Kept) × Counted l.directives l.front l.rest (length l.rows - length l.left) kept
-      × (take l.end l.room ≡ texts_by g.W.ValueWriter.text kept.values);
+  low : length l.rest ≤ length l.front;
+  counted : (capacity : ℕ) → (kept : Kept) × Counted l.directives l.front l.rest (length l.rows - length l.left) kept
+      × (take l.end l.room ≡ texts_by g.W.ValueWriter.text kept.values) × (kept.room ≡ capacity);
 }
 
 abbrev pub decreases-loop-row : goal.decreases-loop-row
