@@ -12,12 +12,12 @@ import tempfile
 import program
 from answers import WRITE_FAULT, difference, shown
 
-# As much as is kept for one write (docs/FORMATS.md: blocks of 8 KiB).
-BLOCK = 8192
+# As much as is kept for one write (docs/DECISIONS.md 44).
+BLOCK = 32768
 
-NUMBERS = b"".join(b"%d\n" % it for it in range(6000))
-FAILED = b"sf: record 6001: matching failure at 1, used %d, assigned 0\n"
-MISSED = b"sf: line 6001: matching failure at 1, used 0, assigned 0\n"
+NUMBERS = b"".join(b"%d\n" % it for it in range(24000))
+FAILED = b"sf: record 24001: matching failure at 1, used %d, assigned 0\n"
+MISSED = b"sf: line 24001: matching failure at 1, used 0, assigned 0\n"
 
 # Calls with much output and with little: the words, the input, and what ample room gives.
 CALLS = [
@@ -28,8 +28,8 @@ CALLS = [
     ("lines, the last of them told", ["scan", "--lines", "--keep-going", "%d"], NUMBERS + b"x\n", (1, NUMBERS, MISSED)),
     ("copy", ["copy", "%d\\n", "%11d%*1[\\n]"], NUMBERS, (0, NUMBERS, b"")),
     ("copy that fails", ["copy", "%d\\n", "%11d%*1[\\n]"], NUMBERS + b"x", (1, NUMBERS, FAILED % 0)),
-    ("show", ["show", "a" * 3000], b"", (0, b"".join(b'%d byte "a"\n' % it for it in range(1, 3001)) + b"destinations 0, width sum 0\n", b"")),
-    ("print", ["print", "%30000d", "7"], b"", (0, b" " * 29999 + b"7", b"")),
+    ("show", ["show", "a" * 4000], b"", (0, b"".join(b'%d byte "a"\n' % it for it in range(1, 4001)) + b"destinations 0, width sum 0\n", b"")),
+    ("print", ["print", "%60000d", "7"], b"", (0, b" " * 59999 + b"7", b"")),
     ("a short print", ["print", "%d", "7"], b"", (0, b"7", b"")),
     ("check", ["check", "%d;", "%11d;"], b"", (0, b"accepted\n", b"")),
     ("check that refuses", ["check", "%d", "%11d"], b"", (1, b"refused: Q7 OpenEnd at 1\n", b"")),
@@ -144,7 +144,7 @@ def checks():
         yield f"{name}, output full", full(words, text, want)
         yield f"{name}, errors full", full_errors(words, text, want)
         yield f"{name}, both full", both_full(words, text, want)
-        for room in (0, 1, 7, 100, 4096, BLOCK - 1, BLOCK, BLOCK + 1, 3 * BLOCK, len(want[1]) - 1):
+        for room in (0, 1, 7, 100, 4096, 8192, 20000, BLOCK - 1, BLOCK, BLOCK + 1, 3 * BLOCK, len(want[1]) - 1):
             if 0 <= room < len(want[1]):
                 yield f"{name}, room for {room} bytes", limited(words, text, want, room)
     for words in (["--help"], ["help", "copy"], ["scan", "-h"], ["--version"]):

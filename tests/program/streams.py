@@ -199,8 +199,8 @@ class LinesThatAreTold(Streams):
 
 
 class Blocks(Streams):
-    # (what stands in front of the writer has 4000 bytes, what the writer holds back 8192; a line has three bytes more than its text)
-    LENGTHS = (1, 7, 13, 14, 29, 30, 3990, 3996, 3997, 3998, 4000, 7996, 7997, 8188, 8189, 8190, 8192, 12000, 20000)
+    # (what stands in front of the writer has 32,768 bytes, and 16,384 are read at once; a line has three bytes more than its text)
+    LENGTHS = (1, 7, 13, 14, 29, 30, 3997, 8192, 16380, 16383, 16384, 32743, 32744, 32745, 32746, 32764, 32765, 32766, 32768, 40000, 70000)
 
     def test_records_of_any_lengths_stand_in_order(self):
         for first in self.LENGTHS:
@@ -209,7 +209,7 @@ class Blocks(Streams):
             self.expect(0, out, b"", "scan", "%s", stdin=b"\n".join(texts))
 
     def test_records_that_just_fill_a_block(self):
-        for count in range(1330, 1340):
+        for count in range(5450, 5470):
             self.expect(1, b"7\n" * 3 * count, b"sf: record %d: matching failure at 1, used 1, assigned 0\n" % (3 * count + 1), "scan", "%d", stdin=b"7\n" * 3 * count + b"x")
 
 

@@ -12,7 +12,7 @@ use std::alloc::{AllocError, Global};
 use std::io::{self, Write};
 
 /// How many bytes the block has.
-const BLOCK_BYTES: usize = 8192;
+const BLOCK_BYTES: usize = 32_768;
 
 /// A writer, and in front of it a block that short texts are copied into without a call. What it took is known as far
 /// as the writer's contract knows its bytes.
@@ -74,7 +74,7 @@ impl<W: Write + Drop> BlockSink<W> {
     /// A sink that hands on blocks; its last bytes wait for a `flush`. Else there is no memory for it.
     pub fn in_blocks(alloc: Global, writer: W) -> Result<BlockSink<W>, AllocError>
         ensures contents { IfOk result (λ sink. taken_by sink ≡ W.contents writer) }
-        ensures room { IfOk result (λ sink. room_of sink ≡ 8192) }
+        ensures room { IfOk result (λ sink. room_of sink ≡ 32768) }
         ensures failures { IfOk result (λ sink. ⟦<BlockSink<W> as Sink>⟧.failures sink ≡ 0) }
         ensures flushed { IfOk result (λ sink. has_failed_flush sink ≡ false) }
     {
@@ -86,7 +86,7 @@ impl<W: Write + Drop> BlockSink<W> {
     pub fn open(alloc: Global, at_once: bool, writer: W) -> Result<BlockSink<W>, W>
         ensures contents { IfOk result (λ sink. taken_by sink ≡ W.contents writer) }
         ensures nothing { at_once ≡ true → IfOk result HoldsNothing }
-        ensures room { at_once ≡ false → IfOk result (λ sink. room_of sink ≡ 8192) }
+        ensures room { at_once ≡ false → IfOk result (λ sink. room_of sink ≡ 32768) }
         ensures failures { IfOk result (λ sink. ⟦<BlockSink<W> as Sink>⟧.failures sink ≡ 0) }
         ensures flushed { IfOk result (λ sink. has_failed_flush sink ≡ false) }
         ensures back { IfErr result (λ given. given ≡ writer) }

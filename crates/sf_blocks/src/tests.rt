@@ -127,11 +127,11 @@ fn short_texts_go_in_blocks(rt: HostRuntime) -> Result<(), Fail> {
     for &(most, before_failure) in &DEVICES {
         let device = Device::new(rt.alloc(), most, before_failure);
         let mut sink = BlockSink::in_blocks(rt.alloc(), device)?;
-        for _ in 0..3000u16 {
+        for _ in 0..12_000u16 {
             write_whole(&mut sink, b"record\n");
         }
         let _ = sink.flush();
-        let flushed = sink.flush().is_ok() && are_texts(&sink.writer().bytes, b"record\n", 3000);
+        let flushed = sink.flush().is_ok() && are_texts(&sink.writer().bytes, b"record\n", 12_000);
         assert!(rt; flushed, "at {most}, {before_failure}");
     }
     Ok(())
@@ -156,7 +156,7 @@ fn an_interrupted_block_goes_on(rt: HostRuntime) -> Result<(), Fail> {
 /// A text that is longer than all that is held back comes after the short ones before it.
 #[test]
 fn a_long_text_comes_behind(rt: HostRuntime) -> Result<(), Fail> {
-    let mut sink = BlockSink::in_blocks(rt.alloc(), Device::new(rt.alloc(), 9000, u64::MAX))?;
+    let mut sink = BlockSink::in_blocks(rt.alloc(), Device::new(rt.alloc(), 40_000, u64::MAX))?;
     let mut long = Vec::new(rt.alloc());
     for _ in 0..2000u16 {
         long.extend_from_slice(b"record\n")?;
@@ -173,7 +173,7 @@ fn a_long_text_comes_behind(rt: HostRuntime) -> Result<(), Fail> {
 #[test]
 fn the_last_error_is_known(rt: HostRuntime) -> Result<(), Fail> {
     for &kind in &[ErrorKind::BrokenPipe, ErrorKind::StorageFull] {
-        let mut device = Device::new(rt.alloc(), 9000, 1);
+        let mut device = Device::new(rt.alloc(), 40_000, 1);
         device.failure = kind;
         let mut sink = BlockSink::at_once(rt.alloc(), device);
         let first = sink.write(b"record\n").is_ok() && sink.last_error().is_none();
@@ -199,19 +199,19 @@ fn texts_in_place_come_in_order(rt: HostRuntime) -> Result<(), Fail> {
     for &(most, before_failure) in &DEVICES {
         let device = Device::new(rt.alloc(), most, before_failure);
         let mut sink = BlockSink::in_blocks(rt.alloc(), device)?;
-        for _ in 0..1500u16 {
+        for _ in 0..6000u16 {
             write_whole(&mut sink, b"record\n");
             if sink.take_in_place(&Text { bytes: b"record\n" }).is_none() {
                 write_whole(&mut sink, b"record\n");
             }
         }
         let _ = sink.flush();
-        let flushed = sink.flush().is_ok() && are_texts(&sink.writer().bytes, b"record\n", 3000);
+        let flushed = sink.flush().is_ok() && are_texts(&sink.writer().bytes, b"record\n", 12_000);
         assert!(rt; flushed, "at {most}, {before_failure}");
     }
-    let mut sink = BlockSink::in_blocks(rt.alloc(), Device::new(rt.alloc(), 9000, u64::MAX))?;
+    let mut sink = BlockSink::in_blocks(rt.alloc(), Device::new(rt.alloc(), 40_000, u64::MAX))?;
     let first = sink.take_in_place(&Text {
-        bytes: &[b'a'; 8000],
+        bytes: &[b'a'; 32_576],
     });
     let second = sink.take_in_place(&Text {
         bytes: &[b'b'; 193],
@@ -219,8 +219,8 @@ fn texts_in_place_come_in_order(rt: HostRuntime) -> Result<(), Fail> {
     let third = sink.take_in_place(&Text {
         bytes: &[b'c'; 192],
     });
-    assert!(rt; first == Some(8000) && second.is_none() && third == Some(192));
-    assert!(rt; sink.flush().is_ok() && sink.writer().bytes.len() == 8192);
+    assert!(rt; first == Some(32_576) && second.is_none() && third == Some(192));
+    assert!(rt; sink.flush().is_ok() && sink.writer().bytes.len() == 32_768);
     let mut at_once = BlockSink::at_once(rt.alloc(), Device::new(rt.alloc(), 9, u64::MAX));
     let refused = at_once.take_in_place(&Text { bytes: b"record\n" });
     assert!(rt; refused.is_none() && at_once.writer().bytes.is_empty());
@@ -244,9 +244,9 @@ fn texts_go_at_once(rt: HostRuntime) {
 /// byte of it.
 #[test]
 fn room_is_lent(rt: HostRuntime) -> Result<(), Fail> {
-    let mut sink = BlockSink::in_blocks(rt.alloc(), Device::new(rt.alloc(), 9000, u64::MAX))?;
+    let mut sink = BlockSink::in_blocks(rt.alloc(), Device::new(rt.alloc(), 40_000, u64::MAX))?;
     let mut first = Lent {
-        bytes: &[b'a'; 8000],
+        bytes: &[b'a'; 32_576],
         room: 0,
     };
     let mut second = Lent {
@@ -257,12 +257,12 @@ fn room_is_lent(rt: HostRuntime) -> Result<(), Fail> {
         bytes: &[b'c'; 186],
         room: 0,
     };
-    assert!(rt; sink.lend(&mut first) && first.room == 8192);
+    assert!(rt; sink.lend(&mut first) && first.room == 32_768);
     assert!(rt; sink.lend(&mut second) && second.room == 192);
     assert!(rt; !sink.lend(&mut third) && third.room == 0);
     let flushed = sink.flush().is_ok();
-    assert!(rt; flushed && sink.writer().bytes.len() == 8007);
-    assert!(rt; are_texts(&sink.writer().bytes[8000..], b"record\n", 1));
+    assert!(rt; flushed && sink.writer().bytes.len() == 32_583);
+    assert!(rt; are_texts(&sink.writer().bytes[32_576..], b"record\n", 1));
     let mut at_once = BlockSink::at_once(rt.alloc(), Device::new(rt.alloc(), 9, u64::MAX));
     assert!(rt; !at_once.lend(&mut second) && at_once.writer().bytes.is_empty());
     Ok(())
