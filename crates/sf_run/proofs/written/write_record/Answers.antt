@@ -9,15 +9,17 @@ returns-in_err-run-clause-answers g c follows =
 
 pub returns-then-run-eq0-clause-answers : goal.returns-then-run-eq0-clause-answers
 returns-then-run-eq0-clause-answers g c follows =
-    let own = follows_as g.W.ValueWriter.text g.W.ValueWriter.spare c.args.format.now
-    (subst (λ l. AreProper l) c.directives.ensures.value c.directives.ensures.proper) c.args.limit c.args.piece.now _ _ _ follows c.in_ok-run.ensures.run in
+    let proper : AreProper c.args.format.now = subst (λ l. AreProper l) c.directives.ensures.value c.directives.ensures.proper in
+    let own = follows_as g.W.ValueWriter.text g.W.ValueWriter.spare c.args.format.now proper c.args.limit c.args.piece.now _ _ _ follows
+    c.in_ok-run.ensures.run in
     let some = own.0 in
     absurd (omega (arith, some, c.if-run-eq0.true))
 
 pub returns-in_err-end-clause-answers : goal.returns-in_err-end-clause-answers
 returns-in_err-end-clause-answers g c follows =
-    let own = follows_as g.W.ValueWriter.text g.W.ValueWriter.spare c.args.format.now
-    (subst (λ l. AreProper l) c.directives.ensures.value c.directives.ensures.proper) c.args.limit c.args.piece.now _ _ _ follows c.in_ok-run.ensures.run in
+    let proper : AreProper c.args.format.now = subst (λ l. AreProper l) c.directives.ensures.value c.directives.ensures.proper in
+    let own = follows_as g.W.ValueWriter.text g.W.ValueWriter.spare c.args.format.now proper c.args.limit c.args.piece.now _ _ _ follows
+    c.in_ok-run.ensures.run in
     let fits = own.2 in
     absurd (let some = c.in_err-end.ensures.answers c.in_ok-run.ensures.run.values own.1 c.in_ok-run.ensures.run.written
     (omega (arith, fits, c.write_values.auto.room)) in cc)
