@@ -132,8 +132,8 @@ class Order(Streams):
 
     def test_lines_come_before_the_error_line_that_follows_them(self):
         self.assertEqual(self.both("scan", "%d", stdin=b"1\nx\n"), (1, b"1\n" + FAILED, None))
-        many = b"1\n" * 10000
-        self.assertEqual(self.both("scan", "%d", stdin=many + b"x\n"), (1, many + FAILED.replace(b"2", b"10001", 1), None))
+        many = b"1\n" * 40000
+        self.assertEqual(self.both("scan", "%d", stdin=many + b"x\n"), (1, many + FAILED.replace(b"2", b"40001", 1), None))
 
     def test_the_order_holds_in_a_file_too(self):
         with tempfile.TemporaryFile() as file:

@@ -158,13 +158,13 @@ fn an_interrupted_block_goes_on(rt: HostRuntime) -> Result<(), Fail> {
 fn a_long_text_comes_behind(rt: HostRuntime) -> Result<(), Fail> {
     let mut sink = BlockSink::in_blocks(rt.alloc(), Device::new(rt.alloc(), 40_000, u64::MAX))?;
     let mut long = Vec::new(rt.alloc());
-    for _ in 0..2000u16 {
+    for _ in 0..6000u16 {
         long.extend_from_slice(b"record\n")?;
     }
     write_whole(&mut sink, b"record\n");
     write_whole(&mut sink, &long);
     write_whole(&mut sink, b"record\n");
-    let flushed = sink.flush().is_ok() && are_texts(&sink.writer().bytes, b"record\n", 2002);
+    let flushed = sink.flush().is_ok() && are_texts(&sink.writer().bytes, b"record\n", 6002);
     assert!(rt; flushed);
     Ok(())
 }

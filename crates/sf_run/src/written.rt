@@ -378,8 +378,8 @@ pub struct WrittenRuns {
 /// most `limit` bytes.
 ///
 /// It stops before a record that isn't Done before a byte of the piece or of the limit is lacking, of which an item is
-/// missing, that has no byte or no value, or for which there is no room: before no other. Of that record it says
-/// nothing, and what the room holds after the last one may be anything.
+/// missing, that has no byte or no value, or for whose values, and the bytes that the writer wants spare, there is no
+/// room: before no other. Of that record it says nothing, and what the room holds after the last one may be anything.
 #[inline(never)]
 pub fn write_runs<W: ValueWriter>(
     format: &ScanFormat,
