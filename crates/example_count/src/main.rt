@@ -3,7 +3,7 @@
 
 ghost use Rattle.std.specs.Prelude.{IfOk};
 ghost use Rattle.sf_loops.specs.Counts.{IsCount};
-ghost use Rattle.sf_read.specs.Rows.{slots_by};
+ghost use Rattle.sf_read.specs.field.Rows.{slots_by};
 
 use anyhow::bail;
 use sf_format::{Profile, ScanFormat};

@@ -3,12 +3,11 @@
 
 use anyhow::bail;
 use arrayvec::ArrayVec;
-use sf_base::{Kind, Value};
+use sf_base::{Kind, Store, Value};
 use sf_format::{PrintFormat, Profile, ScanFormat};
 use sf_print::{StdSink, fprint};
 use sf_read::{Lookahead, Row, RowFault, ScanRowFault, StdSource, scan_row};
 use sf_run::{Ending, Outcome, Report, Status};
-use sf_store::Store;
 use std::alloc::Global;
 
 /// The most bytes that one row may have.

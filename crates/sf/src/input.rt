@@ -4,8 +4,8 @@ ghost use Rattle.std.specs.Io.{ReadsAtMost};
 ghost use Rattle.std.specs.Io.KnownBytes.{ReadConsumes};
 ghost use Rattle.sf.specs.Inputs.{told};
 
+use sf_command::{LastError, Opened, Opener};
 use sf_read::{Source, SourceFault};
-use sf_tool::{LastError, Opened, Opener};
 use std::fs::{self, File};
 use std::io::{self, Read, Stdin};
 

@@ -4,7 +4,7 @@
 mod input;
 
 use crate::input::{Disk, Input};
-use sf_tool::{CommandFault, Terminals, run_program};
+use sf_command::{CommandFault, Terminals, run_program};
 use std::env;
 use std::io::{self, ErrorKind, IsTerminal};
 use std::process::ExitCode;

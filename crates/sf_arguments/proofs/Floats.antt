@@ -4,9 +4,9 @@ use Rattle.std.specs.Float.Ieee.{binary64}
 use Rattle.sf_base.specs.Data.{Datum}
 use Rattle.sf_base.specs.Data.Datum.{Real}
 use Rattle.sf_base.specs.declared.real.Real.TheVariants as reals
-use Rattle.sf_float_item.specs.Sequences.{IsFloat}
-use Rattle.sf_float_value.specs.Values.{IsStored}
-use Rattle.sf_float_value.proofs.OneStored.{one_stored}
+use Rattle.sf_float_read.specs.item.Sequences.{IsFloat}
+use Rattle.sf_float_read.specs.value.Values.{IsStored}
+use Rattle.sf_float_read.proofs.ValueLemmas.OneStored.{one_stored}
 use Rattle.sf_arguments.specs.Words.{IsFloatOf}
 
 -- a word denotes one float

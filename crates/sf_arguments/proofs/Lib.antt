@@ -1,3 +1,4 @@
+pub mod AnswerLemmas
 pub mod Escaping
 pub mod Finding
 pub mod Floats

@@ -16,7 +16,7 @@ use mir.Val.{hbits}
 use Rattle.sf_base.specs.Bytes.{magnitude}
 use Rattle.sf_format.specs.Digits.{is_decimal}
 use Rattle.sf_format.proofs.Outcomes.{by_test, and_left, and_right}
-use Rattle.sf_print.specs.Text.{with_sign}
+use Rattle.sf_print.specs.texts.Text.{with_sign}
 use Rattle.sf_arguments.specs.Words.{IsSign, Denotes}
 
 abbrev AreDecimal : List ℕ → Type 0

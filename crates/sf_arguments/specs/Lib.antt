@@ -1,3 +1,4 @@
+pub mod answer
 pub mod Arguments
 pub mod Escapes
 pub mod Laws

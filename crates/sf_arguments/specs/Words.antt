@@ -11,9 +11,9 @@ use Rattle.sf_base.specs.declared.values.Kind.{Kind}
 use Rattle.sf_format.specs.Digits.{is_decimal}
 use Rattle.sf_format.specs.declared.unit.PrintLetter.{PrintLetter}
 use Rattle.sf_format.specs.declared.unit.PrintLetter.TheVariants as letter
-use Rattle.sf_float_item.specs.Sequences.{IsFloat}
-use Rattle.sf_float_value.specs.Values.{IsStored}
-use Rattle.sf_print.specs.Text.{with_sign}
+use Rattle.sf_float_read.specs.item.Sequences.{IsFloat}
+use Rattle.sf_float_read.specs.value.Values.{IsStored}
+use Rattle.sf_print.specs.texts.Text.{with_sign}
 use Rattle.sf_arguments.specs.Readings.{Reads}
 use Rattle.sf_arguments.specs.declared.word_reading.WordReading.{WordReading}
 

@@ -10,8 +10,7 @@ ghost use Rattle.sf_arguments.specs.Words.{Denotes, IsFloatOf, IsNumberOf, IsRea
 use crate::argument_fault::ArgumentFault;
 use crate::word_reading::{WordReading, bytes_of, read};
 use sf_base::{Kind, Value};
-use sf_float_item::is_float;
-use sf_float_value::value_f64;
+use sf_float_read::{is_float, value_f64};
 use sf_format::{PrintConv, PrintLetter};
 use std::alloc::{AllocError, Global};
 

@@ -1,6 +1,7 @@
 //! Words as values: their escapes, the value that each stands for where a conversion prints it, and a print of them.
 #![tactic(auto)]
 
+mod answer;
 mod argument;
 mod argument_fault;
 mod escape;
@@ -9,6 +10,7 @@ mod names;
 mod print;
 mod word_reading;
 
+pub use answer::{NoScanText, escaped, scan_part, scan_text};
 pub use argument_fault::ArgumentFault;
 pub use escape::{EscapeFault, unescape};
 pub use names::kind_text;

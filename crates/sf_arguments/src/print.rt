@@ -4,7 +4,7 @@ ghost use Rattle.std.specs.Prelude.{IsNone, IfSome, IfNone, IfOk, IfErr, if◌th
 ghost use Rattle.sf_base.specs.Data.{Datum, datum_of};
 ghost use Rattle.sf_format.specs.Units.{AreProperUnits, values_of};
 ghost use Rattle.sf_format.specs.Slots.{AreSlots};
-ghost use Rattle.sf_print.specs.Sinks.{counted_on};
+ghost use Rattle.sf_print.specs.sink.Sinks.{counted_on};
 ghost use Rattle.sf_arguments.specs.Arguments.{AllStand, IsAtFault, IsLowestFault, IsTextAt, StandsAt, TextsOf};
 ghost use Rattle.sf_arguments.specs.Arguments.{ValuesOf, conv_at};
 ghost use Rattle.sf_arguments.specs.Prints.{Answers, IsUnwritten, is_write_fault, print_fault};

@@ -1,3 +1,4 @@
+pub mod StoreLemmas
 pub mod Sets
 pub mod Lacks
 pub mod Bits

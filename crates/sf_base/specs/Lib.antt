@@ -1,3 +1,4 @@
+pub mod stores
 pub mod Bytes
 pub mod Greatest
 pub mod Sets

@@ -9,6 +9,7 @@ mod pairs;
 mod real;
 mod rules;
 mod runs;
+mod stores;
 mod taken;
 mod values;
 
@@ -20,5 +21,6 @@ pub use pairs::pair_of;
 pub use real::Real;
 pub use rules::{Rule, first_fault};
 pub use runs::{run_before, space_run, text_run};
+pub use stores::{FixedStore, HeapStore, Store, StoreFull, push_each};
 pub use taken::Taken;
 pub use values::{Kind, Shown, Value};

@@ -1,4 +1,4 @@
-//! Tests of `sf_float`, `sf_float_item`, `sf_float_value` and `sf_shortest`, by examples of C11 and what glibc answers.
+//! Tests of `sf_float` and `sf_float_read`, by examples of C11 and what glibc answers.
 #![tactic(auto)]
 
 #[cfg(test)]

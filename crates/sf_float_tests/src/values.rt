@@ -1,6 +1,7 @@
 //! Values of matching sequences, as glibc's strtod and strtof read them, and input items.
-use sf_float_item::{FloatScan, is_float, numeral_within};
-use sf_float_value::{decimal_value_f32, decimal_value_f64, value_f32, value_f64};
+use sf_float_read::{
+    FloatScan, decimal_value_f32, decimal_value_f64, is_float, numeral_within, value_f32, value_f64,
+};
 use std::test::Fail;
 
 /// A matching sequence and its patterns; none where it is out of range.

@@ -6,7 +6,7 @@ use Rattle.std.proofs.lemmas.List.{append-nil}
 use Rattle.std.specs.Fmt.{signed_decimal}
 use Rattle.std.specs.List.{AllByRecursion, flat_map, join_with_byte, list_all}
 use Rattle.sf_base.specs.Data.{Datum, Number, Bytes, Real}
-use Rattle.sf_shortest.specs.Laid.{shortest_text}
+use Rattle.sf_float.specs.fewest.Laid.{shortest_text}
 use Rattle.sf_forms.specs.declared.form.OutputForm.TheVariants.{Csv}
 use Rattle.sf_forms.specs.Csv.{InBare, InQuotes, Opened, Outside, Behind, Place, Reader, after, csv_escaped, in_bare, is_bare}
 use Rattle.sf_forms.specs.Csv.{csv_rows, opened, rows_in, step_at, with_byte}

@@ -13,8 +13,8 @@ use Rattle.sf_base.specs.declared.real.Real as real
 use Rattle.sf_float.specs.Computed.{count_of, first_passing}
 use Rattle.sf_float.specs.Texts.{exponent_size, fixed_digits, fixed_text, point_text}
 use Rattle.sf_format.proofs.Rules.{all_append, all_map}
-use Rattle.sf_shortest.specs.Digits.{number_of, shortest}
-use Rattle.sf_shortest.specs.Laid.{is_plain, laid_out, plain_text, raised_text, shortest_text, size_text}
+use Rattle.sf_float.specs.fewest.Digits.{number_of, shortest}
+use Rattle.sf_float.specs.fewest.Laid.{is_plain, laid_out, plain_text, raised_text, shortest_text, size_text}
 use Rattle.sf_forms.specs.Reals.{is_finite}
 use Rattle.sf_forms.proofs.Decimals.{IsDigit, IsNumberByte}
 

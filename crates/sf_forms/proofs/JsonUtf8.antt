@@ -12,7 +12,7 @@ use Rattle.std.specs.Str.{IsUtf8, is_utf8}
 use Rattle.std.specs.Str.Lossy.{utf8_valid_len, valid_len_up_to}
 use Rattle.sf_base.specs.Bytes.{AreBytes}
 use Rattle.sf_base.specs.Data.{Datum, Number, Bytes, Real}
-use Rattle.sf_shortest.specs.Laid.{shortest_text}
+use Rattle.sf_float.specs.fewest.Laid.{shortest_text}
 use Rattle.sf_forms.specs.Reals.{is_finite}
 use Rattle.sf_forms.specs.declared.form.OutputForm.TheVariants.{Json}
 use Rattle.sf_forms.specs.Forms.{given_row_text, given_text}

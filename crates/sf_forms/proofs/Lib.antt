@@ -1,3 +1,4 @@
+pub mod MakerLemmas
 pub mod CsvReading
 pub mod Decimals
 pub mod Escaping

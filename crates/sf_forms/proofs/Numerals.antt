@@ -9,7 +9,7 @@ use Rattle.sf_base.specs.Kinds.{is_held, with_sign}
 use Rattle.sf_base.specs.declared.number.Number.{Number}
 use Rattle.sf_base.specs.declared.values.Kind.{Kind}
 use Rattle.sf_base.specs.declared.values.Kind.TheVariants.{I8, I16, I32, I64, U8, U16, U32, U64, Text, F32, F64}
-use Rattle.sf_print.specs.Plain.{minus}
+use Rattle.sf_print.specs.texts.Plain.{minus}
 use Rattle.sf_forms.specs.declared.form.OutputForm.{OutputForm}
 use Rattle.sf_forms.specs.declared.form.OutputForm.TheVariants.{Plain, Tsv, Json, Csv}
 use Rattle.sf_forms.specs.Forms.{missing_text, value_text}

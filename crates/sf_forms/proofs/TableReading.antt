@@ -14,8 +14,8 @@ use Rattle.sf_base.specs.declared.values.Kind.{Kind}
 use Rattle.sf_base.specs.declared.values.Kind.TheVariants.{I8, I16, I32, I64, U8, U16, U32, U64, Text, F32, F64}
 use Rattle.sf_base.specs.declared.real.Real.TheVariants as reals
 use Rattle.sf_base.specs.Data.{Datum, Number, Bytes, Real, kind_of}
-use Rattle.sf_shortest.specs.Laid.{shortest_text}
-use Rattle.sf_shortest.specs.Laws.{ReadsBack}
+use Rattle.sf_float.specs.fewest.Laid.{shortest_text}
+use Rattle.sf_float.specs.fewest.Laws.{ReadsBack}
 use Rattle.sf_forms.specs.declared.form.OutputForm.TheVariants.{Tsv}
 use Rattle.sf_forms.specs.Forms.{given_row_text, given_text}
 use Rattle.sf_forms.specs.ReadingBack.{AreRows, HaveKinds, IsGivenValue, IsValue, TsvGivesTexts, TsvNamesReadBack}

@@ -6,7 +6,7 @@ use Rattle.std.specs.Option.{option_map}
 use Rattle.std.specs.Char.{digit_value}
 use Rattle.std.specs.Str.Parse.{signed_digits_value}
 use Rattle.sf_base.specs.Data.{Datum, Number, Bytes, Real}
-use Rattle.sf_shortest.specs.Laid.{shortest_text}
+use Rattle.sf_float.specs.fewest.Laid.{shortest_text}
 use Rattle.sf_forms.specs.Reals.{is_finite}
 
 -- an element of an array

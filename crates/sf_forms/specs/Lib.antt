@@ -1,3 +1,4 @@
+pub mod makers
 pub mod Columns
 pub mod Csv
 pub mod Escapes

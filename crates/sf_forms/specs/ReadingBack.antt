@@ -8,7 +8,7 @@ use Rattle.sf_base.specs.declared.values.Kind.{Kind}
 use Rattle.sf_report.specs.Rows.{AreRowOf, given_to}
 pub use Rattle.sf_report.specs.Rows.{IsValue}
 use Rattle.sf_report.specs.Runs.{RunReport}
-use Rattle.sf_shortest.specs.Laid.{shortest_text}
+use Rattle.sf_float.specs.fewest.Laid.{shortest_text}
 use Rattle.sf_forms.specs.declared.form.OutputForm.{OutputForm}
 use Rattle.sf_forms.specs.declared.form.OutputForm.TheVariants.{Tsv, Json, Csv}
 use Rattle.sf_forms.specs.Csv.{csv_rows}

@@ -2,8 +2,8 @@
 use Rattle.std.specs.Prelude.{ℕ, Bool, false, not, if◌then◌else◌, List}
 use Rattle.std.specs.Float.{float_is_finite}
 use Rattle.sf_base.specs.declared.real.Real as real
-use Rattle.sf_shortest.specs.Digits.{number_of}
-use Rattle.sf_shortest.specs.Laid.{shortest_text}
+use Rattle.sf_float.specs.fewest.Digits.{number_of}
+use Rattle.sf_float.specs.fewest.Laid.{shortest_text}
 use Rattle.sf_forms.specs.declared.form.OutputForm.{OutputForm}
 use Rattle.sf_forms.specs.declared.form.OutputForm.TheVariants.{Json}
 use Rattle.sf_forms.specs.JsonStrings.{json_string}

@@ -1,6 +1,6 @@
 //! Writes records in a form.
 ghost use Rattle.std.specs.Prelude.{◌≡◌, ◌<◌, length, is_some, IsErrOf, Some, if◌then◌else◌};
-ghost use Rattle.sf_print.specs.Sinks.{counted_on};
+ghost use Rattle.sf_print.specs.sink.Sinks.{counted_on};
 ghost use Rattle.sf_forms.specs.Columns.{texts};
 ghost use Rattle.sf_forms.specs.Forms.{framed, record_text};
 ghost use Rattle.sf_forms.specs.Heads.{column_names, columns, headed, names_line};
@@ -11,9 +11,9 @@ use crate::heads::{push_names, push_object, push_tagged};
 use crate::line::push_record;
 use crate::output::write_whole;
 use crate::short_line::{LINE_BYTES, PlainRecord, Record, write_line};
+use sf_base::Store;
 use sf_print::Sink;
 use sf_report::Report;
-use sf_store::Store;
 use std::alloc::Global;
 use std::marker::Model;
 use thiserror::Error;

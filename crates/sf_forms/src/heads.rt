@@ -11,9 +11,9 @@ use crate::columns::{Columns, push_columns, push_framed};
 use crate::form::OutputForm;
 use crate::json::push_json_string;
 use crate::line::{Slots, push_text};
+use sf_base::Store;
 use sf_print::push_number;
 use sf_report::Report;
-use sf_store::Store;
 use std::alloc::AllocError;
 
 /// The name of the column that has the number of the format that counted.

@@ -14,7 +14,7 @@ pub fn records_are_rows()
 pub fn tsv_reads_back()
     ensures { TsvReadsBack }
 {
-    sf_shortest::laws::reads_back();
+    sf_float::fewest::laws::reads_back();
 }
 
 /// Arrays of JSON read as the values that they were written for: each number is an integer, and each string the bytes

@@ -10,6 +10,7 @@ mod heads;
 mod json;
 pub mod laws;
 mod line;
+mod makers;
 mod output;
 mod quote;
 mod real;
@@ -20,6 +21,10 @@ pub use form::OutputForm;
 pub use form_writer::{FormWriter, RecordFault};
 pub use heads::TAG_NAME;
 pub use line::push_record;
+pub use makers::{
+    FEW_VALUES, FormMaker, MOST_VALUES, Maker, Names, NamesFault, PrintMaker, PrintMismatch,
+    Unwritten, check_print, row, shown_row,
+};
 pub use output::write_whole;
 pub use quote::{push_quoted, write_front_between};
 pub use real::write_real;

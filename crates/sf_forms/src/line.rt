@@ -11,10 +11,9 @@ use crate::json::push_json_string;
 use crate::quote::push_quoted;
 use crate::real::push_real;
 use crate::tables::push_tsv_text;
-use sf_base::Shown;
+use sf_base::{Shown, Store};
 use sf_print::push_number;
 use sf_report::Report;
-use sf_store::Store;
 use std::alloc::AllocError;
 
 /// Appends a text.

@@ -7,7 +7,8 @@ use crate::escape::write_all;
 use crate::form::OutputForm;
 use crate::json::{push_json_string, write_json_string};
 use sf_base::Real;
-use sf_shortest::{ROOM, write_shortest};
+use sf_float::fewest::ROOM;
+use sf_float::write_shortest;
 use std::alloc::AllocError;
 use std::num::{f32_from_bits_with_nan, f64_from_bits_with_nan};
 

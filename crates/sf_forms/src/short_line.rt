@@ -15,10 +15,9 @@ use crate::json::write_string;
 use crate::quote::write_between;
 use crate::real::write_real;
 use crate::tables::write_tsv_text;
-use sf_base::{Real, Shown};
+use sf_base::{Real, Shown, Store};
 use sf_print::{TextInPlace, write_number};
 use sf_report::Report;
-use sf_store::Store;
 
 /// The room for a short line: 1,023 bytes, and as many as the longest number has.
 pub(crate) const LINE_BYTES: usize = 1044;

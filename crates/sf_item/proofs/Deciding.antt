@@ -13,9 +13,9 @@ use Rattle.sf_format.specs.declared.directive.Shape.{Shape}
 use Rattle.sf_format.specs.declared.directive.Shape.TheVariants.{Int, Text, Set, Chars, Float, Count}
 use Rattle.sf_format.specs.declared.directive.Conversion.{Conversion}
 use Rattle.sf_format.specs.Proper.{IsProperShape}
-use Rattle.sf_float_item.specs.Steps.{AllBytes}
-use Rattle.sf_float_item.specs.Tests.{begins_float}
-use Rattle.sf_float_item.proofs.Deciding.{float_decided, begins_decided}
+use Rattle.sf_float_read.specs.item.Steps.{AllBytes}
+use Rattle.sf_float_read.specs.item.Tests.{begins_float}
+use Rattle.sf_float_read.proofs.ItemLemmas.Deciding.{float_decided, begins_decided}
 use Rattle.sf_item.specs.Matching.{IsInteger, ShapeMatches, Matches}
 use Rattle.sf_item.specs.Progress.{Progress, Start, IsAfter, advance}
 use Rattle.sf_item.specs.Taking.{CanTake}

@@ -10,9 +10,9 @@ use Rattle.sf_format.specs.declared.directive.Base.{Base}
 use Rattle.sf_format.specs.declared.directive.Shape.{Shape}
 use Rattle.sf_format.specs.declared.directive.Shape.TheVariants.{Int, Text, Set, Chars, Float, Count}
 use Rattle.sf_format.specs.declared.directive.Conversion.{Conversion}
-use Rattle.sf_float_item.specs.declared.reached.Reached as place
-use Rattle.sf_float_item.specs.declared.reached.Reached.TheVariants as places
-use Rattle.sf_float_item.specs.Tests as floats
+use Rattle.sf_float_read.specs.declared.item.reached.Reached as place
+use Rattle.sf_float_read.specs.declared.item.reached.Reached.TheVariants as places
+use Rattle.sf_float_read.specs.item.Tests as floats
 use Rattle.sf_item.specs.Radices.{zero_radix}
 use Rattle.sf_item.specs.Progress.{Progress, Start, Signed, Zero, Prefix, Digits, with_digit, advance}
 use Rattle.sf_item.specs.Taking.{IsInt}

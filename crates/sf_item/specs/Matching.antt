@@ -9,7 +9,7 @@ use Rattle.sf_format.specs.declared.directive.Base.{Base}
 use Rattle.sf_format.specs.declared.directive.Shape.{Shape}
 use Rattle.sf_format.specs.declared.directive.Shape.TheVariants.{Int, Text, Set, Chars, Float, Count}
 use Rattle.sf_format.specs.declared.directive.Conversion.{Conversion}
-use Rattle.sf_float_item.specs.Sequences.{IsFloat}
+use Rattle.sf_float_read.specs.item.Sequences.{IsFloat}
 use Rattle.sf_item.specs.Radices.{first_radix, zero_radix, prefix_radix}
 
 -- one or more digits of the radix, and their number

@@ -9,7 +9,7 @@ use Rattle.sf_format.specs.declared.directive.Base.{Base}
 use Rattle.sf_format.specs.declared.directive.Shape.{Shape}
 use Rattle.sf_format.specs.declared.directive.Shape.TheVariants.{Int, Text, Set, Chars, Float, Count}
 use Rattle.sf_format.specs.declared.directive.Conversion.{Conversion}
-use Rattle.sf_float_item.specs.Tests.{is_float, begins_float}
+use Rattle.sf_float_read.specs.item.Tests.{is_float, begins_float}
 use Rattle.sf_item.specs.Progress.{Progress, Start, advance, integer_of}
 
 -- how far an integer is read with these bytes, where that can be

@@ -3,7 +3,7 @@ ghost use Rattle.std.specs.Prelude.{◌≡◌, ◌≢◌, ◌<◌, ◌≤◌, �
 ghost use Rattle.std.specs.Prelude.{take, IsTrue, Option, Some};
 ghost use Rattle.sf_format.specs.Layout.{most_of};
 ghost use Rattle.sf_format.specs.Proper.{IsProperShape};
-ghost use Rattle.sf_float_item.specs.Tests.{is_whole};
+ghost use Rattle.sf_float_read.specs.item.Tests.{is_whole};
 ghost use Rattle.sf_item.specs.Tests.{has_item};
 ghost use Rattle.sf_item.specs.Progress.{Progress, integer_of};
 ghost use Rattle.sf_item.specs.Scan.{Shows, most_bytes, HasLeft, FitsLeft, IsOneLess};
@@ -11,7 +11,7 @@ ghost use Rattle.sf_item.specs.Taking.{HasTaken, CanTake, conversion_of, left_of
 
 use crate::reached::Reached;
 use crate::reading::{Reading, is_closed, read_all, read_on, reading_of};
-use sf_float_item::FloatScan;
+use sf_float_read::FloatScan;
 use sf_format::{Conversion, Shape};
 
 /// Whether the item goes on with a byte.

@@ -7,7 +7,7 @@ ghost use Rattle.sf_item.specs.Scan.{shape_of, HasRead, ReadsNext, EndsReading};
 use crate::integer::{advance, integer_front};
 use crate::reached::Reached;
 use sf_base::{ByteSet, is_space, text_run};
-use sf_float_item::FloatScan;
+use sf_float_read::FloatScan;
 use sf_format::{Base, Shape};
 
 /// What an item is read as, and of an integer or a float how far.

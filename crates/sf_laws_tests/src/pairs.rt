@@ -2,7 +2,7 @@
 ghost use Rattle.std.specs.Prelude.{◌≡◌, ◌<◌, ◌≤◌, ◌++◌, ℕ, List, [], length, map, true, Some, None, IfOk, IfErr};
 ghost use Rattle.std.specs.Prelude.{IfSome};
 ghost use Rattle.sf_base.specs.Data.{Datum, datum_of};
-ghost use Rattle.sf_store.specs.Kept.{texts_in};
+ghost use Rattle.sf_base.specs.stores.Kept.{texts_in};
 ghost use Rattle.sf_format.specs.declared.directive.Directive.{Directive};
 ghost use Rattle.sf_format.specs.declared.unit.Unit.{Unit as PrintUnit};
 ghost use Rattle.sf_format.specs.Widths.{width_sum};
@@ -14,7 +14,7 @@ ghost use Rattle.sf_report.specs.Rows.{AreRowOf};
 ghost use Rattle.sf_pair.specs.Fits.{Fit, fits};
 ghost use Rattle.sf_pair.specs.Laws.{IsOpenAt, IsRunInto, StopsAt, read_back};
 
-use sf_base::Value;
+use sf_base::{HeapStore, Value};
 use sf_format::{PrintFormat, ScanFormat};
 use sf_pair::laws::{
     aligned_is_accepted, aligned_is_bounded, ends_on_nothing, fits_is_fit, held_is_bounded,
@@ -25,7 +25,6 @@ use sf_pair::{Pair, PairFault, PairWhy};
 use sf_read::sscan;
 use sf_report::laws::one_report;
 use sf_run::Scanned;
-use sf_store::HeapStore;
 use std::alloc::Global;
 
 /// The limit of these runs.

@@ -2,7 +2,7 @@
 ghost use Rattle.std.specs.Prelude.{◌≡◌, ◌⊎◌, ℕ, List, false, map, take, IfSome};
 ghost use Rattle.sf_base.specs.Data.{datum_of};
 ghost use Rattle.sf_print.specs.Laws.{HasFault, NoneIsLower};
-ghost use Rattle.sf_print.specs.Numeral.{IsNumeralOf};
+ghost use Rattle.sf_print.specs.digits.Numeral.{IsNumeralOf};
 ghost use Rattle.sf_print.specs.declared.fault.PrintFault.TheVariants as fault;
 
 use sf_base::Value;

@@ -11,6 +11,7 @@ ghost use Rattle.sf_report.specs.Rows.{FillsSlots, HasRow};
 ghost use Rattle.sf_report.specs.Runs.{IsOpen, report_of, values};
 ghost use Rattle.sf_run.specs.outcome.Status.TheVariants.{Done};
 
+use sf_base::HeapStore;
 use sf_format::ScanFormat;
 use sf_read::sscan;
 use sf_report::laws::{
@@ -18,7 +19,6 @@ use sf_report::laws::{
     steps_are_computed,
 };
 use sf_report::{Ending, Scanned};
-use sf_store::HeapStore;
 use std::alloc::Global;
 
 /// The limit of these runs.

@@ -1,13 +1,13 @@
 //! Laws of scans.
 ghost use Rattle.std.specs.Prelude.{◌≡◌, ◌∷◌, ℕ, List, [], IfSome, Some};
-ghost use Rattle.sf_read.specs.Ahead.{input_of};
+ghost use Rattle.sf_read.specs.source.Ahead.{input_of};
 ghost use Rattle.sf_read.specs.Laws.{RunsInTurn};
 
+use sf_base::HeapStore;
 use sf_format::ScanFormat;
 use sf_read::laws::scans_are_runs;
 use sf_read::{Lookahead, Source, fscan};
 use sf_run::Scanned;
-use sf_store::HeapStore;
 use std::alloc::Global;
 
 /// The limit of these runs.

@@ -13,7 +13,7 @@ use Rattle.sf_run.specs.outcome.Outcome.{Outcome}
 use Rattle.sf_run.specs.outcome.Status.{Status}
 use Rattle.sf_run.specs.outcome.Status.TheVariants.{Done, InputFailure, MatchingFailure, OutOfRange, TooLong, NoMemory}
 use Rattle.sf_run.specs.Limits.{RunTold}
-use Rattle.sf_read.specs.Ahead.{input_of}
+use Rattle.sf_read.specs.source.Ahead.{input_of}
 use Rattle.sf_read.specs.Scan.{is_fault}
 use Rattle.sf_loops.specs.declared.fault.RecordFault.{RecordFault}
 use Rattle.sf_loops.specs.declared.fault.RecordWhy.TheVariants as why

@@ -2,7 +2,7 @@
 use Rattle.std.proofs.Common.{◌≡◌, ℕ, List, Option, Result, Ok, true, subst, sym}
 use Rattle.sf_base.specs.Data.{Datum}
 use Rattle.sf_base.specs.declared.values.Kind.{Kind}
-use Rattle.sf_read.specs.Ahead.{Ahead}
+use Rattle.sf_read.specs.source.Ahead.{Ahead}
 use Rattle.sf_loops.specs.declared.fault.RecordFault.{RecordFault}
 use Rattle.sf_loops.specs.declared.line_fault.LineFault.{LineFault}
 use Rattle.sf_loops.specs.Counts.{AnswersNext}

@@ -8,8 +8,8 @@ use Rattle.sf_format.specs.Proper.{has_optional}
 use Rattle.sf_run.specs.outcome.Ending.{Ending}
 use Rattle.sf_run.specs.outcome.Outcome.{Outcome}
 use Rattle.sf_run.specs.outcome.Status.{Status}
-use Rattle.sf_read.specs.Rows.{AreSlotsOf}
-use Rattle.sf_read.specs.Ahead.{input_of}
+use Rattle.sf_read.specs.field.Rows.{AreSlotsOf}
+use Rattle.sf_read.specs.source.Ahead.{input_of}
 use Rattle.sf_read.specs.Scan.{is_fault}
 use Rattle.sf_loops.specs.declared.fault.RecordFault.{RecordFault}
 use Rattle.sf_loops.specs.declared.turn.Turn.{Turn}

@@ -4,7 +4,7 @@ use Rattle.sf_base.specs.Data.{Datum}
 use Rattle.sf_base.specs.declared.values.Kind.{Kind}
 use Rattle.sf_format.specs.Proper.{IsAccepted}
 use Rattle.sf_run.specs.outcome.Ending.TheVariants.{End}
-use Rattle.sf_read.specs.Rows.{AreGivenAs}
+use Rattle.sf_read.specs.field.Rows.{AreGivenAs}
 use Rattle.sf_read.specs.RowScans.{HasShape}
 use Rattle.sf_read.proofs.Shapes.{given}
 use Rattle.sf_loops.specs.declared.line_fault.LineFault.{LineFault}

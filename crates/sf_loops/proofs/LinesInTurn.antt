@@ -8,12 +8,12 @@ use Rattle.sf_run.specs.outcome.Ending.TheVariants.{End}
 use Rattle.sf_run.specs.outcome.Status.{Status}
 use Rattle.sf_run.specs.outcome.Status.TheVariants as status
 use Rattle.sf_run.specs.Limits.{RunTold}
-use Rattle.sf_read.specs.Counts.{counted_on}
-use Rattle.sf_line.specs.declared.line.LineRead.{LineRead}
-use Rattle.sf_line.specs.declared.line.LineRead.TheVariants as reads
-use Rattle.sf_line.specs.Cut.{lines_of}
-use Rattle.sf_line.specs.Reading.{Reads, Took}
-use Rattle.sf_line.proofs.Lined.{Lined, at_end, begins, took}
+use Rattle.sf_read.specs.source.Counts.{counted_on}
+use Rattle.sf_read.specs.declared.line.line.LineRead.{LineRead}
+use Rattle.sf_read.specs.declared.line.line.LineRead.TheVariants as reads
+use Rattle.sf_read.specs.line.Cut.{lines_of}
+use Rattle.sf_read.specs.line.Reading.{Reads, Took}
+use Rattle.sf_read.proofs.LineLemmas.Lined.{Lined, at_end, begins, took}
 use Rattle.sf_loops.specs.declared.line_fault.LineFault.{LineFault}
 use Rattle.sf_loops.specs.declared.line_fault.LineWhy.{LineWhy}
 use Rattle.sf_loops.specs.declared.line_fault.LineWhy.TheVariants as why

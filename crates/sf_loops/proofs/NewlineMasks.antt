@@ -9,7 +9,7 @@ use Rattle.std.proofs.Math.Nat.{mod-add-div', mod-eq_of_lt, mod-lt, mod-one, mul
 use Rattle.std.proofs.Math.Nat.{zero-mod}
 use Rattle.std.specs.Int.RustNames.{count_ones}
 use lib.Lanes.{chunk, mask_l}
-use Rattle.sf_read.specs.Counts.{lines_after, newlines}
+use Rattle.sf_read.specs.source.Counts.{lines_after, newlines}
 
 -- ---- the mask of a front
 

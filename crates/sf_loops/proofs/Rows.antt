@@ -9,8 +9,8 @@ use Rattle.sf_run.specs.outcome.Outcome.{Outcome}
 use Rattle.sf_run.specs.outcome.Status.{Status}
 use Rattle.sf_run.specs.outcome.Status.TheVariants.{Done}
 use Rattle.sf_run.specs.Runs.{RunReport}
-use Rattle.sf_read.specs.Counts.{counted_on}
-use Rattle.sf_read.specs.Rows.{AreGivenAs}
+use Rattle.sf_read.specs.source.Counts.{counted_on}
+use Rattle.sf_read.specs.field.Rows.{AreGivenAs}
 use Rattle.sf_read.specs.RowScans.{HasShape}
 use Rattle.sf_read.proofs.Shapes.{given}
 use Rattle.sf_loops.specs.declared.fault.RecordFault.{RecordFault}

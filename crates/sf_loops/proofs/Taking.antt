@@ -12,8 +12,8 @@ use Rattle.sf_run.specs.outcome.Status.TheVariants.{Done}
 use Rattle.sf_run.specs.Limits.{RunWithin}
 use Rattle.sf_run.specs.Runs.{RunReport}
 use Rattle.sf_run.specs.Stopping.{is_memory_status}
-use Rattle.sf_read.specs.Ahead.{Ahead}
-use Rattle.sf_read.specs.Counts.{counted_on, lines_after}
+use Rattle.sf_read.specs.source.Ahead.{Ahead}
+use Rattle.sf_read.specs.source.Counts.{counted_on, lines_after}
 use Rattle.sf_read.specs.Scan.{is_fault}
 use Rattle.sf_read.proofs.Blocks.{no_reads}
 use Rattle.sf_read.proofs.Holding.{held_scan}

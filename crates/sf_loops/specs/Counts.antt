@@ -9,7 +9,7 @@ use Rattle.sf_run.specs.outcome.Status.TheVariants.{Done, InputFailure}
 use Rattle.sf_run.specs.Limits.{RunTold}
 use Rattle.sf_run.specs.Runs.{RunReport}
 use Rattle.sf_loops.specs.Laws.{AnswersInTurn, AreRecords}
-use Rattle.sf_read.specs.Ahead.{input_of}
+use Rattle.sf_read.specs.source.Ahead.{input_of}
 use Rattle.sf_loops.specs.declared.fault.RecordFault.{RecordFault}
 use Rattle.sf_loops.specs.Loops.{IsNextRow, Loop, ended_with}
 

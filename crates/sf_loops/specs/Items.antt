@@ -2,7 +2,7 @@
 use Rattle.std.specs.Prelude.{◌≡◌, ◌+◌, ◌-◌, ◌⊎◌, true, ℕ, List, Option, Some, None, Result, Ok, Err, if◌then◌else◌}
 use Rattle.sf_base.specs.Data.{Datum}
 use Rattle.sf_base.specs.declared.values.Kind.{Kind}
-use Rattle.sf_read.specs.Ahead.{Ahead}
+use Rattle.sf_read.specs.source.Ahead.{Ahead}
 use Rattle.sf_loops.specs.declared.fault.RecordFault.{RecordFault}
 use Rattle.sf_loops.specs.declared.line_fault.LineFault.{LineFault}
 use Rattle.sf_loops.specs.declared.line_fault.LineStop.{LineStop}

@@ -6,8 +6,8 @@ use Rattle.sf_format.specs.declared.directive.Directive.{Directive}
 use Rattle.sf_run.specs.outcome.Ending.TheVariants.{End}
 use Rattle.sf_run.specs.Limits.{RunTold}
 use Rattle.sf_run.specs.Runs.{RunReport}
-use Rattle.sf_read.specs.Rows.{AreSlotsOf}
-use Rattle.sf_read.specs.Ahead.{input_of}
+use Rattle.sf_read.specs.field.Rows.{AreSlotsOf}
+use Rattle.sf_read.specs.source.Ahead.{input_of}
 use Rattle.sf_loops.specs.declared.turn.Turn.TheVariants.{Goes}
 use Rattle.sf_loops.specs.Loops.{IsNextRow, Loop}
 use Rattle.sf_loops.specs.Turns.{turn_of}

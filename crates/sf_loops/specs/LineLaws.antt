@@ -8,10 +8,10 @@ use Rattle.sf_run.specs.outcome.Status.{Status}
 use Rattle.sf_run.specs.outcome.Status.TheVariants.{Done, NoMemory}
 use Rattle.sf_run.specs.Limits.{RunTold}
 use Rattle.sf_run.specs.Runs.{RunReport}
-use Rattle.sf_read.specs.Rows.{AreSlotsOf}
-use Rattle.sf_read.specs.Ahead.{input_of}
-use Rattle.sf_read.specs.Counts.{counted_on}
-use Rattle.sf_line.specs.Cut.{lines_of}
+use Rattle.sf_read.specs.field.Rows.{AreSlotsOf}
+use Rattle.sf_read.specs.source.Ahead.{input_of}
+use Rattle.sf_read.specs.source.Counts.{counted_on}
+use Rattle.sf_read.specs.line.Cut.{lines_of}
 use Rattle.sf_loops.specs.declared.line_fault.LineFault.{LineFault}
 use Rattle.sf_loops.specs.declared.line_fault.LineWhy.{LineWhy}
 use Rattle.sf_loops.specs.declared.line_fault.LineWhy.TheVariants as why

@@ -10,13 +10,13 @@ use Rattle.sf_run.specs.outcome.Status.{Status}
 use Rattle.sf_run.specs.outcome.Status.TheVariants as status
 use Rattle.sf_run.specs.Limits.{RunTold, RunWithin}
 use Rattle.sf_run.specs.Runs.{RunReport}
-use Rattle.sf_read.specs.Rows.{AreSlotsOf}
-use Rattle.sf_read.specs.Ahead.{Ahead}
-use Rattle.sf_read.specs.Counts.{counted_on}
-use Rattle.sf_line.specs.declared.line.LineRead.{LineRead}
-use Rattle.sf_line.specs.declared.line.LineRead.TheVariants as reads
-use Rattle.sf_line.specs.declared.line.LineRead.TheVariants.{NoMemory as NoRoom}
-use Rattle.sf_line.specs.Reading.{Outgrows, Reads, UsesLine, is_failed}
+use Rattle.sf_read.specs.field.Rows.{AreSlotsOf}
+use Rattle.sf_read.specs.source.Ahead.{Ahead}
+use Rattle.sf_read.specs.source.Counts.{counted_on}
+use Rattle.sf_read.specs.declared.line.line.LineRead.{LineRead}
+use Rattle.sf_read.specs.declared.line.line.LineRead.TheVariants as reads
+use Rattle.sf_read.specs.declared.line.line.LineRead.TheVariants.{NoMemory as NoRoom}
+use Rattle.sf_read.specs.line.Reading.{Outgrows, Reads, UsesLine, is_failed}
 use Rattle.sf_loops.specs.declared.line_fault.LineFault.{LineFault}
 use Rattle.sf_loops.specs.declared.line_fault.LineStop.{LineStop}
 use Rattle.sf_loops.specs.declared.line_fault.LineWhy.{LineWhy}

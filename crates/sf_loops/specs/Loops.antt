@@ -1,13 +1,13 @@
 -- A loop over the records of an input: where it stands, and what it answers next.
 use Rattle.std.specs.Prelude.{◌≡◌, ℕ, List, [], Bool, true, false, length, Option, Some, None, Result, Ok, Err}
 use Rattle.sf_base.specs.Data.{Assigned, Datum}
-use Rattle.sf_store.specs.Kept.{Kept}
+use Rattle.sf_base.specs.stores.Kept.{Kept}
 use Rattle.sf_base.specs.declared.values.Kind.{Kind}
 use Rattle.sf_format.specs.declared.directive.Directive.{Directive}
 use Rattle.sf_run.specs.Runs.{RunReport}
-use Rattle.sf_read.specs.Rows.{AreSlotsOf}
-use Rattle.sf_read.specs.Ahead.{Ahead}
-use Rattle.sf_read.specs.Counts.{counted_on}
+use Rattle.sf_read.specs.field.Rows.{AreSlotsOf}
+use Rattle.sf_read.specs.source.Ahead.{Ahead}
+use Rattle.sf_read.specs.source.Counts.{counted_on}
 use Rattle.sf_loops.specs.declared.fault.RecordFault.{RecordFault}
 use Rattle.sf_loops.specs.declared.fault.RecordWhy.{RecordWhy}
 use Rattle.sf_loops.specs.declared.fault.RecordWhy.TheVariants as why

@@ -7,8 +7,8 @@ use Rattle.sf_run.specs.outcome.Ending.TheVariants.{End}
 use Rattle.sf_run.specs.Limits.{RunTold}
 use Rattle.sf_run.specs.Runs.{RunReport}
 use Rattle.sf_run.specs.Stopping.{is_memory_status}
-use Rattle.sf_read.specs.Ahead.{Ahead, input_of}
-use Rattle.sf_read.specs.Counts.{counted_on, lines_after}
+use Rattle.sf_read.specs.source.Ahead.{Ahead, input_of}
+use Rattle.sf_read.specs.source.Counts.{counted_on, lines_after}
 use Rattle.sf_read.specs.Reads.{WaitedFor}
 use Rattle.sf_read.specs.Scan.{Scan, is_fault}
 

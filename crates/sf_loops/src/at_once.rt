@@ -5,10 +5,10 @@ ghost use Rattle.sf_run.specs.Memory.{capacity_of};
 ghost use Rattle.sf_run.specs.Views.{report_by};
 ghost use Rattle.sf_run.specs.outcome.Ending.TheVariants.{End};
 
+use sf_base::HeapStore;
 use sf_format::ScanFormat;
 use sf_run::laws::{done_runs_stay, open_inputs_are_used};
 use sf_run::{Ending, Outcome, quick_run};
-use sf_store::HeapStore;
 
 /// Runs the format over a text that has its newline here, as over the line alone. None where that isn't seen at once to
 /// be Done: then the store may keep something.

@@ -1,6 +1,6 @@
 //! The run of one record: at once where it is held, and else by a scanner.
 ghost use Rattle.std.specs.Prelude.{◌≡◌, ◌≤◌, ◌+◌, length, Bool, true, None, IfSome, IsNone, unwrap_or};
-ghost use Rattle.sf_store.specs.Kept.{buffer_of};
+ghost use Rattle.sf_base.specs.stores.Kept.{buffer_of};
 ghost use Rattle.sf_format.specs.Widths.{width_sum};
 ghost use Rattle.sf_run.specs.outcome.Status.TheVariants as status;
 ghost use Rattle.sf_run.specs.Memory.{HoldsValues, capacity_of};
@@ -10,10 +10,10 @@ ghost use Rattle.sf_loops.specs.Runs.{IsNextRun};
 ghost use Rattle.sf_loops.specs.Turns.{turn_by};
 
 use crate::newlines::count_front;
+use sf_base::HeapStore;
 use sf_format::ScanFormat;
 use sf_read::{Lookahead, Source, fscan_counting};
 use sf_run::{Outcome, Scanned, quick_run};
-use sf_store::HeapStore;
 use std::alloc::Global;
 
 /// Runs the format over a record that is held whole, as `sf_read::fscan_held` does, and counts the newlines that the

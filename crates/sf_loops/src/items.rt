@@ -31,7 +31,7 @@ impl<'f, T: Row, S: Source, const N: usize> Iterator for RecordItems<'f, T, S, N
     type Item = Result<T, RecordFault>;
 
     ghost use Rattle.std.specs.Iterator.{at_most};
-    ghost use Rattle.sf_read.specs.Rows.{slots_by};
+    ghost use Rattle.sf_read.specs.field.Rows.{slots_by};
     ghost use Rattle.sf_loops.specs.Items.{GivesRecord};
 
     ghost next_gives = { λ old result new. GivesRecord S.to_come S.reads S.failures N T.kinds
@@ -109,7 +109,7 @@ impl<'f, T: Row, S: Source, const N: usize> Iterator for LineItems<'f, T, S, N> 
     type Item = Result<T, LineFault>;
 
     ghost use Rattle.std.specs.Iterator.{at_most};
-    ghost use Rattle.sf_read.specs.Rows.{slots_by};
+    ghost use Rattle.sf_read.specs.field.Rows.{slots_by};
     ghost use Rattle.sf_loops.specs.Items.{GivesLine};
 
     ghost next_gives = { λ old result new. GivesLine S.to_come S.reads S.failures N T.kinds

@@ -3,7 +3,7 @@
 ghost use Rattle.sf_loops.specs.Counts.{RecordsAreCounted};
 ghost use Rattle.sf_loops.specs.Laws.{AnswersAreRecords};
 ghost use Rattle.sf_loops.specs.LineLaws.{AnswersAreLines, NoneIsTheEnd};
-ghost use Rattle.sf_read.specs.Rows.{slots_by};
+ghost use Rattle.sf_read.specs.field.Rows.{slots_by};
 
 use sf_read::{Row, Source};
 

@@ -1,6 +1,6 @@
 //! Newlines, sixteen bytes at once.
 ghost use Rattle.std.specs.Prelude.{◌≡◌, ◌≤◌, length, take};
-ghost use Rattle.sf_read.specs.Counts.{lines_after, newlines};
+ghost use Rattle.sf_read.specs.source.Counts.{lines_after, newlines};
 
 use sf_read::count_newlines;
 use std::simd::prelude::*;

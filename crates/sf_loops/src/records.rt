@@ -3,7 +3,7 @@ ghost use Rattle.std.specs.Prelude.{◌≡◌, ◌≤◌, ◌<◌, ◌⊎◌, �
 ghost use Rattle.std.specs.Prelude.{IsErrOf};
 ghost use Rattle.sf_run.specs.declared.feeding.StartFault.TheVariants as start;
 ghost use Rattle.sf_read.specs.RowScans.{HasShape};
-ghost use Rattle.sf_read.specs.Rows.{present, slots_by};
+ghost use Rattle.sf_read.specs.field.Rows.{present, slots_by};
 ghost use Rattle.sf_loops.specs.Loops.{IsNextRow, ended_with};
 
 use crate::fault::RecordFault;

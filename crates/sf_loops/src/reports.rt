@@ -2,17 +2,17 @@
 ghost use Rattle.std.specs.Prelude.{◌≡◌, ◌≤◌, ◌<◌, ◌⊎◌, ◌↔◌, [], true, false, Option, None, Some, Ok, IfErr, IfOk};
 ghost use Rattle.std.specs.Prelude.{IsErrOf};
 ghost use Rattle.sf_format.specs.Proper.{AreKinded, IsAccepted};
-ghost use Rattle.sf_read.specs.Counts.{counted_on};
+ghost use Rattle.sf_read.specs.source.Counts.{counted_on};
 ghost use Rattle.sf_loops.specs.Loops.{IsNext, ended_with, fault_of};
 ghost use Rattle.sf_loops.specs.Runs.{IsNextRun};
 
 use crate::fault::{RecordFault, RecordWhy};
 use crate::held::{take_held, take_next};
 use crate::turn::{Turn, next_turn};
+use sf_base::HeapStore;
 use sf_format::ScanFormat;
 use sf_read::{Lookahead, Source};
 use sf_run::{MOST_BYTES, Outcome, Report, StartFault, Status};
-use sf_store::HeapStore;
 use std::alloc::Global;
 use std::marker::Model;
 

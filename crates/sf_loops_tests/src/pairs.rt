@@ -2,7 +2,7 @@
 use crate::answers::{BLOCKS, LIMIT, is, newlines_of};
 use sf_format::{PrintFormat, Profile, ScanFormat};
 use sf_pair::Pair;
-use sf_pair_rows::{ReadRowsFault, read_rows, write_rows};
+use sf_pair_read::{ReadRowsFault, read_rows, write_rows};
 use sf_print::ListSink;
 use sf_read::{Lookahead, ReadStep, ScanRowFault, ScriptSource};
 use sf_run::Ending;

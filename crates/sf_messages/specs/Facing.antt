@@ -10,7 +10,7 @@ use Rattle.sf_format.specs.declared.unit.Unit.TheVariants.{Byte, Conv}
 use Rattle.sf_format.specs.PrintLetters.{float_bytes}
 use Rattle.sf_pair.specs.Walk.{after_space}
 use Rattle.sf_arguments.specs.Names.{kind_text}
-use Rattle.sf_shown.specs.Shown.{field_text}
+use Rattle.sf_messages.specs.shown.Shown.{field_text}
 use Rattle.sf_records.specs.Quotes.{quoted}
 
 -- ---- where the walk over both stands

@@ -1,5 +1,5 @@
--- how a directive is shown
-pub use Rattle.sf_shown.specs.Shown
+pub mod shown
+pub mod places
 -- what is said
 pub mod Facing
 pub mod Faults

@@ -7,8 +7,8 @@ use Rattle.sf_format.specs.declared.directive.Directive.{Directive}
 use Rattle.sf_format.specs.declared.directive.Directive.TheVariants.{Conv as Conversion}
 use Rattle.sf_format.specs.declared.unit.Unit.{Unit as PrintUnit}
 use Rattle.sf_format.specs.declared.unit.Unit.TheVariants.{Conv}
-use Rattle.sf_lines.specs.declared.end.LineFault.{LineFault}
-use Rattle.sf_lines.specs.declared.end.LineFault.TheVariants.{Failed, LeftOver, TooLong, Unfit}
+use Rattle.sf_records.specs.declared.by_lines.end.LineFault.{LineFault}
+use Rattle.sf_records.specs.declared.by_lines.end.LineFault.TheVariants.{Failed, LeftOver, TooLong, Unfit}
 use Rattle.sf_pair.specs.declared.fault.PairFault.{PairFault}
 use Rattle.sf_pair.specs.declared.fault.PairWhy.{PairWhy}
 use Rattle.sf_pair.specs.declared.fault.PairWhy.TheVariants as why
@@ -17,11 +17,11 @@ use Rattle.sf_run.specs.outcome.Ending.TheVariants.{End}
 use Rattle.sf_run.specs.outcome.Outcome.{Outcome}
 use Rattle.sf_run.specs.outcome.Status.{Status}
 use Rattle.sf_run.specs.outcome.Status.TheVariants.{OutOfRange}
-use Rattle.sf_places.specs.declared.place.Place.{Place}
+use Rattle.sf_messages.specs.declared.places.place.Place.{Place}
 use Rattle.sf_records.specs.Quotes.{quoted}
 use Rattle.sf_messages.specs.declared.fault.FormatName.{FormatName}
 use Rattle.sf_messages.specs.declared.fault.FormatName.TheVariants as name
-use Rattle.sf_shown.specs.Cures.{width_cure}
+use Rattle.sf_messages.specs.shown.Cures.{width_cure}
 use Rattle.sf_messages.specs.Facing.{faced, unit_text}
 use Rattle.sf_messages.specs.Names.{name_text}
 use Rattle.sf_messages.specs.Newlines.{is_left_white, is_lone_newline, is_newline_taken, is_over_newline, is_white_first}

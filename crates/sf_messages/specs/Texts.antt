@@ -3,16 +3,16 @@ use Rattle.std.specs.Prelude.{ℕ, List, [], ◌∷◌, ◌++◌, codes, Some}
 use Rattle.std.specs.Fmt.{decimal}
 use Rattle.sf_format.specs.declared.fault.FormatWhy.{FormatWhy}
 use Rattle.sf_format.specs.Texts.{why_text}
-use Rattle.sf_lines.specs.Loops as lines
-use Rattle.sf_lines.specs.Texts.{lines_fault_text}
+use Rattle.sf_records.specs.by_lines.Loops as lines
+use Rattle.sf_records.specs.by_lines.Texts.{lines_fault_text}
 use Rattle.sf_records.specs.Records.{status_by}
 use Rattle.sf_records.specs.Texts.{tool_fault_text}
 use Rattle.sf_pair.specs.declared.fault.PairFault.{PairFault}
 use Rattle.sf_pair.specs.Texts.{fault_text}
 use Rattle.sf_arguments.specs.Names.{kind_text}
 use Rattle.sf_arguments.specs.Texts.{argument_fault_text, argument_status}
-use Rattle.sf_makers.specs.declared.printable.PrintMismatch.{PrintMismatch}
-use Rattle.sf_makers.specs.declared.printable.PrintMismatch.TheVariants as mismatch
+use Rattle.sf_forms.specs.declared.makers.printable.PrintMismatch.{PrintMismatch}
+use Rattle.sf_forms.specs.declared.makers.printable.PrintMismatch.TheVariants as mismatch
 use Rattle.sf_messages.specs.Names.{name_text}
 use Rattle.sf_messages.specs.declared.fault.FormatName.{FormatName}
 use Rattle.sf_messages.specs.declared.fault.FormatName.TheVariants as name

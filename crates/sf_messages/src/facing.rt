@@ -6,11 +6,11 @@ ghost use Rattle.sf_pair.specs.Walk.{after_space};
 ghost use Rattle.sf_messages.specs.Facing.{behind, faced, flag_text, flags_text, left_behind, print_conv_text};
 ghost use Rattle.sf_messages.specs.Facing.{print_head_text, print_letter_text, unit_text, width_given};
 
+use crate::shown::{push_field, push_text};
 use sf_arguments::kind_text;
 use sf_base::is_space;
 use sf_format::{Directive, FloatStyle, PrintConv, PrintLetter, Unit};
 use sf_records::push_quoted;
-use sf_shown::{push_field, push_text};
 use std::alloc::{AllocError, Global};
 
 /// Whether the first of the units is a literal of white space.

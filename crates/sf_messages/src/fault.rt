@@ -7,10 +7,9 @@ ghost use Rattle.sf_messages.specs.declared.fault.CommandFault.TheVariants.{Memo
 use crate::names::name_text;
 use sf_arguments::{ArgumentFault, kind_text};
 use sf_format::{FormatFault, FormatWhy};
-use sf_lines::LinesFault;
-use sf_makers::PrintMismatch;
+use sf_forms::PrintMismatch;
 use sf_pair::PairFault;
-use sf_records::ToolFault;
+use sf_records::{LinesFault, ToolFault};
 use std::alloc::AllocError;
 use std::error::Error;
 use std::fmt;

@@ -6,13 +6,16 @@ mod fault;
 mod names;
 mod newlines;
 mod notes;
+mod places;
 mod sentences;
+mod shown;
 mod wording;
 
 pub use fault::{CommandFault, FormatName, format_fault, print_format_fault};
 pub use notes::{
     escape_notes, failed_notes, format_notes, input_notes, line_notes, pair_notes, value_notes,
 };
+pub use places::{BLOCK_BYTES, Input, Place, Placed};
 pub use sf_arguments::ArgumentFault;
-pub use sf_shown::{push_directive, show};
+pub use shown::{push_directive, show};
 pub use wording::{ErrorLine, error_line, joined, line_fault_line, name_twice_line};

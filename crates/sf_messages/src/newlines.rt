@@ -3,9 +3,9 @@ ghost use Rattle.std.specs.Prelude.{◌≡◌};
 ghost use Rattle.sf_messages.specs.Newlines.{begins_white, is_left_white, is_lone_newline, is_newline_taken};
 ghost use Rattle.sf_messages.specs.Newlines.{is_over_newline, is_white_first, takes_newline};
 
+use crate::places::Place;
 use sf_base::is_space;
 use sf_format::{Conversion, Directive, Shape};
-use sf_places::Place;
 use sf_run::{Ending, Outcome};
 
 /// Whether bytes begin with white space.

@@ -12,19 +12,18 @@ use crate::names::name_text;
 use crate::newlines::{
     is_left_white, is_lone_newline, is_newline_taken, is_over_newline, is_white_first,
 };
+use crate::places::Place;
 use crate::sentences::{
     escape_sentence, left_white_sentence, lone_newline_sentence, newline_taken_sentence,
     no_value_text, over_newline_sentence, pair_sentence, push_typed, push_typed_escape, range_text,
     values_text, white_first_sentence, why_sentence,
 };
+use crate::shown::push_width_cure;
 use sf_arguments::ArgumentFault;
 use sf_format::{Directive, FormatFault, Unit};
-use sf_lines::LineFault;
 use sf_pair::{PairFault, PairWhy};
-use sf_places::Place;
-use sf_records::push_quoted;
+use sf_records::{LineFault, push_quoted};
 use sf_run::{Ending, Outcome, Status};
-use sf_shown::push_width_cure;
 use std::alloc::{AllocError, Global};
 use std::io::Write;
 

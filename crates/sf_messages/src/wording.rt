@@ -15,10 +15,9 @@ use itoa::Buffer;
 use sf_arguments::{ArgumentFault, kind_text};
 use sf_base::Kind;
 use sf_format::FormatWhy;
-use sf_lines::{LineFault, LinesFault};
-use sf_makers::PrintMismatch;
+use sf_forms::PrintMismatch;
 use sf_pair::PairWhy;
-use sf_records::ToolFault;
+use sf_records::{LineFault, LinesFault, ToolFault};
 use sf_run::Outcome;
 use std::alloc::{AllocError, Global};
 

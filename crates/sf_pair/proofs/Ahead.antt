@@ -12,17 +12,17 @@ use Rattle.sf_format.specs.declared.unit.PrintConv.{PrintConv}
 use Rattle.sf_format.specs.declared.unit.Unit.{Unit as PrintUnit}
 use Rattle.sf_format.specs.declared.unit.Unit.TheVariants as unit
 use Rattle.sf_format.specs.Units.{IsProperUnit, AreProperUnits}
-use Rattle.sf_print.specs.Text.{value_text, blanks}
+use Rattle.sf_print.specs.texts.Text.{value_text, blanks}
 use Rattle.sf_print.specs.Printed.{text_or_none, printed}
 use Rattle.sf_report.specs.Machine.{shape_skips}
 use Rattle.sf_report.specs.Laws.{EachByteIsTried}
 use Rattle.sf_report.specs.Computed.{skip}
 use Rattle.sf_pair.specs.declared.fault.PairWhy.TheVariants as why
-use Rattle.sf_pair_texts.specs.Neighbours.{Bytes as ByteTest, meet, first_of, first_by_letter, reads, stop_set}
+use Rattle.sf_pair.specs.conversions.Neighbours.{Bytes as ByteTest, meet, first_of, first_by_letter, reads, stop_set}
 use Rattle.sf_pair.specs.Groups.{AreSpace, is_count, starts_with_space, keeps_space, space_fault, always_full, follow_fault, closing_fault}
 use Rattle.sf_pair.specs.Groups.{next_of}
-use Rattle.sf_pair_texts.proofs.Bodies.{StartsInk, FirstByte}
-use Rattle.sf_pair_texts.proofs.Firsts.{FirstIn, first_append}
+use Rattle.sf_pair.proofs.ConversionLemmas.Bodies.{StartsInk, FirstByte}
+use Rattle.sf_pair.proofs.ConversionLemmas.Firsts.{FirstIn, first_append}
 use Rattle.sf_pair.proofs.Taken.{FirstOut}
 use Rattle.sf_pair.proofs.FitCut.{PairedReads, FitCut}
 

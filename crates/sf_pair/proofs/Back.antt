@@ -3,13 +3,13 @@ use Rattle.std.proofs.Common.{◌≡◌, ◌⊎◌, ℕ, Bool, true, false, List
 use Rattle.sf_base.specs.Data.{Datum}
 use Rattle.sf_format.specs.declared.directive.Conversion.{Conversion}
 use Rattle.sf_format.specs.declared.unit.PrintConv.{PrintConv}
-use Rattle.sf_print.specs.Text.{value_text, blanks}
+use Rattle.sf_print.specs.texts.Text.{value_text, blanks}
 use Rattle.sf_report.specs.Steps.{Stores}
 use Rattle.sf_report.specs.Machine.{shape_skips, passed_end}
-use Rattle.sf_pair_texts.specs.Neighbours.{stop_set, first_by_letter}
+use Rattle.sf_pair.specs.conversions.Neighbours.{stop_set, first_by_letter}
 use Rattle.sf_pair.specs.Groups.{always_full}
-use Rattle.sf_pair_texts.proofs.Bodies.{StartsInk, FirstByte}
-use Rattle.sf_pair_texts.proofs.Firsts.{FirstIn}
+use Rattle.sf_pair.proofs.ConversionLemmas.Bodies.{StartsInk, FirstByte}
+use Rattle.sf_pair.proofs.ConversionLemmas.Firsts.{FirstIn}
 use Rattle.sf_pair.proofs.Taken.{Takes, FirstOut}
 
 -- the white space before an item, where its shape skips it, is that of the padding

@@ -9,7 +9,7 @@ use Rattle.sf_format.specs.declared.directive.Directive.TheVariants as directive
 use Rattle.sf_format.specs.declared.unit.Unit.{Unit as PrintUnit}
 use Rattle.sf_format.specs.Proper.{HasItsWidth, IsSized, AreSized}
 use Rattle.sf_format.specs.Widths.{add_widths, text_width, stored_width, width_sum}
-use Rattle.sf_pair_texts.specs.Below.{LawsBelow}
+use Rattle.sf_pair.specs.conversions.Below.{LawsBelow}
 use Rattle.sf_pair.specs.Groups.{is_left_out, is_chars, IsConversionGroup, IsGroup, AreCut, next_of}
 use Rattle.sf_pair.specs.Laws.{read_back, ReadWithin, AlignedIsBounded}
 use Rattle.sf_pair.proofs.Paired.{pairs, width_is}

@@ -12,7 +12,7 @@ use Rattle.sf_format.specs.declared.directive.Directive.TheVariants as directive
 use Rattle.sf_pair.specs.declared.fault.PairWhy.{PairWhy}
 use Rattle.sf_pair.specs.declared.fault.PairWhy.TheVariants as why
 use Rattle.sf_pair.specs.declared.fault.PairFault.{PairFault}
-use Rattle.sf_pair_texts.specs.Neighbours.{Bytes, only, reads}
+use Rattle.sf_pair.specs.conversions.Neighbours.{Bytes, only, reads}
 use Rattle.sf_pair.specs.Groups.{starts_with_space, space_fault, suppressed_by, pairing_fault, closing_fault, is_count, is_left_out}
 use Rattle.sf_pair.specs.Groups.{next_of, assigns, IsLiteral, AreSpace, IsSpaceRun, IsPaired, IsConversionGroup, IsGroup, AreCut}
 use Rattle.sf_pair.specs.Walk.{Left, leaves, unless, take_literal, after_space, take_space, take_paired, take_conversion, take_group, fault}

@@ -25,23 +25,23 @@ use Rattle.sf_float.specs.declared.text.FloatConv.{FloatConv}
 use Rattle.sf_float.specs.Printed.{in_case, is_hexadecimal, inner_zeros}
 use Rattle.sf_float.specs.Computed.{general_of, number_of, power_of, digits_text}
 use Rattle.sf_float.specs.Laws.{GeneralReadsBack, GeneralZeroReadsBack}
-use Rattle.sf_float_item.specs.Parts.{IsSign}
-use Rattle.sf_float_value.specs.Laws.{HexadecimalReadsBack}
-use Rattle.sf_float_value.specs.Values.{is_minus, stored, IsHexValue, IsStored, IsStoredSize}
-use Rattle.sf_print.specs.Text.{zeros}
-use Rattle.sf_print.specs.Floats.{style_of, float_conv}
+use Rattle.sf_float_read.specs.item.Parts.{IsSign}
+use Rattle.sf_float_read.specs.value.Laws.{HexadecimalReadsBack}
+use Rattle.sf_float_read.specs.value.Values.{is_minus, stored, IsHexValue, IsStored, IsStoredSize}
+use Rattle.sf_print.specs.texts.Text.{zeros}
+use Rattle.sf_print.specs.texts.Floats.{style_of, float_conv}
 use Rattle.sf_pair.specs.Groups.{IsConversionGroup, IsGroup, AreCut, is_left_out, next_of}
-use Rattle.sf_pair_texts.specs.Widths.{written_style}
+use Rattle.sf_pair.specs.conversions.Widths.{written_style}
 use Rattle.sf_pair.specs.Fits.{RealFits, ValueFits, FitsAt, AllFit, conversions, assigned_conversions}
 use Rattle.sf_pair.specs.Doubles.{WritesEnough, CarriesDoubles, IsFiniteDouble, IsCarried, AllCarried, FiniteDoublesFit}
 use Rattle.sf_pair.proofs.Paired.{Pairs, pairs}
 use Rattle.sf_pair.proofs.FitCut.{all_rest, space_prints_none}
-use Rattle.sf_pair_texts.proofs.RealTexts.{size_of, bare_sign, mark_bytes, after_sign, body, mark_is, seen_is}
-use Rattle.sf_pair_texts.proofs.LongestReals.{none_is_longer}
-use Rattle.sf_pair_texts.proofs.PaddedNumerals.{Decimal, padded_numeral, padded_back}
-use Rattle.sf_pair_texts.proofs.PaddedHexadecimals.{hex_padded}
-use Rattle.sf_pair_texts.proofs.EnoughDigits.{exponent_reads, general_reads}
-use Rattle.sf_pair_texts.proofs.BinaryDigits.{hexadecimal_right}
+use Rattle.sf_pair.proofs.ConversionLemmas.RealTexts.{size_of, bare_sign, mark_bytes, after_sign, body, mark_is, seen_is}
+use Rattle.sf_pair.proofs.ConversionLemmas.LongestReals.{none_is_longer}
+use Rattle.sf_pair.proofs.ConversionLemmas.PaddedNumerals.{Decimal, padded_numeral, padded_back}
+use Rattle.sf_pair.proofs.ConversionLemmas.PaddedHexadecimals.{hex_padded}
+use Rattle.sf_pair.proofs.ConversionLemmas.EnoughDigits.{exponent_reads, general_reads}
+use Rattle.sf_pair.proofs.ConversionLemmas.BinaryDigits.{hexadecimal_right}
 
 -- the laws of the crates below
 pub record FloatsReadBack : Type 0 where

@@ -16,8 +16,8 @@ use Rattle.sf_format.specs.Units.{IsProperConv, IsProperUnit, AreProperUnits}
 use Rattle.sf_format.specs.Proper.{IsProperWidth, HasItsWidth, IsSized, AreSized, IsProper, AreProper}
 use Rattle.sf_print.specs.Printed.{value_at, value_fault}
 use Rattle.sf_report.specs.Machine.{shape_skips}
-use Rattle.sf_pair_texts.specs.Below.{LawsBelow}
-use Rattle.sf_pair_texts.specs.Neighbours.{only, no_byte, reads}
+use Rattle.sf_pair.specs.conversions.Below.{LawsBelow}
+use Rattle.sf_pair.specs.conversions.Neighbours.{only, no_byte, reads}
 use Rattle.sf_pair.specs.Groups.{IsLiteral, AreSpace, IsSpaceRun, IsPaired, IsConversionGroup, IsGroup, AreCut, is_count, is_left_out}
 use Rattle.sf_pair.specs.Groups.{is_width_one, members_of, suppressed_by, closing_fault, next_of}
 use Rattle.sf_pair.specs.Fits.{FitsAt, AllFit, conversions, assigned_by, assigned_conversions}

@@ -21,14 +21,14 @@ use Rattle.sf_format.specs.declared.directive.Directive.{Directive}
 use Rattle.sf_format.specs.declared.unit.PrintConv.{PrintConv}
 use Rattle.sf_format.specs.declared.unit.Unit.{Unit as PrintUnit}
 use Rattle.sf_format.specs.Units.{values_of}
-use Rattle.sf_float_item.specs.Tests.{is_float}
-use Rattle.sf_float_value.specs.Values.{IsStored}
-use Rattle.sf_float_value.specs.Computed.{stored_in}
+use Rattle.sf_float_read.specs.item.Tests.{is_float}
+use Rattle.sf_float_read.specs.value.Values.{IsStored}
+use Rattle.sf_float_read.specs.value.Computed.{stored_in}
 use Rattle.sf_item.specs.Tests.{is_ink}
 use Rattle.sf_print.specs.Printed.{value_at, same_kind}
-use Rattle.sf_print.specs.Visible.{visible}
-use Rattle.sf_pair_texts.specs.Below.{LawsBelow}
-use Rattle.sf_pair_texts.specs.Reals.{seen, is_pattern, is_read_as}
+use Rattle.sf_print.specs.texts.Visible.{visible}
+use Rattle.sf_pair.specs.conversions.Below.{LawsBelow}
+use Rattle.sf_pair.specs.conversions.Reals.{seen, is_pattern, is_read_as}
 use Rattle.sf_pair.specs.Groups.{width_of}
 use Rattle.sf_pair.specs.Fits.{is_negative, TextFits, RealFits, ValueFits, FitsAt, AllFit, Fit, conversions, assigned_by}
 use Rattle.sf_pair.specs.Fits.{assigned_conversions, is_number_so, is_of_kind, is_byte, is_item_of, text_fits, real_fits, value_fits}

@@ -9,8 +9,8 @@ use Rattle.sf_format.specs.declared.directive.Shape.TheVariants as shape
 use Rattle.sf_format.specs.declared.unit.PrintConv.{PrintConv}
 use Rattle.sf_item.specs.Radices.{first_radix, zero_radix, prefix_radix}
 use Rattle.sf_item.specs.Progress.{Progress, Zero, Digits, with_digit, after_zero, advance}
-use Rattle.sf_print.specs.Visible.{least}
-use Rattle.sf_pair_texts.specs.Neighbours.{prefix_letters, is_auto_base, stop_set}
+use Rattle.sf_print.specs.texts.Visible.{least}
+use Rattle.sf_pair.specs.conversions.Neighbours.{prefix_letters, is_auto_base, stop_set}
 use Rattle.sf_pair.specs.Groups.{is_auto}
 use Rattle.sf_pair.proofs.Numbers.{EndsIn}
 

@@ -6,7 +6,7 @@ use Rattle.std.specs.Prelude.{IfSome}
 use Rattle.std.specs.List.{cons_option}
 use Rattle.sf_base.specs.Data.{Datum, Number, Bytes, Real, Assigned, value_of}
 use Rattle.sf_base.specs.declared.real.Real as real
-use Rattle.sf_store.specs.Kept.{text_in, texts_in}
+use Rattle.sf_base.specs.stores.Kept.{text_in, texts_in}
 use Rattle.sf_format.specs.declared.directive.Shape.{Shape}
 use Rattle.sf_format.specs.declared.directive.Shape.TheVariants as shape
 use Rattle.sf_format.specs.declared.directive.Conversion.{Conversion}

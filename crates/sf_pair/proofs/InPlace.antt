@@ -15,7 +15,7 @@ use Rattle.sf_format.specs.declared.unit.Unit.TheVariants as unit
 use Rattle.sf_format.specs.Units.{values_of}
 use Rattle.sf_print.specs.Printed.{printed, unit_text, value_at}
 use Rattle.sf_print.proofs.InPlace.{ends_at}
-use Rattle.sf_pair_texts.specs.Below.{LawsBelow}
+use Rattle.sf_pair.specs.conversions.Below.{LawsBelow}
 use Rattle.sf_pair.specs.Fits.{Fit, conversions, assigned_conversions, fits_or_not, all_fit}
 use Rattle.sf_pair.specs.Formats.{Formats}
 use Rattle.sf_pair.proofs.Walking.{drop_next}

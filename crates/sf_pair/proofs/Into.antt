@@ -15,11 +15,11 @@ use Rattle.sf_format.specs.declared.unit.Unit.TheVariants as unit
 use Rattle.sf_format.specs.Units.{IsProperConv}
 use Rattle.sf_format.specs.Proper.{IsProperShape, IsProperWidth, HasItsWidth, IsProper}
 use Rattle.sf_item.specs.Tests.{is_ink, is_within, shape_begins, can_take}
-use Rattle.sf_print.specs.Text.{value_text}
+use Rattle.sf_print.specs.texts.Text.{value_text}
 use Rattle.sf_report.specs.Steps.{Stores}
 use Rattle.sf_report.specs.Machine.{stored_end, passed_end}
-use Rattle.sf_pair_texts.specs.Below.{LawsBelow}
-use Rattle.sf_pair_texts.specs.Neighbours.{is_spare, stop_set}
+use Rattle.sf_pair.specs.conversions.Below.{LawsBelow}
+use Rattle.sf_pair.specs.conversions.Neighbours.{is_spare, stop_set}
 use Rattle.sf_pair.specs.Groups.{is_number, is_chars, letters_pair, width_of, least_by, always_full}
 use Rattle.sf_pair.specs.Fits.{TextFits, ValueFits}
 use Rattle.sf_pair.specs.Laws.{TakesInto, RunsPast}

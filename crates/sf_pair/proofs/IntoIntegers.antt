@@ -22,17 +22,17 @@ use Rattle.sf_format.specs.Proper.{IsProper, HasItsWidth}
 use Rattle.sf_item.specs.Radices.{first_radix}
 use Rattle.sf_item.specs.Progress.{Progress, Start, Zero, integer_of, advance}
 use Rattle.sf_item.specs.Tests.{read, is_within, shape_begins, can_take}
-use Rattle.sf_print.specs.Text.{zeros, base_mark, is_octal, least_digits, pads_with_zeros}
-use Rattle.sf_print.specs.Visible.{without_blanks, visible, least}
+use Rattle.sf_print.specs.texts.Text.{zeros, base_mark, is_octal, least_digits, pads_with_zeros}
+use Rattle.sf_print.specs.texts.Visible.{without_blanks, visible, least}
 use Rattle.sf_report.specs.Machine.{shape_skips}
 use Rattle.sf_base.specs.Kinds.{bounds_of}
-use Rattle.sf_pair_texts.specs.Below.{LawsBelow}
-use Rattle.sf_pair_texts.specs.Neighbours.{prefix_letters, stop_set}
+use Rattle.sf_pair.specs.conversions.Below.{LawsBelow}
+use Rattle.sf_pair.specs.conversions.Neighbours.{prefix_letters, stop_set}
 use Rattle.sf_pair.specs.Groups.{is_number, is_chars, is_auto, letters_pair, width_of, least_by, always_full}
 use Rattle.sf_pair.specs.Fits.{IsOfKind, ValueFits}
 use Rattle.sf_pair.specs.Laws.{TakesInto}
-use Rattle.sf_pair_texts.proofs.Parts.{bare_sign, zero_digit, one_digit}
-use Rattle.sf_pair_texts.proofs.Bodies.{StartsInk, without_some, Body}
+use Rattle.sf_pair.proofs.ConversionLemmas.Parts.{bare_sign, zero_digit, one_digit}
+use Rattle.sf_pair.proofs.ConversionLemmas.Bodies.{StartsInk, without_some, Body}
 use Rattle.sf_pair.proofs.Numbers.{NumberRead, lone_zero_read, mark_of_zero, none_marked}
 use Rattle.sf_pair.proofs.Paired.{and_so, full_by, Pairs, width_is}
 use Rattle.sf_pair.proofs.Back.{SkipsSo, ReadsBack}

@@ -26,30 +26,30 @@ use Rattle.sf_format.specs.Proper.{IsProper, HasItsWidth}
 use Rattle.sf_float.specs.declared.text.FloatConv.{FloatConv}
 use Rattle.sf_float.specs.Printed.{bare_len, inner_zeros}
 use Rattle.sf_float.specs.Computed.{float_text}
-use Rattle.sf_float_item.specs.declared.reached.Radix.TheVariants.{Ten}
-use Rattle.sf_float_item.specs.declared.reached.Reached.{Reached}
-use Rattle.sf_float_item.specs.declared.reached.Reached.TheVariants as at
-use Rattle.sf_float_item.specs.Tests.{next, read}
-use Rattle.sf_float_value.specs.Values.{IsStored}
+use Rattle.sf_float_read.specs.declared.item.reached.Radix.TheVariants.{Ten}
+use Rattle.sf_float_read.specs.declared.item.reached.Reached.{Reached}
+use Rattle.sf_float_read.specs.declared.item.reached.Reached.TheVariants as at
+use Rattle.sf_float_read.specs.item.Tests.{next, read}
+use Rattle.sf_float_read.specs.value.Values.{IsStored}
 use Rattle.sf_item.specs.Tests.{is_within, shape_begins, can_take}
-use Rattle.sf_print.specs.Floats.{style_of, float_conv}
-use Rattle.sf_print.specs.Visible.{without_blanks}
+use Rattle.sf_print.specs.texts.Floats.{style_of, float_conv}
+use Rattle.sf_print.specs.texts.Visible.{without_blanks}
 use Rattle.sf_report.specs.Machine.{shape_skips}
-use Rattle.sf_pair_texts.specs.Below.{LawsBelow}
-use Rattle.sf_pair_texts.specs.Reals.{zero_seen, has_point}
-use Rattle.sf_pair_texts.specs.Neighbours.{is_prefix_letter, exponent_stops, fraction_stops, whole_stops, float_stops, is_spare}
+use Rattle.sf_pair.specs.conversions.Below.{LawsBelow}
+use Rattle.sf_pair.specs.conversions.Reals.{zero_seen, has_point}
+use Rattle.sf_pair.specs.conversions.Neighbours.{is_prefix_letter, exponent_stops, fraction_stops, whole_stops, float_stops, is_spare}
 use Rattle.sf_pair.specs.Groups.{is_number, is_chars, letters_pair, width_of, least_by, always_full}
 use Rattle.sf_pair.specs.Fits.{ValueFits}
 use Rattle.sf_pair.specs.Laws.{TakesInto}
-use Rattle.sf_pair_texts.proofs.Bodies.{without_some}
+use Rattle.sf_pair.proofs.ConversionLemmas.Bodies.{without_some}
 use Rattle.sf_pair.proofs.Paired.{and_so, or_none, full_by, Pairs, width_is}
 use Rattle.sf_pair.proofs.GoesOn.{either_so}
-use Rattle.sf_pair_texts.proofs.Places.{read_more}
-use Rattle.sf_pair_texts.proofs.RealTexts.{size_of, body, seen_is}
-use Rattle.sf_pair_texts.proofs.RealSizes.{zero_is, zero_number, zero_finite, pads_is}
-use Rattle.sf_pair_texts.proofs.RealZero.{fixed_pointed, general_pointed}
-use Rattle.sf_pair_texts.proofs.ZeroRead.{whole_place, plain_place, fixed_zero_read, general_zero_read, exponent_zero_read, zero_matches}
-use Rattle.sf_pair_texts.proofs.ZeroStored.{zero_is_stored}
+use Rattle.sf_pair.proofs.ConversionLemmas.Places.{read_more}
+use Rattle.sf_pair.proofs.ConversionLemmas.RealTexts.{size_of, body, seen_is}
+use Rattle.sf_pair.proofs.ConversionLemmas.RealSizes.{zero_is, zero_number, zero_finite, pads_is}
+use Rattle.sf_pair.proofs.ConversionLemmas.RealZero.{fixed_pointed, general_pointed}
+use Rattle.sf_pair.proofs.ConversionLemmas.ZeroRead.{whole_place, plain_place, fixed_zero_read, general_zero_read, exponent_zero_read, zero_matches}
+use Rattle.sf_pair.proofs.ConversionLemmas.ZeroStored.{zero_is_stored}
 use Rattle.sf_pair.proofs.Back.{SkipsSo, ReadsBack}
 use Rattle.sf_pair.proofs.ReadBack.{reads_back}
 use Rattle.sf_pair.proofs.RunsOn.{takes_too}

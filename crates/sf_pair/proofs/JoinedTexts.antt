@@ -10,7 +10,7 @@ use Rattle.sf_format.specs.Units.{AreAccepted}
 use Rattle.sf_print.specs.Printed.{printed}
 use Rattle.sf_report.specs.declared.outcome.Ending.{Ending}
 use Rattle.sf_report.specs.Runs.{Run}
-use Rattle.sf_pair_texts.specs.Below.{LawsBelow}
+use Rattle.sf_pair.specs.conversions.Below.{LawsBelow}
 use Rattle.sf_pair.specs.Fits.{Fit}
 use Rattle.sf_pair.specs.Groups.{IsAligned}
 use Rattle.sf_pair.specs.Joined.{joined, RunsInTurn, JoinedRoundTrip}

@@ -1,3 +1,4 @@
+pub mod ConversionLemmas
 pub mod ReadDigits
 pub mod Numbers
 pub mod Taken

@@ -23,7 +23,7 @@ use Rattle.sf_report.specs.declared.outcome.Ending.TheVariants.{End}
 use Rattle.sf_report.specs.Steps.{StepEnd, Passes, Stores, Misses, Fails}
 use Rattle.sf_report.specs.Runs.{Ran, RunReport, Run, IsOpen, used, status_of, converted, report_of, is_conversion, passed}
 use Rattle.sf_report.specs.Computed.{skip_before, len, item_part, conversion_step, byte_choice, step_of, go_on, ran_of}
-use Rattle.sf_pair_texts.specs.Below.{LawsBelow}
+use Rattle.sf_pair.specs.conversions.Below.{LawsBelow}
 use Rattle.sf_pair.specs.Groups.{is_count, is_left_out, IsConversionGroup, AreCut, assigns, next_of}
 use Rattle.sf_pair.specs.Laws.{read_back, AlignedEndsOnNothing, PrintsSome}
 use Rattle.sf_pair.proofs.Paired.{and_so, or_none}

@@ -16,12 +16,12 @@ use Rattle.sf_item.specs.Radices.{first_radix, zero_radix, prefix_radix}
 use Rattle.sf_item.specs.Progress.{Progress, Start, Signed, Zero, Prefix, Digits, integer_of, with_digit, with_first_digit, after_zero}
 use Rattle.sf_item.specs.Progress.{advance}
 use Rattle.sf_item.specs.Tests.{read}
-use Rattle.sf_print.specs.Text.{mark, base_mark, base_of, least_digits, pads_with_zeros, is_octal}
-use Rattle.sf_print.specs.Visible.{visible, least}
-use Rattle.sf_pair_texts.specs.Neighbours.{prefix_letters, is_auto_base, integer_stops, stop_set}
+use Rattle.sf_print.specs.texts.Text.{mark, base_mark, base_of, least_digits, pads_with_zeros, is_octal}
+use Rattle.sf_print.specs.texts.Visible.{visible, least}
+use Rattle.sf_pair.specs.conversions.Neighbours.{prefix_letters, is_auto_base, integer_stops, stop_set}
 use Rattle.sf_pair.specs.Fits.{is_negative}
-use Rattle.sf_pair_texts.proofs.Parts.{bare_sign}
-use Rattle.sf_pair_texts.proofs.Bodies.{digit_above, Body}
+use Rattle.sf_pair.proofs.ConversionLemmas.Parts.{bare_sign}
+use Rattle.sf_pair.proofs.ConversionLemmas.Bodies.{digit_above, Body}
 use Rattle.sf_pair.proofs.ReadDigits.{digit_taken, reads_on, no_prefix_of_dec, no_prefix_of_oct, IsRead, DigitsRead, first_digits}
 
 -- ---- the sign

@@ -12,9 +12,9 @@ use Rattle.sf_format.specs.declared.directive.Conversion.{Conversion}
 use Rattle.sf_format.specs.declared.unit.PrintConv.{PrintConv}
 use Rattle.sf_format.specs.Units.{is_unsigned}
 use Rattle.sf_print.specs.Printed.{same_kind}
-use Rattle.sf_print.specs.Text.{least_digits}
+use Rattle.sf_print.specs.texts.Text.{least_digits}
 use Rattle.sf_base.specs.Rules.{first_reason}
-pub use Rattle.sf_pair_texts.proofs.Tests.{or_none, not_none, and_so, and_both}
+pub use Rattle.sf_pair.proofs.ConversionLemmas.Tests.{or_none, not_none, and_so, and_both}
 use Rattle.sf_pair.specs.declared.fault.PairWhy.TheVariants as why
 use Rattle.sf_pair.specs.Groups.{is_integer, is_number, is_text, is_chars, is_one, letters_pair, width_of, least_by, kinds_differ}
 use Rattle.sf_pair.specs.Groups.{numbers_differ, bad_flag, has_no_width, too_narrow, leading_zero, rule, pairing_fault}

@@ -24,21 +24,21 @@ use Rattle.sf_format.specs.declared.unit.PrintLetter.TheVariants as letter
 use Rattle.sf_format.specs.Units.{IsProperConv, has_flag, prints_kind, is_unsigned, is_double, is_text as is_text_kind}
 use Rattle.sf_format.specs.Proper.{IsProperWidth, HasItsWidth}
 use Rattle.sf_item.specs.Tests.{is_ink}
-use Rattle.sf_print.specs.Text.{integer_text, bytes_text, shown_bytes, padded, blanks, base_of, base_mark, is_octal, least_digits}
-use Rattle.sf_print.specs.Text.{pads_with_zeros}
+use Rattle.sf_print.specs.texts.Text.{integer_text, bytes_text, shown_bytes, padded, blanks, base_of, base_mark, is_octal, least_digits}
+use Rattle.sf_print.specs.texts.Text.{pads_with_zeros}
 use Rattle.sf_report.specs.Steps.{Stores}
 use Rattle.sf_report.specs.Machine.{shape_skips}
-use Rattle.sf_print.specs.Visible.{visible, least}
-use Rattle.sf_pair_texts.specs.Below.{LawsBelow}
-use Rattle.sf_pair_texts.specs.Neighbours.{Bytes as ByteTest, stop_set, integer_first, first_by_letter, only, or, any_byte}
+use Rattle.sf_print.specs.texts.Visible.{visible, least}
+use Rattle.sf_pair.specs.conversions.Below.{LawsBelow}
+use Rattle.sf_pair.specs.conversions.Neighbours.{Bytes as ByteTest, stop_set, integer_first, first_by_letter, only, or, any_byte}
 use Rattle.sf_pair.specs.Groups.{is_integer, is_number, is_text, is_chars, is_auto, letters_pair, width_of, least_by, always_full}
 use Rattle.sf_pair.specs.Fits.{is_negative, IsOfKind, TextFits, RealFits, ValueFits}
-use Rattle.sf_pair_texts.proofs.Bodies.{StartsInk, FirstByte, blanks_byte, Body, body_of}
+use Rattle.sf_pair.proofs.ConversionLemmas.Bodies.{StartsInk, FirstByte, blanks_byte, Body, body_of}
 use Rattle.sf_pair.proofs.Numbers.{NumberRead, HasMark, read_decimal, read_octal, read_marked, read_auto}
-use Rattle.sf_pair_texts.proofs.Shortest.{least_is_shortest, visible_some}
+use Rattle.sf_pair.proofs.ConversionLemmas.Shortest.{least_is_shortest, visible_some}
 use Rattle.sf_pair.proofs.Back.{SkipsSo, ReadsBack}
 use Rattle.sf_pair.proofs.ReadReals.{real_reads_back}
-use Rattle.sf_pair_texts.proofs.Firsts.{FirstIn, first_weaker, or_right, NoSign, SignFits, integer_text_first}
+use Rattle.sf_pair.proofs.ConversionLemmas.Firsts.{FirstIn, first_weaker, or_right, NoSign, SignFits, integer_text_first}
 use Rattle.sf_pair.proofs.Taken.{FirstOut, integer_takes, integer_stored}
 use Rattle.sf_pair.proofs.TakenTexts.{text_takes, set_takes, chars_takes, text_stored, set_stored, chars_stored}
 use Rattle.sf_pair.proofs.Paired.{full_by, or_none, Pairs, kinds_are, slot_is, width_is, small_of, unsigned_number, no_number_of_text}

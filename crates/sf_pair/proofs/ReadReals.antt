@@ -21,31 +21,31 @@ use Rattle.sf_format.specs.declared.unit.PrintLetter.TheVariants as letter
 use Rattle.sf_float.specs.declared.text.FloatConv.{FloatConv}
 use Rattle.sf_float.specs.Printed.{bare_len, left_blanks}
 use Rattle.sf_float.specs.Computed.{float_text}
-use Rattle.sf_float_item.specs.declared.reached.Reached.{Reached}
-use Rattle.sf_float_item.specs.declared.reached.Reached.TheVariants as at
-use Rattle.sf_float_item.specs.Tests.{read, is_float}
-use Rattle.sf_float_value.specs.Computed.{stored_in}
-use Rattle.sf_float_value.specs.Values.{IsStored}
+use Rattle.sf_float_read.specs.declared.item.reached.Reached.{Reached}
+use Rattle.sf_float_read.specs.declared.item.reached.Reached.TheVariants as at
+use Rattle.sf_float_read.specs.item.Tests.{read, is_float}
+use Rattle.sf_float_read.specs.value.Computed.{stored_in}
+use Rattle.sf_float_read.specs.value.Values.{IsStored}
 use Rattle.sf_item.specs.Tests.{has_item, shape_matches, shape_begins}
-use Rattle.sf_print.specs.Floats.{style_of, float_conv}
-use Rattle.sf_print.specs.Text.{value_text, blanks}
-use Rattle.sf_print.specs.Visible.{without_blanks}
+use Rattle.sf_print.specs.texts.Floats.{style_of, float_conv}
+use Rattle.sf_print.specs.texts.Text.{value_text, blanks}
+use Rattle.sf_print.specs.texts.Visible.{without_blanks}
 use Rattle.sf_report.specs.Machine.{shape_skips, passed_end, stored_end, real_in, real_end}
-use Rattle.sf_pair_texts.specs.Below.{LawsBelow}
-use Rattle.sf_pair_texts.specs.Reals.{seen, zero_seen, has_point}
-use Rattle.sf_pair_texts.specs.Neighbours.{Bytes as ByteTest, only, or, digits_in, float_digit, float_first, first_by_letter}
-use Rattle.sf_pair_texts.specs.Neighbours.{fraction_stops, whole_stops, float_stops, stop_set}
+use Rattle.sf_pair.specs.conversions.Below.{LawsBelow}
+use Rattle.sf_pair.specs.conversions.Reals.{seen, zero_seen, has_point}
+use Rattle.sf_pair.specs.conversions.Neighbours.{Bytes as ByteTest, only, or, digits_in, float_digit, float_first, first_by_letter}
+use Rattle.sf_pair.specs.conversions.Neighbours.{fraction_stops, whole_stops, float_stops, stop_set}
 use Rattle.sf_pair.specs.Groups.{is_chars, width_of}
 use Rattle.sf_pair.specs.Fits.{RealFits}
-use Rattle.sf_pair_texts.proofs.Bodies.{FirstByte, blanks_byte}
-use Rattle.sf_pair_texts.proofs.Firsts.{FirstIn, first_weaker, or_right}
+use Rattle.sf_pair.proofs.ConversionLemmas.Bodies.{FirstByte, blanks_byte}
+use Rattle.sf_pair.proofs.ConversionLemmas.Firsts.{FirstIn, first_weaker, or_right}
 use Rattle.sf_pair.proofs.Taken.{FirstOut, taken_within, either_ends}
 use Rattle.sf_pair.proofs.Paired.{full_by, Pairs, kinds_are, slot_is, width_is}
-use Rattle.sf_pair_texts.proofs.Places.{one_of, digits, passes, decimal_place, pointed_place, exponent_place, stopped_exponent}
-use Rattle.sf_pair_texts.proofs.Places.{stopped_fraction, stopped_whole, was_read, none_follows}
-use Rattle.sf_pair_texts.proofs.RealTexts.{StartsDigit, size_of, hidden, after_sign, body, before, text_is, digit_follows, body_ink}
-use Rattle.sf_pair_texts.proofs.RealTexts.{seen_is, exponent_ends, general_ends, fixed_ends, pointed_ends}
-use Rattle.sf_pair_texts.proofs.RealSizes.{zero_is, least_is_shortest}
+use Rattle.sf_pair.proofs.ConversionLemmas.Places.{one_of, digits, passes, decimal_place, pointed_place, exponent_place, stopped_exponent}
+use Rattle.sf_pair.proofs.ConversionLemmas.Places.{stopped_fraction, stopped_whole, was_read, none_follows}
+use Rattle.sf_pair.proofs.ConversionLemmas.RealTexts.{StartsDigit, size_of, hidden, after_sign, body, before, text_is, digit_follows, body_ink}
+use Rattle.sf_pair.proofs.ConversionLemmas.RealTexts.{seen_is, exponent_ends, general_ends, fixed_ends, pointed_ends}
+use Rattle.sf_pair.proofs.ConversionLemmas.RealSizes.{zero_is, least_is_shortest}
 use Rattle.sf_pair.proofs.Back.{SkipsSo, ReadsBack}
 
 -- ---- first bytes

@@ -14,15 +14,15 @@ use Rattle.sf_format.specs.Proper.{IsSized, IsProper}
 use Rattle.sf_print.specs.Printed.{printed}
 use Rattle.sf_report.specs.Steps.{Passes, Step}
 use Rattle.sf_report.specs.Computed.{skip}
-use Rattle.sf_pair_texts.specs.Below.{LawsBelow}
+use Rattle.sf_pair.specs.conversions.Below.{LawsBelow}
 use Rattle.sf_pair.specs.declared.fault.PairWhy.TheVariants as why
-use Rattle.sf_pair_texts.specs.Neighbours.{only, meet, first_by, reads, stop_set}
+use Rattle.sf_pair.specs.conversions.Neighbours.{only, meet, first_by, reads, stop_set}
 use Rattle.sf_pair.specs.Groups.{always_full, follow_fault, closing_fault, keeps_space, AreSpace, starts_with_space, space_fault}
 use Rattle.sf_pair.specs.Groups.{pairing_fault, next_of}
 use Rattle.sf_pair.specs.Walk.{leaves, after_space, take_space, take_group}
 use Rattle.sf_pair.specs.Laws.{RunsPast, RunsInto, OpenEndsAreOpen, LiteralsAreRunInto}
 use Rattle.sf_pair.proofs.Cutting.{space_front}
-use Rattle.sf_pair_texts.proofs.Meets.{met_by}
+use Rattle.sf_pair.proofs.ConversionLemmas.Meets.{met_by}
 use Rattle.sf_pair.proofs.Paired.{pairs}
 use Rattle.sf_pair.proofs.Into.{runs_into, runs_past}
 use Rattle.sf_pair.proofs.Stops.{follows, literal_never, unclosed, stops_by, stops_at}

@@ -10,11 +10,11 @@ use Rattle.sf_format.specs.declared.directive.Directive.TheVariants.{Conv}
 use Rattle.sf_format.specs.declared.unit.PrintConv.{PrintConv}
 use Rattle.sf_format.specs.Proper.{IsProper}
 use Rattle.sf_item.specs.Tests.{can_take, has_item}
-use Rattle.sf_print.specs.Text.{value_text, blanks}
+use Rattle.sf_print.specs.texts.Text.{value_text, blanks}
 use Rattle.sf_report.specs.Steps.{StepEnd, Step}
 use Rattle.sf_report.specs.Machine.{shape_skips}
 use Rattle.sf_report.specs.Computed.{skip, len, skip_before, step_of}
-use Rattle.sf_pair_texts.specs.Below.{LawsBelow}
+use Rattle.sf_pair.specs.conversions.Below.{LawsBelow}
 use Rattle.sf_pair.specs.Laws.{TakesToo}
 use Rattle.sf_pair.proofs.Taken.{len_is, by_shape}
 use Rattle.sf_pair.proofs.Back.{SkipsSo, ReadsBack}

@@ -9,7 +9,7 @@ use Rattle.sf_format.specs.declared.unit.Unit.TheVariants as unit
 use Rattle.sf_format.specs.Slots.{Slotted}
 use Rattle.sf_format.specs.Units.{values_of}
 use Rattle.sf_format.specs.Proper.{destinations_of}
-use Rattle.sf_pair_texts.specs.Below.{LawsBelow}
+use Rattle.sf_pair.specs.conversions.Below.{LawsBelow}
 use Rattle.sf_pair.specs.Groups.{is_left_out, AreSpace, IsConversionGroup, IsGroup, AreCut, next_of}
 use Rattle.sf_pair.specs.Laws.{AlignedSlotsAgree}
 use Rattle.sf_pair.proofs.SlotRows.{row_of_printed}

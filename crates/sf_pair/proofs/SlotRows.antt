@@ -12,7 +12,7 @@ use Rattle.sf_format.specs.Slots.{Slotted, kind_with, slots_from}
 use Rattle.sf_format.specs.Units.{AreAccepted, values_of}
 use Rattle.sf_print.specs.Printed.{value_at}
 use Rattle.sf_report.specs.Rows.{AreRowOf}
-use Rattle.sf_pair_texts.specs.Below.{LawsBelow}
+use Rattle.sf_pair.specs.conversions.Below.{LawsBelow}
 use Rattle.sf_pair.specs.Laws.{with_value, printed_values}
 
 same_slot : (a b : ℕ) → nat_eq a b ≡ true → a ≡ b

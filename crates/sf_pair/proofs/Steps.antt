@@ -13,14 +13,14 @@ use Rattle.sf_format.specs.declared.directive.Directive.TheVariants as directive
 use Rattle.sf_format.specs.declared.unit.Unit.{Unit as PrintUnit}
 use Rattle.sf_format.specs.declared.unit.Unit.TheVariants as unit
 use Rattle.sf_format.specs.Units.{AreProperUnits, values_of}
-use Rattle.sf_print.specs.Text.{blanks}
+use Rattle.sf_print.specs.texts.Text.{blanks}
 use Rattle.sf_print.specs.Printed.{printed}
 use Rattle.sf_report.specs.Steps.{StepEnd, Passes, Stores, Misses, Fails}
 use Rattle.sf_report.specs.Runs.{is_conversion, is_shape_converted}
 use Rattle.sf_report.specs.Machine.{shape_skips}
 use Rattle.sf_report.specs.Computed.{skip, skip_before, byte_step, byte_choice, step_of}
-use Rattle.sf_pair_texts.specs.Below.{LawsBelow}
-use Rattle.sf_pair_texts.specs.Neighbours.{only}
+use Rattle.sf_pair.specs.conversions.Below.{LawsBelow}
+use Rattle.sf_pair.specs.conversions.Neighbours.{only}
 use Rattle.sf_pair.specs.Groups.{IsLiteral, AreSpace, is_count, next_of}
 use Rattle.sf_pair.specs.Laws.{with_value, printed_values}
 use Rattle.sf_pair.proofs.Taken.{Takes, conversion_taken}

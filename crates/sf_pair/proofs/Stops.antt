@@ -13,7 +13,7 @@ use Rattle.sf_base.specs.Rules.{first_reason}
 use Rattle.sf_pair.specs.declared.fault.PairWhy.{PairWhy}
 use Rattle.sf_pair.specs.declared.fault.PairWhy.TheVariants as why
 use Rattle.sf_pair.specs.declared.fault.PairFault.{PairFault}
-use Rattle.sf_pair_texts.specs.Neighbours.{Bytes as ByteTest, reads}
+use Rattle.sf_pair.specs.conversions.Neighbours.{Bytes as ByteTest, reads}
 use Rattle.sf_pair.specs.Groups.{is_count, kinds_differ, numbers_differ, bad_flag, has_no_width, too_narrow, leading_zero, rule}
 use Rattle.sf_pair.specs.Groups.{pairing_fault, closing_fault, IsGroup, suppressed_by, next_of, assigns}
 use Rattle.sf_pair.specs.Walk.{Left, leaves, unless, take_literal, take_paired, take_conversion, take_group, fault, fault_after, fault_from}

@@ -16,10 +16,10 @@ use Rattle.sf_item.specs.Tests.{read, integer_in, shape_matches, shape_begins, i
 use Rattle.sf_report.specs.Steps.{StepEnd, Stores, Fails}
 use Rattle.sf_report.specs.declared.outcome.Status.TheVariants.{MatchingFailure}
 use Rattle.sf_report.specs.Machine.{item_end, passed_end, stored_end, integer_end, number_end}
-use Rattle.sf_print.specs.Visible.{visible}
+use Rattle.sf_print.specs.texts.Visible.{visible}
 use Rattle.sf_report.specs.Computed.{len, skip_before, item_ended, item_step, conversion_step, step_of}
-use Rattle.sf_pair_texts.specs.Below.{LawsBelow}
-use Rattle.sf_pair_texts.specs.Neighbours.{Bytes as ByteTest, stop_set}
+use Rattle.sf_pair.specs.conversions.Below.{LawsBelow}
+use Rattle.sf_pair.specs.conversions.Neighbours.{Bytes as ByteTest, stop_set}
 use Rattle.sf_pair.specs.Fits.{IsOfKind}
 use Rattle.sf_pair.proofs.Paired.{and_so}
 use Rattle.sf_pair.proofs.Numbers.{NumberRead}

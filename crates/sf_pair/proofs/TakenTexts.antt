@@ -12,7 +12,7 @@ use Rattle.sf_format.specs.declared.directive.Conversion.{Conversion}
 use Rattle.sf_item.specs.Tests.{is_ink, shape_matches, shape_begins, has_item}
 use Rattle.sf_report.specs.Steps.{Passes, Stores}
 use Rattle.sf_report.specs.Machine.{passed_end, stored_end}
-use Rattle.sf_pair_texts.specs.Neighbours.{Bytes as ByteTest}
+use Rattle.sf_pair.specs.conversions.Neighbours.{Bytes as ByteTest}
 use Rattle.sf_pair.proofs.Paired.{and_so}
 use Rattle.sf_pair.proofs.FitTests.{all_is, ink_is}
 use Rattle.sf_pair.proofs.Taken.{Takes, FirstOut, full_ends, either_ends, taken_within}

@@ -14,7 +14,7 @@ use Rattle.sf_report.specs.Steps.{StepEnd, Passes, Stores, Misses, Fails}
 use Rattle.sf_report.specs.Runs.{RunReport, Uses, used, IsOpen, is_conversion}
 use Rattle.sf_report.specs.Residual.{Tally, nothing_yet, with_used, counted, out_of, then_on, run_of}
 use Rattle.sf_report.specs.Computed.{step_of, part_of, ran_of}
-use Rattle.sf_pair_texts.specs.Below.{LawsBelow}
+use Rattle.sf_pair.specs.conversions.Below.{LawsBelow}
 use Rattle.sf_pair.specs.Groups.{IsAligned, next_of}
 use Rattle.sf_pair.specs.Fits.{Fit}
 use Rattle.sf_pair.specs.Laws.{printed_values, read_back, RoundTrip}

@@ -12,7 +12,7 @@ use Rattle.sf_format.specs.Units.{values_of}
 use Rattle.sf_print.specs.declared.fault.PrintFault.{PrintFault}
 use Rattle.sf_print.specs.declared.fault.PrintFault.TheVariants as fault
 use Rattle.sf_print.specs.Printed.{printed, unit_fault, fault_or_none, lower, lowest_fault, length_or_fault, measured, most_bytes}
-use Rattle.sf_pair_texts.specs.Below.{LawsBelow}
+use Rattle.sf_pair.specs.conversions.Below.{LawsBelow}
 use Rattle.sf_pair.specs.Groups.{AreSpace, next_of}
 use Rattle.sf_pair.specs.Formats.{Formats, IsChecked}
 use Rattle.sf_pair.specs.Fits.{Fit}

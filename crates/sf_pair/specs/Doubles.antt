@@ -13,9 +13,9 @@ use Rattle.sf_format.specs.declared.directive.Conversion.{Conversion}
 use Rattle.sf_format.specs.declared.directive.Directive.{Directive}
 use Rattle.sf_format.specs.Units.{AreAccepted, values_of}
 use Rattle.sf_print.specs.Printed.{value_at}
-use Rattle.sf_float_value.specs.Laws.{IsLong}
+use Rattle.sf_float_read.specs.value.Laws.{IsLong}
 use Rattle.sf_pair.specs.Groups.{IsAligned, width_of}
-use Rattle.sf_pair_texts.specs.Widths.{written_style, longest_float}
+use Rattle.sf_pair.specs.conversions.Widths.{written_style, longest_float}
 use Rattle.sf_pair.specs.Fits.{FitsAt, Fit, conversions, assigned_conversions}
 
 -- 17 significant digits or more, or no fewer hexadecimal digits than a double has

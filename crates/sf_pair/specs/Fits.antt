@@ -23,9 +23,9 @@ use Rattle.sf_format.specs.declared.directive.Directive.TheVariants as directive
 use Rattle.sf_format.specs.Units.{values_of}
 use Rattle.sf_item.specs.Tests.{is_ink}
 use Rattle.sf_print.specs.Printed.{value_at, same_kind}
-use Rattle.sf_print.specs.Visible.{visible}
-use Rattle.sf_float_value.specs.Values.{IsStored}
-use Rattle.sf_pair_texts.specs.Reals.{seen, is_read_as}
+use Rattle.sf_print.specs.texts.Visible.{visible}
+use Rattle.sf_float_read.specs.value.Values.{IsStored}
+use Rattle.sf_pair.specs.conversions.Reals.{seen, is_read_as}
 use Rattle.sf_pair.specs.Groups.{width_of}
 
 abbrev pub is_negative : ℤ → Bool

@@ -18,12 +18,12 @@ use Rattle.sf_format.specs.declared.directive.Conversion.{Conversion}
 use Rattle.sf_format.specs.declared.directive.Directive.{Directive}
 use Rattle.sf_format.specs.declared.directive.Directive.TheVariants as directive
 use Rattle.sf_print.specs.Printed.{same_kind}
-use Rattle.sf_print.specs.Text.{pads_with_zeros, least_digits}
+use Rattle.sf_print.specs.texts.Text.{pads_with_zeros, least_digits}
 use Rattle.sf_pair.specs.declared.fault.PairWhy.{PairWhy}
 use Rattle.sf_pair.specs.declared.fault.PairWhy.TheVariants as why
-use Rattle.sf_print.specs.Visible.{least}
-use Rattle.sf_pair_texts.specs.Reals.{zero_seen}
-use Rattle.sf_pair_texts.specs.Neighbours.{Bytes, no_byte, any_byte, only, meet, first_by, reads, is_auto_base, stop_set}
+use Rattle.sf_print.specs.texts.Visible.{least}
+use Rattle.sf_pair.specs.conversions.Reals.{zero_seen}
+use Rattle.sf_pair.specs.conversions.Neighbours.{Bytes, no_byte, any_byte, only, meet, first_by, reads, is_auto_base, stop_set}
 
 -- ---- one conversion of each
 

@@ -9,7 +9,7 @@ use Rattle.sf_format.specs.declared.directive.Directive.{Directive}
 use Rattle.sf_format.specs.declared.unit.PrintConv.{PrintConv}
 use Rattle.sf_format.specs.Units.{AreAccepted, values_of}
 use Rattle.sf_format.specs.Proper.{IsAccepted, destinations_of, has_optional, may_miss}
-use Rattle.sf_store.specs.Kept.{texts_in}
+use Rattle.sf_base.specs.stores.Kept.{texts_in}
 use Rattle.sf_print.specs.Printed.{value_at, printed}
 use Rattle.sf_report.specs.declared.outcome.Ending.{Ending}
 use Rattle.sf_report.specs.declared.outcome.Ending.TheVariants.{End}
@@ -19,11 +19,11 @@ use Rattle.sf_report.specs.Limits.{RunWithin, RunTold}
 use Rattle.sf_report.specs.Rows.{AreRowOf}
 use Rattle.sf_format.specs.Widths.{width_sum}
 use Rattle.sf_format.specs.declared.directive.Directive.TheVariants as directive
-use Rattle.sf_print.specs.Text.{value_text}
+use Rattle.sf_print.specs.texts.Text.{value_text}
 use Rattle.sf_report.specs.Steps.{StepEnd, Step}
 use Rattle.sf_pair.specs.declared.fault.PairWhy.TheVariants as why
 use Rattle.sf_pair.specs.declared.fault.PairFault.{PairFault}
-use Rattle.sf_pair_texts.specs.Neighbours.{is_spare}
+use Rattle.sf_pair.specs.conversions.Neighbours.{is_spare}
 use Rattle.sf_pair.specs.Walk.{pair_fault}
 use Rattle.sf_pair.specs.Groups.{IsGroup, IsAligned, next_of}
 use Rattle.sf_pair.specs.Fits.{Fit, ValueFits}

@@ -1,8 +1,4 @@
--- of the texts of its conversions
-pub use Rattle.sf_pair_texts.specs.Below
-pub use Rattle.sf_pair_texts.specs.Reals
-pub use Rattle.sf_pair_texts.specs.Neighbours
-pub use Rattle.sf_pair_texts.specs.Widths
+pub mod conversions
 -- of a pair
 pub mod Groups
 pub mod Walk

@@ -10,7 +10,7 @@ use Rattle.sf_format.specs.declared.directive.Directive.TheVariants as directive
 use Rattle.sf_pair.specs.declared.fault.PairWhy.{PairWhy}
 use Rattle.sf_pair.specs.declared.fault.PairWhy.TheVariants as why
 use Rattle.sf_pair.specs.declared.fault.PairFault.{PairFault}
-use Rattle.sf_pair_texts.specs.Neighbours.{Bytes, only, reads}
+use Rattle.sf_pair.specs.conversions.Neighbours.{Bytes, only, reads}
 use Rattle.sf_pair.specs.Groups.{pairing_fault, closing_fault, starts_with_space, space_fault, suppressed_by, is_count, next_of, assigns}
 use Rattle.sf_pair.specs.Groups.{IsAligned}
 

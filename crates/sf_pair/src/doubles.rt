@@ -3,16 +3,15 @@ ghost use Rattle.std.specs.Prelude.{◌≡◌, ◌≤◌, ◌&&◌, nat_le, leng
 ghost use Rattle.std.specs.Float.{float_is_finite};
 ghost use Rattle.std.specs.Float.Ieee.{binary64};
 ghost use Rattle.sf_base.specs.declared.real.Real.TheVariants as reals;
-ghost use Rattle.sf_print.specs.Floats.{real_text};
-ghost use Rattle.sf_pair_texts.specs.Reals.{seen, is_read_as};
+ghost use Rattle.sf_print.specs.texts.Floats.{real_text};
+ghost use Rattle.sf_pair.specs.conversions.Reals.{seen, is_read_as};
 ghost use Rattle.sf_pair.specs.Fits.{real_fits};
 
+use crate::conversions::laws_below;
 use crate::pairing::width_of;
 use sf_base::{Kind, Real};
-use sf_float_item::is_float;
-use sf_float_value::value_f64;
+use sf_float_read::{is_float, value_f64};
 use sf_format::{Conversion, PrintConv};
-use sf_pair_texts::laws_below;
 use sf_print::{visible_bytes, write_visible};
 use std::num::f64_from_bits_with_nan;
 

@@ -3,7 +3,7 @@ ghost use Rattle.std.specs.Prelude.{◌≡◌, ◌≤◌, ◌+◌, ◌∷◌, �
 ghost use Rattle.std.specs.Prelude.{length, map, take};
 ghost use Rattle.std.specs.Option.{option_map};
 ghost use Rattle.sf_base.specs.Data.{datum_of_shown};
-ghost use Rattle.sf_print.specs.Text.{value_text};
+ghost use Rattle.sf_print.specs.texts.Text.{value_text};
 ghost use Rattle.sf_print.specs.Printed.{printed, text_or_none, value_at};
 ghost use Rattle.sf_pair.specs.Fits.{value_fits, fits_or_not, all_fit, conversions, assigned_conversions};
 

@@ -8,9 +8,9 @@ ghost use Rattle.sf_pair.specs.Laws.{AlignedEndsOnNothing, AlignedIsBounded, Ali
 ghost use Rattle.sf_pair.specs.Laws.{AlignedSlotsAgree, EachStopIsOne, HeldIsBounded, LiteralsAreRunInto};
 ghost use Rattle.sf_pair.specs.Laws.{OpenEndsAreOpen, PrintsSome, ReadWithin, RoundTrip};
 
+use crate::conversions::laws_below;
 use sf_float::laws::{general_reads_back, general_zero_reads_back};
-use sf_float_value::laws::hexadecimal_reads_back;
-use sf_pair_texts::laws_below;
+use sf_float_read::value::laws::hexadecimal_reads_back;
 
 /// The walk finds no fault exactly where the formats are aligned.
 #[tactic(auto, using(crate::proofs::Cutting::aligned_is_accepted))]

@@ -2,6 +2,7 @@
 #![tactic(auto)]
 
 mod as_shown;
+mod conversions;
 mod doubles;
 mod fault;
 mod fitting;
@@ -13,6 +14,6 @@ mod quick;
 mod walk;
 
 pub use as_shown::AsShown;
+pub use conversions::longest_len;
 pub use fault::{PairFault, PairWhy, WriteFault};
 pub use pair::Pair;
-pub use sf_pair_texts::longest_len;

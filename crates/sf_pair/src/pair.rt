@@ -4,7 +4,7 @@ ghost use Rattle.std.specs.Prelude.{IsSome, IsTrue, IsErrOf, if◌then◌else◌
 ghost use Rattle.sf_base.specs.Data.{datum_of};
 ghost use Rattle.sf_print.specs.declared.fault.PrintFault.TheVariants.{TooLong};
 ghost use Rattle.sf_print.specs.Printed.{printed};
-ghost use Rattle.sf_print.specs.Sinks as sinks;
+ghost use Rattle.sf_print.specs.sink.Sinks as sinks;
 ghost use Rattle.sf_pair.specs.Groups.{IsAligned};
 ghost use Rattle.sf_pair.specs.Formats.{IsChecked};
 ghost use Rattle.sf_pair.specs.Walk.{pair_fault};
@@ -12,13 +12,13 @@ ghost use Rattle.sf_pair.specs.Fits.{Fit, fits};
 ghost use Rattle.sf_pair.specs.Writing.{WritesWhole, is_sink_failure};
 
 use crate::as_shown::AsShown;
+use crate::conversions::laws_below;
 use crate::fault::{PairFault, WriteFault};
 use crate::fitting::all_fit;
 use crate::in_place::write_units;
 use crate::walk::pair_fault;
 use sf_base::Value;
 use sf_format::{PrintFormat, ScanFormat};
-use sf_pair_texts::laws_below;
 use sf_print::{Sink, fprint, write_text};
 use std::marker::Model;
 

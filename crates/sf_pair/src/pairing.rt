@@ -1,17 +1,17 @@
 //! One conversion of a print format and one of a scan format.
 ghost use Rattle.std.specs.Prelude.{◌≡◌, ◌==◌, ◌&&◌, ◌≤◌, length, Some, None};
 ghost use Rattle.sf_print.specs.Printed.{same_kind};
-ghost use Rattle.sf_print.specs.Text.{pads_with_zeros, least_digits};
-ghost use Rattle.sf_print.specs.Visible.{least};
-ghost use Rattle.sf_pair_texts.specs.Neighbours.{meet, first_by, stop_set};
+ghost use Rattle.sf_print.specs.texts.Text.{pads_with_zeros, least_digits};
+ghost use Rattle.sf_print.specs.texts.Visible.{least};
+ghost use Rattle.sf_pair.specs.conversions.Neighbours.{meet, first_by, stop_set};
 ghost use Rattle.sf_pair.specs.Groups.{is_integer, is_number, is_text, is_chars, is_auto, letters_pair, width_of};
 ghost use Rattle.sf_pair.specs.Groups.{kinds_differ, numbers_differ, bad_flag, has_no_width, too_narrow, leading_zero};
 ghost use Rattle.sf_pair.specs.Groups.{pairing_fault, always_full, closing_fault};
 
+use crate::conversions::{goes_on, is_auto_base, may_begin, pads_with_zeros, zero_len};
 use crate::fault::PairWhy;
 use sf_base::{Rule, first_fault};
 use sf_format::{Base, Conversion, PrintConv, PrintLetter, Shape, Unit};
-use sf_pair_texts::{goes_on, is_auto_base, may_begin, pads_with_zeros, zero_len};
 use sf_print::least_len;
 use sf_report::laws::bytes_are_tried;
 

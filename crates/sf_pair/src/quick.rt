@@ -4,7 +4,7 @@ ghost use Rattle.std.specs.List.{list_all, slice_range};
 ghost use Rattle.sf_base.specs.Bytes.{is_white};
 ghost use Rattle.sf_base.specs.Data.{Bytes, datum_of_number};
 ghost use Rattle.sf_item.specs.Tests.{is_ink};
-ghost use Rattle.sf_print.specs.Text.{value_text};
+ghost use Rattle.sf_print.specs.texts.Text.{value_text};
 ghost use Rattle.sf_pair.specs.Fits.{value_fits};
 ghost use lib.Lanes.{mask_l, chunk};
 

@@ -3,16 +3,16 @@ ghost use Rattle.std.specs.Prelude.{◌≡◌, ◌≤◌, length, Option, Some, 
 ghost use Rattle.std.specs.List.{list_any};
 ghost use Rattle.sf_base.specs.Bytes.{is_white};
 ghost use Rattle.sf_format.specs.declared.directive.Directive.{Directive};
-ghost use Rattle.sf_pair_texts.specs.Neighbours.{meet, first_by, reads};
+ghost use Rattle.sf_pair.specs.conversions.Neighbours.{meet, first_by, reads};
 ghost use Rattle.sf_pair.specs.Groups.{keeps_space, starts_with_space, space_fault, literals_of, assigns, next_of};
 ghost use Rattle.sf_pair.specs.Walk.{after_space, take_literal, take_space, take_paired, take_group, pair_fault};
 ghost use Rattle.sf_pair.specs.Walk.{fault_from};
 
+use crate::conversions::may_begin;
 use crate::fault::{PairFault, PairWhy};
 use crate::pairing::{closing_fault, pairing_fault};
 use sf_base::is_space;
 use sf_format::{Conversion, Directive, Shape, Unit};
-use sf_pair_texts::may_begin;
 use sf_report::laws::bytes_are_tried;
 
 /// How the next directive reads: its shape, where it is an assigned conversion; `none`, which is Count, where it isn't.

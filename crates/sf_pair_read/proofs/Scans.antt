@@ -5,7 +5,7 @@ use Rattle.std.specs.List.{concat}
 use Rattle.std.proofs.lemmas.List.{drop_at, append_cancel_right}
 use Rattle.std.proofs.lemmas.List.Folds.{concat-append}
 use Rattle.sf_base.specs.Data.{Datum}
-use Rattle.sf_store.specs.Kept.{texts_in}
+use Rattle.sf_base.specs.stores.Kept.{texts_in}
 use Rattle.sf_format.specs.declared.directive.Directive.{Directive}
 use Rattle.sf_format.specs.declared.unit.Unit.{Unit as PrintUnit}
 use Rattle.sf_format.specs.Units.{AreAccepted}
@@ -18,7 +18,7 @@ use Rattle.sf_run.specs.Runs.{RunReport}
 use Rattle.sf_run.specs.Limits.{RunWithin, RunTold}
 use Rattle.sf_run.specs.Views.{StoredReport}
 use Rattle.sf_run.specs.Stopping.{is_memory_status}
-use Rattle.sf_read.specs.Ahead.{Ahead, input_of}
+use Rattle.sf_read.specs.source.Ahead.{Ahead, input_of}
 use Rattle.sf_read.specs.Scan.{Scan, is_fault}
 use Rattle.sf_pair_read.specs.Below.{PairLaws}
 use Rattle.sf_pair.specs.Groups.{IsAligned}

@@ -1,2 +1,3 @@
+pub mod rows
 pub mod Below
 pub mod Reading

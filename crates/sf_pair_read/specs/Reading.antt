@@ -6,7 +6,7 @@ use Rattle.sf_format.specs.declared.unit.Unit.{Unit as PrintUnit}
 use Rattle.sf_print.specs.Printed.{printed}
 use Rattle.sf_run.specs.Rows.{AreRowOf}
 use Rattle.sf_run.specs.Runs.{RunReport}
-use Rattle.sf_read.specs.Ahead.{Ahead, input_of}
+use Rattle.sf_read.specs.source.Ahead.{Ahead, input_of}
 use Rattle.sf_read.specs.Reads.{ReadsWhile}
 use Rattle.sf_read.specs.Scan.{is_fault}
 use Rattle.sf_pair.specs.Laws.{read_back}

@@ -3,5 +3,7 @@
 
 mod below;
 mod reading;
+mod rows;
 
 pub use reading::{read_back, read_back_fixed, read_back_over};
+pub use rows::{ReadRowsFault, WriteRowsFault, read_rows, write_rows};

@@ -2,7 +2,7 @@
 ghost use Rattle.std.specs.Prelude.{◌≡◌, ◌≤◌, ◌<◌, ◌+◌, ◌++◌, ◌⊎◌, ◌↔◌, ℕ, List, length, true, false, Some, IfOk};
 ghost use Rattle.std.specs.Prelude.{IfErr, IsOk, IsErrOf, IsSomeAnd, unwrap_or, if◌then◌else◌};
 ghost use Rattle.sf_base.specs.Data.{Datum};
-ghost use Rattle.sf_store.specs.Kept.{buffer_of, texts_in};
+ghost use Rattle.sf_base.specs.stores.Kept.{buffer_of, texts_in};
 ghost use Rattle.sf_format.specs.Proper.{destinations_of};
 ghost use Rattle.sf_format.specs.Widths.{width_sum};
 ghost use Rattle.sf_print.specs.Printed.{printed};
@@ -11,18 +11,18 @@ ghost use Rattle.sf_run.specs.outcome.Ending.TheVariants.{End};
 ghost use Rattle.sf_run.specs.Limits.{RunTold};
 ghost use Rattle.sf_run.specs.Memory.{capacity_of};
 ghost use Rattle.sf_run.specs.Stopping.{is_memory_status};
-ghost use Rattle.sf_read.specs.Ahead.{input_of};
-ghost use Rattle.sf_read.specs.Counts.{counted_on};
+ghost use Rattle.sf_read.specs.source.Ahead.{input_of};
+ghost use Rattle.sf_read.specs.source.Counts.{counted_on};
 ghost use Rattle.sf_read.specs.Reads.{WaitedFor};
 ghost use Rattle.sf_read.specs.Scan.{Scan, is_fault};
 ghost use Rattle.sf_pair.specs.Fits.{Fit};
 ghost use Rattle.sf_pair_read.specs.Reading.{ReadsBackWhole};
 
 use crate::below::pair_laws;
+use sf_base::{FixedStore, HeapStore};
 use sf_pair::Pair;
 use sf_read::{Lookahead, Source, fscan, fscan_fixed, fscan_over};
 use sf_run::{Scanned, StartFault};
-use sf_store::{FixedStore, HeapStore};
 use std::alloc::Global;
 
 /// Scans by the pair's scan format, as `fscan` does (C11 7.21.6.2). What was printed of values that fit is read back.

@@ -1,9 +1,8 @@
 //! What the tests share.
-use sf_base::Value;
+use sf_base::{Store, Value};
 use sf_format::{PrintFormat, Profile, ScanFormat};
 use sf_pair::Pair;
 use sf_run::{Report, Scanned, Status};
-use sf_store::Store;
 use std::alloc::Global;
 use std::test::Fail;
 

@@ -7,7 +7,7 @@ use Rattle.std.specs.Prelude.{get_or}
 use Rattle.std.specs.List.{flat_map}
 use Rattle.std.specs.Io.KnownBytes.{Appends}
 use Rattle.sf_print.proofs.Appending.{Appends-same}
-use Rattle.sf_texts.proofs.Joined.{flat_map_more}
+use Rattle.sf_print.proofs.TextLemmas.Joined.{flat_map_more}
 
 -- what was written, by another name
 pub written_as : (r : Option ℕ) (buf new text same : List ℕ) (at : ℕ) → text ≡ same

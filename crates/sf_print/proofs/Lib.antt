@@ -1,14 +1,6 @@
--- of digits
-pub use Rattle.sf_digits.proofs.EndsCopied
-pub use Rattle.sf_digits.proofs.Digits
-pub use Rattle.sf_digits.proofs.FourDigits
-pub use Rattle.sf_digits.proofs.Numerals
-pub use Rattle.sf_digits.proofs.OnlyNumeral
--- of the texts of values
-pub use Rattle.sf_texts.proofs.Around
-pub use Rattle.sf_texts.proofs.Plainness
-pub use Rattle.sf_texts.proofs.Reals
-pub use Rattle.sf_texts.proofs.Blanks
+pub mod DigitLemmas
+pub mod TextLemmas
+pub mod BlockLemmas
 -- of printing
 pub mod Appending
 pub mod NothingMissing

@@ -10,7 +10,7 @@ use Rattle.sf_format.specs.declared.unit.PrintLetter.TheVariants as letter
 use Rattle.sf_format.specs.declared.unit.PrintConv.{PrintConv}
 use Rattle.sf_format.specs.declared.unit.Unit.TheVariants as unit
 use Rattle.sf_print.specs.declared.fault.PrintFault.TheVariants as fault
-use Rattle.sf_texts.specs.Text.{integer_text, bytes_text}
+use Rattle.sf_print.specs.texts.Text.{integer_text, bytes_text}
 use Rattle.sf_print.specs.Printed.{printed, measured}
 
 -- a conversion with no flag

@@ -11,8 +11,8 @@ use Rattle.sf_format.specs.declared.unit.PrintConv.{PrintConv}
 use Rattle.sf_format.specs.declared.unit.Unit.{Unit as PrintUnit}
 use Rattle.sf_format.specs.declared.unit.Unit.TheVariants as unit
 use Rattle.sf_format.specs.Units.{IsProperConv, IsProperUnit, AreProperUnits}
-use Rattle.sf_texts.specs.Text.{value_text}
-use Rattle.sf_texts.proofs.Short.{integer_short, bytes_short, least_small}
+use Rattle.sf_print.specs.texts.Text.{value_text}
+use Rattle.sf_print.proofs.TextLemmas.Short.{integer_short, bytes_short, least_small}
 use Rattle.sf_print.specs.Printed.{value_at, text_or_none, unit_text, printed, most_bytes, length_or_fault}
 use Rattle.sf_print.specs.declared.fault.PrintFault.{PrintFault}
 use Rattle.sf_print.specs.declared.fault.PrintFault.TheVariants as fault

@@ -9,7 +9,7 @@ use Rattle.std.specs.Result.{IsErrAnd}
 use Rattle.std.specs.Io.KnownBytes.{Appends}
 use Rattle.sf_print.specs.declared.stage.Stage.{Stage}
 use Rattle.sf_print.specs.Staged.{held, Holds, Broke, Puts}
-use Rattle.sf_texts.proofs.Joined.{flat_map_more}
+use Rattle.sf_print.proofs.TextLemmas.Joined.{flat_map_more}
 use Rattle.sf_print.proofs.Appending.{Appends-then, Appends-none, Appends-same}
 
 -- all of the piece was put: from this many taken and these held to that many taken and those held

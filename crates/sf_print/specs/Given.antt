@@ -9,7 +9,7 @@ use Rattle.sf_format.specs.Units.{values_of}
 use Rattle.sf_print.specs.declared.fault.PrintFault.{PrintFault}
 use Rattle.sf_print.specs.declared.fault.PrintFault.TheVariants as fault
 use Rattle.sf_print.specs.Printed.{fault_or_none, length_or_fault, lower}
-use Rattle.sf_texts.specs.Text.{blanks, value_text}
+use Rattle.sf_print.specs.texts.Text.{blanks, value_text}
 
 -- what the slot has: a value, or none; slots count from 1
 abbrev pub given_at : List (Option Datum) → ℕ → Option (Option Datum)

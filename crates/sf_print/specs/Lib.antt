@@ -1,16 +1,7 @@
--- of digits
-pub use Rattle.sf_digits.specs.Numeral
-pub use Rattle.sf_digits.specs.Decimals
--- of the texts of values
-pub use Rattle.sf_texts.specs.Floats
-pub use Rattle.sf_texts.specs.Text
-pub use Rattle.sf_texts.specs.Plain
-pub use Rattle.sf_texts.specs.Printables
-pub use Rattle.sf_texts.specs.Runs
-pub use Rattle.sf_texts.specs.Visible
--- of sinks
-pub use Rattle.sf_sink.specs.Scripts
-pub use Rattle.sf_sink.specs.Sinks
+pub mod digits
+pub mod texts
+pub mod sink
+pub mod blocks
 -- of printing
 pub mod Printed
 pub mod Handed

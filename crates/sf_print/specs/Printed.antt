@@ -16,7 +16,7 @@ use Rattle.sf_format.specs.declared.unit.Unit.TheVariants as unit
 use Rattle.sf_format.specs.Units.{values_of}
 use Rattle.sf_print.specs.declared.fault.PrintFault.{PrintFault}
 use Rattle.sf_print.specs.declared.fault.PrintFault.TheVariants as fault
-use Rattle.sf_texts.specs.Text.{value_text}
+use Rattle.sf_print.specs.texts.Text.{value_text}
 
 -- ---- the printed text
 

@@ -7,17 +7,17 @@ ghost use Rattle.sf_format.specs.Units.{values_of};
 ghost use Rattle.sf_print.specs.Given.{given_at, given_fault, given_measured, given_printed, given_text, given_unit};
 ghost use Rattle.sf_print.specs.Given.{lowest_given_fault};
 ghost use Rattle.sf_print.specs.Printed.{WritesText, fault_or_none, is_sink_fault, length_or_fault};
-ghost use Rattle.sf_sink.specs.Sinks.{counted_on};
+ghost use Rattle.sf_print.specs.sink.Sinks.{counted_on};
 ghost use Rattle.sf_print.specs.Staged.{Puts, Writes};
 
 use crate::fault::PrintFault;
 use crate::handing::{flush, put_byte, put_run};
 use crate::judging::{fault_of, lower_of};
 use crate::print::{MOST_BYTES, put_value, value_len};
+use crate::sink::{Sink, SinkFault};
 use crate::stage::Stage;
 use sf_base::Value;
 use sf_format::{PrintConv, PrintFormat, Unit};
-use sf_sink::{Sink, SinkFault};
 
 /// What a slot has: a value, or none. Slots are counted from 1.
 fn given_of_slot<'a, 'b>(given: &'b [Option<Value<'a>>], slot: u8) -> Option<&'b Option<Value<'a>>>

@@ -2,15 +2,15 @@
 ghost use Rattle.std.specs.Prelude.{◌≡◌, ◌≤◌, ◌<◌, ◌+◌, ◌^◌, ◌++◌, ◌∷◌, [], replicate, length, OnOk, is_err};
 ghost use Rattle.std.specs.Prelude.{if◌then◌else◌};
 ghost use Rattle.std.specs.Fmt.{decimal};
-ghost use Rattle.sf_sink.specs.Sinks.{counted_on};
+ghost use Rattle.sf_print.specs.sink.Sinks.{counted_on};
 ghost use Rattle.sf_print.specs.Handed.{Hands};
 ghost use Rattle.sf_print.specs.Staged.{Puts};
-ghost use Rattle.sf_digits.specs.Decimals.{minus};
+ghost use Rattle.sf_print.specs.digits.Decimals.{minus};
 ghost use Rattle.sf_print.specs.Printed.{WritesText, is_sink_fault};
 
 use crate::fault::PrintFault;
+use crate::sink::{Sink, SinkFault};
 use crate::stage::{STAGE_BYTES, Stage};
-use sf_sink::{Sink, SinkFault};
 
 /// Hands the sink all of the piece, and answers how many bytes it took in all, by now or when it failed.
 fn hand<K: Sink>(to: &mut K, written: u32, piece: &[u8]) -> Result<u32, u32>

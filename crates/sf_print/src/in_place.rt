@@ -2,19 +2,19 @@
 ghost use Rattle.std.specs.Prelude.{◌≡◌, ◌≤◌, ◌+◌, ◌++◌, length, map, take, IfSome, IsSome, None};
 ghost use Rattle.std.specs.List.{flat_map};
 ghost use Rattle.sf_base.specs.Data.{Bytes, datum_of, datum_of_number, datum_of_shown};
-ghost use Rattle.sf_texts.specs.Floats.{real_of, real_text};
+ghost use Rattle.sf_print.specs.texts.Floats.{real_of, real_text};
 ghost use Rattle.sf_print.specs.Printed.{printed, unit_text};
-ghost use Rattle.sf_texts.specs.Runs.{piece_bytes};
-ghost use Rattle.sf_texts.specs.Text.{value_text};
-ghost use Rattle.sf_texts.specs.Visible.{without_blanks};
+ghost use Rattle.sf_print.specs.texts.Runs.{piece_bytes};
+ghost use Rattle.sf_print.specs.texts.Text.{value_text};
+ghost use Rattle.sf_print.specs.texts.Visible.{without_blanks};
 
+use crate::digits::{copy_over, write_number};
 use crate::judging::value_of_slot;
-use sf_base::{Number, Real, Shown, Value};
-use sf_digits::{copy_over, write_number};
-use sf_format::{PrintConv, Unit};
-use sf_texts::{
+use crate::texts::{
     DIGIT_BYTES, FLOAT_BYTES, Piece, float_pieces, is_plain_conv, value_pieces, visible_bytes,
 };
+use sf_base::{Number, Real, Shown, Value};
+use sf_format::{PrintConv, Unit};
 
 /// A minus and the digits of any number.
 const NUMBER_BYTES: usize = 21;

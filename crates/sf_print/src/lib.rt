@@ -1,6 +1,8 @@
 //! Values printed by a format, over any sink.
 #![tactic(auto)]
 
+mod blocks;
+pub mod digits;
 mod fault;
 mod given;
 mod handing;
@@ -9,16 +11,19 @@ mod judging;
 pub mod laws;
 mod piece;
 mod print;
+mod sink;
 mod stage;
+mod texts;
 
+pub use blocks::{BlockSink, Unblocked};
+pub use digits::{copy_over, push_number, write_number};
 pub use fault::PrintFault;
 pub use given::fprint_given;
 pub use handing::write_text;
 pub use in_place::{write_plain_bytes, write_plain_number, write_value, write_visible};
 pub use judging::value_of_slot;
 pub use print::{fprint, printed_len};
-pub use sf_digits::{copy_over, push_number, write_number};
-pub use sf_sink::{
+pub use sink::{
     ListSink, ScriptSink, Sink, SinkFault, StdSink, TextInPlace, WriteStep, WritesInPlace,
 };
-pub use sf_texts::{core_len, least_len, visible_bytes, visible_len};
+pub use texts::{core_len, least_len, visible_bytes, visible_len};

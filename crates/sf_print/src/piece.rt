@@ -1,14 +1,14 @@
 //! The pieces of a value's text, put one after the other.
 ghost use Rattle.std.specs.Prelude.{◌≡◌, ◌<◌, ◌+◌, ◌^◌, length, OnOk, is_err, if◌then◌else◌};
 ghost use Rattle.std.specs.List.{flat_map};
-ghost use Rattle.sf_sink.specs.Sinks.{counted_on};
+ghost use Rattle.sf_print.specs.sink.Sinks.{counted_on};
 ghost use Rattle.sf_print.specs.Staged.{Puts};
-ghost use Rattle.sf_texts.specs.Runs.{piece_bytes};
+ghost use Rattle.sf_print.specs.texts.Runs.{piece_bytes};
 
 use crate::handing::{put, put_run};
+use crate::sink::{Sink, SinkFault};
 use crate::stage::Stage;
-use sf_sink::{Sink, SinkFault};
-use sf_texts::Piece;
+use crate::texts::Piece;
 
 /// Puts a piece.
 #[inline]

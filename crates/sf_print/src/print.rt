@@ -3,27 +3,27 @@ ghost use Rattle.std.specs.Prelude.{◌≡◌, ◌<◌, ◌≤◌, ◌+◌, ◌^
 ghost use Rattle.std.specs.Prelude.{is_err, if◌then◌else◌};
 ghost use Rattle.sf_base.specs.Data.{datum_of};
 ghost use Rattle.sf_format.specs.Units.{values_of};
-ghost use Rattle.sf_sink.specs.Sinks.{counted_on};
+ghost use Rattle.sf_print.specs.sink.Sinks.{counted_on};
 ghost use Rattle.sf_print.specs.Staged.{Puts, Writes};
-ghost use Rattle.sf_texts.specs.Floats.{real_text};
-ghost use Rattle.sf_texts.specs.Text.{value_text};
+ghost use Rattle.sf_print.specs.texts.Floats.{real_text};
+ghost use Rattle.sf_print.specs.texts.Text.{value_text};
 ghost use Rattle.sf_print.specs.Short.{is_short, are_short};
 ghost use Rattle.sf_print.specs.Printed.{unit_text, printed, length_or_fault, measured, WritesText, is_sink_fault};
 
+use crate::digits::decimal_len;
 use crate::fault::PrintFault;
 use crate::handing::{flush, put, put_byte, put_number, write_text};
 use crate::in_place;
 use crate::judging::{find_lowest_fault, value_of_slot};
 use crate::piece::put_pieces;
+use crate::sink::{Sink, SinkFault};
 use crate::stage::Stage;
-use sf_base::{Real, Value};
-use sf_digits::decimal_len;
-use sf_format::{PrintConv, PrintFormat, Unit};
-use sf_sink::{Sink, SinkFault};
-use sf_texts::{
+use crate::texts::{
     DIGIT_BYTES, FLOAT_BYTES, float_pieces, pieces_len, plain_bytes, plain_number, real_of,
     value_pieces,
 };
+use sf_base::{Real, Value};
+use sf_format::{PrintConv, PrintFormat, Unit};
 
 /// The greatest length of a printed text.
 pub(crate) const MOST_BYTES: u32 = 2147483647;

@@ -2,7 +2,7 @@
 ghost use Rattle.std.specs.Prelude.{◌≡◌, ◌≤◌, ◌<◌, ◌+◌, ◌++◌, ◌∷◌, [], replicate, length, take};
 ghost use Rattle.std.specs.Fmt.{decimal};
 
-use sf_digits::write_decimal;
+use crate::digits::write_decimal;
 
 /// How many bytes are held at most.
 pub(crate) const STAGE_BYTES: usize = 128;

@@ -1,8 +1,8 @@
 //! Faults as errors: `?` makes an `anyhow::Error` of each, with its text.
+use sf_base::StoreFull;
 use sf_format::{FormatFault, FormatWhy, PrintFormat, Profile, ScanFormat};
 use sf_print::{PrintFault, SinkFault};
 use sf_rows::{is_error, says};
-use sf_store::StoreFull;
 use std::alloc::Global;
 use std::test::Fail;
 

@@ -2,9 +2,8 @@
 ghost use Rattle.std.specs.Prelude.{◌≡◌, ◌≤◌, None, IsSome, IsTrue, OnOk};
 ghost use Rattle.sf_base.specs.Data.{datum_at};
 
-use sf_base::{Number, Real, Shown, Value};
+use sf_base::{FixedStore, HeapStore, Number, Real, Shown, Store, StoreFull, Value, push_each};
 use sf_rows::is;
-use sf_store::{FixedStore, HeapStore, Store, StoreFull, push_each};
 use std::test::Fail;
 
 /// Bytes for the text that is open.

@@ -5,8 +5,8 @@ use Rattle.std.specs.List.{concat}
 use Rattle.std.specs.Io.KnownBytes.{Consumes, prepend_known}
 use Rattle.std.proofs.KnownBytes.{Consumes-nil, Consumes-trans}
 use Rattle.std.proofs.lemmas.List.Folds.{concat-append}
-use Rattle.sf_source.specs.Ahead.{Ahead}
-use Rattle.sf_source.specs.Counts.{counted_on}
+use Rattle.sf_read.specs.source.Ahead.{Ahead}
+use Rattle.sf_read.specs.source.Counts.{counted_on}
 use Rattle.sf_read.specs.Reads.{ReadsWhile, counted_by}
 
 abbrev pub Blocks : Type 0

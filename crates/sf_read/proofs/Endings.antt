@@ -11,8 +11,8 @@ use Rattle.sf_run.specs.Runs.{RunReport, IsOpen}
 use Rattle.sf_run.specs.Limits.{RunWithin, RunTold}
 use Rattle.sf_run.specs.Standing.{Standing, After, Gives, used_by, ran_out}
 use Rattle.sf_run.specs.Stopping.{is_memory_status}
-use Rattle.sf_source.specs.Counts.{counted_on}
-use Rattle.sf_source.specs.Ahead.{Ahead, input_of}
+use Rattle.sf_read.specs.source.Counts.{counted_on}
+use Rattle.sf_read.specs.source.Ahead.{Ahead, input_of}
 use Rattle.sf_read.specs.Reading.{Driven, Whole, Cut}
 use Rattle.sf_read.specs.Scan.{Scan, MayFollow, is_fault}
 use Rattle.sf_read.proofs.Consuming.{cut_below}

@@ -9,7 +9,7 @@ use Rattle.sf_run.specs.outcome.Ending.{Ending}
 use Rattle.sf_run.specs.outcome.Ending.TheVariants.{End}
 use Rattle.sf_run.specs.Runs.{RunReport}
 use Rattle.sf_run.specs.Limits.{RunWithin}
-use Rattle.sf_source.specs.Ahead.{Ahead, input_of}
+use Rattle.sf_read.specs.source.Ahead.{Ahead, input_of}
 use Rattle.sf_read.specs.Scan.{Scan, is_fault}
 use Rattle.sf_read.proofs.Reading.{at_end_some, known_parts}
 

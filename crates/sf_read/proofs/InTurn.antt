@@ -1,6 +1,6 @@
 -- Scans in a row are the runs of one input.
 use Rattle.std.proofs.Common.{ℕ, List, [], ◌∷◌, Option, refl, sym, ap, ◌∙◌}
-use Rattle.sf_source.specs.Ahead.{input_of}
+use Rattle.sf_read.specs.source.Ahead.{input_of}
 use Rattle.sf_read.specs.Laws.{ScansAreRuns}
 
 pub scans_are_runs : {S : Type 0} (to_come : S → Option (List ℕ)) → ScansAreRuns to_come

@@ -1,7 +1,6 @@
--- of rows
-pub use Rattle.sf_field.proofs.FloatFields
--- of sources
-pub use Rattle.sf_source.proofs.Scripts
+pub mod SourceLemmas
+pub mod FieldLemmas
+pub mod LineLemmas
 -- of scans
 pub mod Blocks
 pub mod Consuming

@@ -5,8 +5,8 @@ use Rattle.std.proofs.lemmas.Grind.{common_steps}
 use Rattle.std.proofs.Math.Seq.{take-append-add, take-append_seam}
 use Rattle.sf_format.specs.declared.directive.Directive.{Directive}
 use Rattle.sf_run.specs.Standing.{Standing, used_by}
-use Rattle.sf_source.specs.Ahead.{Ahead, input_of}
-use Rattle.sf_source.specs.Counts.{lines_after, newlines}
+use Rattle.sf_read.specs.source.Ahead.{Ahead, input_of}
+use Rattle.sf_read.specs.source.Counts.{lines_after, newlines}
 use Rattle.sf_read.specs.Reading.{Reading}
 
 newlines_more : (x y : List ℕ) → newlines (x ++ y) ≡ newlines x + newlines y

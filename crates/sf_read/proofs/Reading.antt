@@ -10,8 +10,8 @@ use Rattle.sf_run.specs.outcome.Ending.{Ending}
 use Rattle.sf_run.specs.outcome.Ending.TheVariants.{End, Fault}
 use Rattle.sf_run.specs.Runs.{IsOpen}
 use Rattle.sf_run.specs.Standing.{Standing, After, Gives, used_by, ran_out}
-use Rattle.sf_source.specs.Counts.{counted_on}
-use Rattle.sf_source.specs.Ahead.{Ahead}
+use Rattle.sf_read.specs.source.Counts.{counted_on}
+use Rattle.sf_read.specs.source.Ahead.{Ahead}
 use Rattle.sf_read.specs.Reading.{Reading, Driven}
 use Rattle.sf_read.proofs.Blocks.{no_reads, used_more, read_more, all_some}
 

@@ -25,13 +25,13 @@ use Rattle.sf_report.proofs.Filling.{done_fills, none_may}
 use Rattle.sf_report.proofs.Values.{readable_at}
 use Rattle.sf_run.specs.declared.feeding.StartFault.{StartFault}
 use Rattle.sf_base.specs.Data.{Datum, datum_at}
-use Rattle.sf_store.specs.Kept.{Kept}
+use Rattle.sf_base.specs.stores.Kept.{Kept}
 use Rattle.sf_run.specs.Memory.{capacity_of}
 use Rattle.sf_read.specs.declared.row.ScanRowFault.{ScanRowFault}
 use Rattle.sf_read.specs.declared.row.ScanRowFault.TheVariants.{Start}
-use Rattle.sf_source.specs.Ahead.{Ahead, input_of}
-use Rattle.sf_source.specs.Counts.{counted_on}
-use Rattle.sf_field.specs.Rows.{AreGivenAs, IsGivenAs}
+use Rattle.sf_read.specs.source.Ahead.{Ahead, input_of}
+use Rattle.sf_read.specs.source.Counts.{counted_on}
+use Rattle.sf_read.specs.field.Rows.{AreGivenAs, IsGivenAs}
 use Rattle.sf_read.specs.RowScans.{Answers, HasShape, RowScan, is_run}
 use Rattle.sf_read.specs.Scan.{Scan, is_fault}
 use Rattle.sf_read.proofs.Blocks.{no_reads}

@@ -4,7 +4,7 @@ use Rattle.sf_format.specs.declared.directive.Directive.{Directive}
 use Rattle.sf_run.specs.outcome.Ending.TheVariants.{End, Fault}
 use Rattle.sf_run.specs.Runs.{RunReport}
 use Rattle.sf_run.specs.Limits.{RunTold, RunWithin}
-use Rattle.sf_source.specs.Ahead.{Ahead, input_of}
+use Rattle.sf_read.specs.source.Ahead.{Ahead, input_of}
 use Rattle.sf_read.specs.Scan.{Scan, is_fault}
 
 -- a scan by a format, under a limit, with what it came to

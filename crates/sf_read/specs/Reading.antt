@@ -6,8 +6,8 @@ use Rattle.sf_run.specs.outcome.Ending.{Ending}
 use Rattle.sf_run.specs.outcome.Ending.TheVariants.{Fault}
 use Rattle.sf_run.specs.Runs.{IsOpen}
 use Rattle.sf_run.specs.Standing.{Standing, After, Gives, used_by, ran_out}
-use Rattle.sf_source.specs.Counts.{counted_on}
-use Rattle.sf_source.specs.Ahead.{Ahead, input_of}
+use Rattle.sf_read.specs.source.Counts.{counted_on}
+use Rattle.sf_read.specs.source.Ahead.{Ahead, input_of}
 use Rattle.sf_read.specs.Reads.{ReadsWhile, Waits}
 use Rattle.sf_read.specs.Scan.{MayFollow}
 

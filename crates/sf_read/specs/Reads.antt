@@ -4,8 +4,8 @@ use Rattle.std.specs.List.{concat}
 use Rattle.std.specs.Io.KnownBytes.{Consumes}
 use Rattle.sf_format.specs.declared.directive.Directive.{Directive}
 use Rattle.sf_run.specs.Runs.{IsOpen}
-use Rattle.sf_source.specs.Ahead.{Ahead}
-use Rattle.sf_source.specs.Counts.{counted_on}
+use Rattle.sf_read.specs.source.Ahead.{Ahead}
+use Rattle.sf_read.specs.source.Counts.{counted_on}
 
 -- the count of the reads, after so many more
 abbrev pub counted_by : ℕ → ℕ → ℕ

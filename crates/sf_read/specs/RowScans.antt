@@ -15,10 +15,10 @@ use Rattle.sf_run.specs.Stopping.{is_memory_status}
 use Rattle.sf_run.specs.Views.{report_by}
 use Rattle.sf_read.specs.declared.row.ScanRowFault.{ScanRowFault}
 use Rattle.sf_read.specs.declared.row.ScanRowFault.TheVariants.{ShapeDiffers, Start, Failed, NoMemory}
-use Rattle.sf_source.specs.Ahead.{Ahead, input_of}
-use Rattle.sf_source.specs.Counts.{counted_on}
+use Rattle.sf_read.specs.source.Ahead.{Ahead, input_of}
+use Rattle.sf_read.specs.source.Counts.{counted_on}
 use Rattle.sf_read.specs.Reads.{WaitedFor}
-use Rattle.sf_field.specs.Rows.{AreSlotsOf}
+use Rattle.sf_read.specs.field.Rows.{AreSlotsOf}
 use Rattle.sf_read.specs.Scan.{Scan, is_fault}
 
 -- the slots with these kinds are the destinations of the format, with theirs; those of the format that may be missing may be so in the row

@@ -5,7 +5,7 @@ use Rattle.sf_run.specs.outcome.Ending.{Ending}
 use Rattle.sf_run.specs.outcome.Ending.TheVariants.{End, Fault}
 use Rattle.sf_run.specs.Runs.{RunReport}
 use Rattle.sf_run.specs.Limits.{RunWithin, RunTold}
-use Rattle.sf_source.specs.Ahead.{Ahead, input_of}
+use Rattle.sf_read.specs.source.Ahead.{Ahead, input_of}
 
 -- the run met a fault of its source
 abbrev pub is_fault : Option Ending → Bool

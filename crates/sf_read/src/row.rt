@@ -1,7 +1,7 @@
 //! Rows of what a source gives.
 ghost use Rattle.std.specs.Prelude.{◌≡◌, length, ◌≤◌, ◌<◌, ◌+◌, ◌⊎◌, ◌↔◌, ℕ, List, true, false, Some, IfErr, IfOk};
 ghost use Rattle.std.specs.Prelude.{IfSome, IsErrOf, IsNone, IsOk, IsSome, unwrap_or, if◌then◌else◌};
-ghost use Rattle.sf_store.specs.Kept.{nothing_kept};
+ghost use Rattle.sf_base.specs.stores.Kept.{nothing_kept};
 ghost use Rattle.sf_format.specs.Proper.{AreKinded, IsAccepted, destinations_of, may_miss};
 ghost use Rattle.sf_format.specs.Widths.{width_sum};
 ghost use Rattle.sf_run.specs.Limits.{RunTold};
@@ -9,20 +9,20 @@ ghost use Rattle.sf_run.specs.Memory.{capacity_of};
 ghost use Rattle.sf_run.specs.outcome.Status.TheVariants.{Done};
 ghost use Rattle.sf_run.specs.Quick.{IsDoneWithin};
 ghost use Rattle.sf_run.specs.Stopping.{is_memory_status};
-ghost use Rattle.sf_source.specs.Ahead.{input_of};
-ghost use Rattle.sf_source.specs.Counts.{counted_on};
+ghost use Rattle.sf_read.specs.source.Ahead.{input_of};
+ghost use Rattle.sf_read.specs.source.Counts.{counted_on};
 ghost use Rattle.sf_read.specs.Reads.{WaitedFor};
-ghost use Rattle.sf_field.specs.Rows.{AreGivenAs, present, slots_by};
+ghost use Rattle.sf_read.specs.field.Rows.{AreGivenAs, present, slots_by};
 ghost use Rattle.sf_read.specs.RowScans.{Answers, HasShape, IsOfFew, RowScan, is_run};
 ghost use Rattle.sf_read.specs.Scan.{Scan, is_fault};
 
+use crate::field::{Row, RowFault};
+use crate::source::{Lookahead, Source};
 use crate::stream::held_into;
 use crate::{fscan, fscan_over};
-use sf_field::{Row, RowFault};
+use sf_base::{FixedStore, HeapStore, Store};
 use sf_format::ScanFormat;
 use sf_run::{Ending, MOST_BYTES, Outcome, Report, Scanned, StartFault, Status};
-use sf_source::{Lookahead, Source};
-use sf_store::{FixedStore, HeapStore, Store};
 use std::alloc::Global;
 use std::error::Error;
 use std::fmt;

@@ -2,7 +2,7 @@
 ghost use Rattle.std.specs.Prelude.{◌≡◌, unwrap_or, IsOk, ◌≤◌, ◌<◌, ◌+◌, ◌⊎◌, ◌↔◌, ℕ, List, [], length, take, drop};
 ghost use Rattle.std.specs.Prelude.{true, false, Some, IsSome, IsNone, IfSome, None, IfOk, IfErr, IsErrOf, IsSomeAnd};
 ghost use Rattle.std.specs.Prelude.{if◌then◌else◌};
-ghost use Rattle.sf_store.specs.Kept.{buffer_of, nothing_kept};
+ghost use Rattle.sf_base.specs.stores.Kept.{buffer_of, nothing_kept};
 ghost use Rattle.sf_format.specs.declared.directive.Directive.{Directive};
 ghost use Rattle.sf_format.specs.Proper.{destinations_of};
 ghost use Rattle.sf_format.specs.Widths.{width_sum};
@@ -14,18 +14,18 @@ ghost use Rattle.sf_run.specs.Scanner.{kept_by, standing};
 ghost use Rattle.sf_run.specs.Standing.{After, used_by};
 ghost use Rattle.sf_run.specs.Stopping.{is_memory_status};
 ghost use Rattle.sf_run.specs.Views.{report_by};
-ghost use Rattle.sf_source.specs.Ahead.{input_of};
-ghost use Rattle.sf_source.specs.Counts.{counted_on, lines_after};
+ghost use Rattle.sf_read.specs.source.Ahead.{input_of};
+ghost use Rattle.sf_read.specs.source.Counts.{counted_on, lines_after};
 ghost use Rattle.sf_read.specs.Reading.{Driven, IsFresh};
 ghost use Rattle.sf_read.specs.Reads.{WaitedFor};
 ghost use Rattle.sf_read.specs.Scan.{Scan, is_fault};
 
+use crate::source::{Lookahead, Source};
+use sf_base::{FixedStore, HeapStore, Store};
 use sf_format::ScanFormat;
 use sf_run::{
     Ending, FeedState, MOST_BYTES, Outcome, Scanned, Scanner, StartFault, quick_run_into,
 };
-use sf_source::{Lookahead, Source};
-use sf_store::{FixedStore, HeapStore, Store};
 use std::alloc::Global;
 
 /// Adds the newlines of these bytes. The count stays at 2^64 - 1.

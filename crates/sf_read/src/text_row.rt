@@ -1,16 +1,16 @@
 //! Rows of whole texts.
 ghost use Rattle.std.specs.Prelude.{◌≡◌, ◌≤◌, ◌<◌, ◌⊎◌, ◌↔◌, length, true, IfOk, IfSome, IsErrOf, IsSome};
 ghost use Rattle.sf_format.specs.Proper.{IsAccepted};
-ghost use Rattle.sf_field.specs.Rows.{present, slots_by};
+ghost use Rattle.sf_read.specs.field.Rows.{present, slots_by};
 ghost use Rattle.sf_read.specs.RowScans.{HasShape, TextRow, is_run};
 
+use crate::field::{Row, RowFault};
 use crate::row::{FEW_NUMBERS, row_of};
 use crate::whole::scan_short;
 use crate::{ScanRowFault, has_shape, sscan};
-use sf_field::{Row, RowFault};
+use sf_base::FixedStore;
 use sf_format::ScanFormat;
 use sf_run::{MOST_BYTES, Report, StartFault};
-use sf_store::FixedStore;
 use std::alloc::Global;
 
 /// The row of a short text, where the format stores a few numbers and no texts, and the text is seen at once to be

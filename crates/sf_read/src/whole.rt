@@ -1,7 +1,7 @@
 //! Scans of whole texts.
 ghost use Rattle.std.specs.Prelude.{◌≡◌, ◌<◌, ◌≤◌, ◌+◌, ◌++◌, ◌∷◌, ◌↔◌, ◌⊎◌, ℕ, List, [], length, take, unwrap_or};
 ghost use Rattle.std.specs.Prelude.{IfOk, IfErr, IfSome, IsErrOf, IsOk, IsSome};
-ghost use Rattle.sf_store.specs.Kept.{buffer_of, nothing_kept};
+ghost use Rattle.sf_base.specs.stores.Kept.{buffer_of, nothing_kept};
 ghost use Rattle.sf_format.specs.declared.directive.Directive.{Directive};
 ghost use Rattle.sf_format.specs.Proper.{destinations_of};
 ghost use Rattle.sf_format.specs.Widths.{width_sum};
@@ -13,12 +13,12 @@ ghost use Rattle.sf_run.specs.Standing.{After};
 ghost use Rattle.sf_run.specs.Views.{report_by};
 ghost use Rattle.sf_read.specs.Reading.{IsFresh};
 
+use sf_base::{HeapStore, Store};
 use sf_format::ScanFormat;
 use sf_run::laws::{done_runs_stay, open_inputs_are_used};
 use sf_run::{
     Ending, MOST_BYTES, Outcome, Scanned, Scanner, StartFault, quick_run, quick_run_into,
 };
-use sf_store::{HeapStore, Store};
 use std::alloc::Global;
 
 /// A text with fewer bytes is scanned at once, with a newline after it.

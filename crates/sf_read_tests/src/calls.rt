@@ -1,12 +1,11 @@
 //! Calls one after the other on one source: what each reports, and what it leaves.
 ghost use Rattle.std.specs.Prelude.{◌≤◌};
 
-use sf_base::Value;
+use sf_base::{HeapStore, Value};
 use sf_format::{Profile, ScanFormat};
 use sf_read::{Lookahead, ReadStep, ScriptSource, Source, fscan, fscan_over};
 use sf_rows::{LIMIT, Met, Told, has_values, is};
 use sf_run::{Report, Status};
-use sf_store::HeapStore;
 use std::alloc::Global;
 use std::test::Fail;
 

@@ -1,9 +1,9 @@
 //! What slots were given, taken as types of Rust.
+use sf_base::HeapStore;
 use sf_format::{Profile, ScanFormat};
 use sf_read::sscan;
 use sf_rows::{LIMIT, is};
 use sf_run::{Report, Scanned};
-use sf_store::HeapStore;
 use std::alloc::Global;
 use std::test::Fail;
 

@@ -1,10 +1,9 @@
 //! Records that are held whole.
-use sf_base::Value;
+use sf_base::{HeapStore, Store, Value};
 use sf_format::{Profile, ScanFormat};
 use sf_read::{Lookahead, ReadStep, ScriptSource, fscan, fscan_held, fscan_over, sscan};
 use sf_rows::{LIMIT, ScanRow, is, scans};
 use sf_run::{Report, Status};
-use sf_store::{HeapStore, Store};
 use std::alloc::Global;
 use std::test::Fail;
 

@@ -2,12 +2,11 @@
 ghost use Rattle.std.specs.Prelude.{◌≤◌};
 
 use arrayvec::ArrayVec;
-use sf_base::{Kind, Value};
+use sf_base::{Kind, Store, Value};
 use sf_format::{Profile, ScanFormat};
 use sf_read::{Lookahead, ReadStep, Row, RowFault, ScanRowFault, ScriptSource, scan_row};
 use sf_rows::{LIMIT, Named, is};
 use sf_run::{Ending, Outcome, Report, StartFault, Status};
-use sf_store::Store;
 use std::alloc::Global;
 use std::test::Fail;
 

@@ -1,12 +1,11 @@
 //! Every row of a scan from scripted sources: blocks of all lengths, and each read that fails.
 ghost use Rattle.std.specs.Prelude.{◌≤◌};
 
-use sf_base::Value;
+use sf_base::{Store, Value};
 use sf_format::{Profile, ScanFormat};
 use sf_read::{Lookahead, ReadStep, ScriptSource, fscan, fscan_fixed};
 use sf_rows::{LIMIT, ScanRow, is, scans};
 use sf_run::{Ending, Report, StartFault};
-use sf_store::Store;
 use std::alloc::Global;
 use std::test::Fail;
 

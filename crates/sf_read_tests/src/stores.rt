@@ -1,4 +1,5 @@
 //! Scans over a store that is used again, over stores of fixed capacity, and those that are refused.
+use sf_base::HeapStore;
 use sf_format::{Profile, ScanFormat};
 use sf_read::{
     Lookahead, ReadStep, ScriptSource, SliceSource, fscan, fscan_fixed, fscan_over, sscan,
@@ -6,7 +7,6 @@ use sf_read::{
 };
 use sf_rows::{LIMIT, ScanRow, is, scans};
 use sf_run::StartFault;
-use sf_store::HeapStore;
 use std::alloc::Global;
 use std::test::Fail;
 

@@ -8,9 +8,9 @@ use Rattle.sf_base.specs.Data.{Datum}
 use Rattle.sf_format.specs.declared.directive.Directive.{Directive}
 use Rattle.sf_format.specs.declared.unit.Unit.{Unit as PrintUnit}
 use Rattle.sf_forms.specs.Written.{TakesPart}
-use Rattle.sf_makers.proofs.Faults.{front_is_part}
-use Rattle.sf_makers.specs.Works.{Writes}
-use Rattle.sf_makers.specs.declared.maker.Unwritten.{Unwritten}
+use Rattle.sf_forms.proofs.MakerLemmas.Faults.{front_is_part}
+use Rattle.sf_forms.specs.makers.Works.{Writes}
+use Rattle.sf_forms.specs.declared.makers.maker.Unwritten.{Unwritten}
 use Rattle.sf_pair.specs.declared.fault.WriteFault.{WriteFault}
 use Rattle.sf_pair.specs.declared.fault.WriteFault.TheVariants as write
 use Rattle.sf_pair.specs.Fits.{Fit, FitsIsFit, fits}

@@ -8,13 +8,13 @@ use Rattle.sf_base.specs.Data.{Assigned}
 use Rattle.sf_format.specs.declared.directive.Directive.{Directive}
 use Rattle.sf_format.specs.Proper.{AreInOrder, AreProper, slots_of}
 use Rattle.sf_forms.specs.declared.form.OutputForm.TheVariants.{Plain}
-use Rattle.sf_makers.specs.Forms.{IsBare}
+use Rattle.sf_forms.specs.makers.Forms.{IsBare}
 use Rattle.sf_run.specs.Laws.{EachHasOneReport}
 use Rattle.sf_run.specs.Quick.{done_by}
 use Rattle.sf_run.specs.Runs.{RunReport}
 use Rattle.sf_run.specs.Texts.{slots_in}
 use Rattle.sf_run.specs.Written.{AreParts, Part, records_by, used_by}
-use Rattle.sf_read.specs.Ahead.{Ahead}
+use Rattle.sf_read.specs.source.Ahead.{Ahead}
 use Rattle.sf_read.proofs.Holding.{held_scan}
 use Rattle.sf_print.proofs.Appending.{Appends-same, Appends-then}
 use Rattle.sf_records.specs.Plain.{WritesPlain, plain_line}

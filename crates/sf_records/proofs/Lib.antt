@@ -1,3 +1,4 @@
+pub mod LinewiseLemmas
 pub mod CopyRow
 pub mod Copying
 pub mod Further

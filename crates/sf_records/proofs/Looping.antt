@@ -17,8 +17,8 @@ use Rattle.sf_run.specs.Runs.{RunReport}
 use Rattle.sf_run.specs.Limits.{RunWithin, RunTold}
 use Rattle.sf_run.specs.Stopping.{is_memory_status}
 use Rattle.sf_run.specs.Laws.{EachHasOneReport}
-use Rattle.sf_read.specs.Ahead.{Ahead, input_of}
-use Rattle.sf_read.specs.Counts.{counted_on}
+use Rattle.sf_read.specs.source.Ahead.{Ahead, input_of}
+use Rattle.sf_read.specs.source.Counts.{counted_on}
 use Rattle.sf_read.specs.Scan.{Scan, MayFollow, is_fault}
 use Rattle.sf_read.proofs.Ended.{told_within}
 use Rattle.sf_print.proofs.Appending.{Appends-none, Appends-then, Appends-same}

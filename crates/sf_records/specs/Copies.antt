@@ -5,9 +5,9 @@ use Rattle.sf_format.specs.declared.directive.Directive.{Directive}
 use Rattle.sf_format.specs.declared.unit.Unit.{Unit as PrintUnit}
 use Rattle.sf_pair.specs.Fits.{fits}
 use Rattle.sf_print.specs.Printed.{most_bytes, printed}
-pub use Rattle.sf_makers.specs.Row.{row_in, row_of}
-pub use Rattle.sf_makers.specs.Prints.{printed_in, printing}
-use Rattle.sf_makers.specs.Works.{Work}
+pub use Rattle.sf_forms.specs.makers.Row.{row_in, row_of}
+pub use Rattle.sf_forms.specs.makers.Prints.{printed_in, printing}
+use Rattle.sf_forms.specs.makers.Works.{Work}
 
 -- the values fit the pair, and their text is none that a print refuses for its length
 abbrev pub is_copied : List PrintUnit → List Directive → List Datum → Bool

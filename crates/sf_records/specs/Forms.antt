@@ -1,2 +1,2 @@
 -- What a scan writes of each record, in a form.
-pub use Rattle.sf_makers.specs.Forms.{record_text, row_text, writing}
+pub use Rattle.sf_forms.specs.makers.Forms.{record_text, row_text, writing}

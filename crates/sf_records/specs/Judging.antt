@@ -5,8 +5,8 @@ use Rattle.sf_run.specs.Runs.{RunReport}
 pub use Rattle.sf_forms.specs.Written.{TakesPart}
 use Rattle.sf_records.specs.declared.turn.Turn.{Turn}
 use Rattle.sf_records.specs.declared.turn.Turn.TheVariants.{Goes}
-use Rattle.sf_makers.specs.declared.maker.Unwritten.{Unwritten}
-use Rattle.sf_makers.specs.declared.maker.Unwritten.TheVariants as unwritten
+use Rattle.sf_forms.specs.declared.makers.maker.Unwritten.{Unwritten}
+use Rattle.sf_forms.specs.declared.makers.maker.Unwritten.TheVariants as unwritten
 use Rattle.sf_records.specs.declared.end.ToolEnd.{ToolEnd}
 use Rattle.sf_records.specs.declared.end.ToolFault.{ToolFault}
 use Rattle.sf_records.specs.declared.end.ToolFault.TheVariants as faults

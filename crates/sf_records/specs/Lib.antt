@@ -1,3 +1,4 @@
+pub mod by_lines
 -- how a record is written
 pub use Rattle.sf_forms.specs.JsonReading
 pub use Rattle.sf_forms.specs.Quotes

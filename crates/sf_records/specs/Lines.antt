@@ -1,2 +1,2 @@
 -- Scans that write a line for each record.
-pub use Rattle.sf_makers.specs.Forms.{line_of, scanning}
+pub use Rattle.sf_forms.specs.makers.Forms.{line_of, scanning}

@@ -7,7 +7,7 @@ use Rattle.sf_format.specs.declared.directive.Directive.{Directive}
 use Rattle.sf_forms.specs.declared.form.OutputForm.TheVariants.{Plain}
 use Rattle.sf_forms.specs.Forms.{value_text}
 use Rattle.sf_run.specs.Written.{AreParts, Part, records_by, used_by}
-use Rattle.sf_read.specs.Ahead.{Ahead}
+use Rattle.sf_read.specs.source.Ahead.{Ahead}
 
 -- the plain record of values, in their order
 abbrev pub plain_line : List Assigned → List ℕ

@@ -7,9 +7,9 @@ use Rattle.sf_run.specs.outcome.Ending.{Ending}
 use Rattle.sf_run.specs.outcome.Ending.TheVariants.{End, Fault}
 use Rattle.sf_run.specs.Runs.{RunReport}
 use Rattle.sf_run.specs.Limits.{RunWithin, RunRefused}
-use Rattle.sf_read.specs.Ahead.{Ahead, input_of}
-use Rattle.sf_read.specs.Counts.{counted_on}
-use Rattle.sf_makers.specs.Works.{outcome_of}
+use Rattle.sf_read.specs.source.Ahead.{Ahead, input_of}
+use Rattle.sf_read.specs.source.Counts.{counted_on}
+use Rattle.sf_forms.specs.makers.Works.{outcome_of}
 use Rattle.sf_records.specs.declared.turn.Turn.{Turn}
 use Rattle.sf_records.specs.declared.turn.Turn.TheVariants.{Goes, Ends, Cut, Failed, Stalled, Unfit, RanOut}
 use Rattle.sf_records.specs.declared.end.ToolEnd.{ToolEnd}

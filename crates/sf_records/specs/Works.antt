@@ -4,7 +4,7 @@ use Rattle.std.specs.List.{flat_map}
 use Rattle.sf_format.specs.declared.directive.Directive.{Directive}
 use Rattle.sf_format.specs.Proper.{has_optional}
 use Rattle.sf_run.specs.Runs.{RunReport}
-pub use Rattle.sf_makers.specs.Works.{Work}
+pub use Rattle.sf_forms.specs.makers.Works.{Work}
 use Rattle.sf_records.specs.declared.turn.Turn.{Turn}
 use Rattle.sf_records.specs.Turns.{turn_of, fit_turn, writes}
 

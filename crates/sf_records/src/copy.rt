@@ -1,7 +1,7 @@
 //! The records of an input, printed by the other format of a pair, or by a print format.
 ghost use Rattle.std.specs.Prelude.{◌≡◌, ◌≤◌, ℕ, List, Some, true, if◌then◌else◌};
-ghost use Rattle.sf_print.specs.Sinks.{counted_on};
-ghost use Rattle.sf_read.specs.Ahead.{input_of};
+ghost use Rattle.sf_print.specs.sink.Sinks.{counted_on};
+ghost use Rattle.sf_read.specs.source.Ahead.{input_of};
 ghost use Rattle.sf_records.specs.Copies.{copying, printing};
 ghost use Rattle.sf_records.specs.Judging.{is_write};
 ghost use Rattle.sf_records.specs.Records.{Loops, status_by};
@@ -10,7 +10,7 @@ use crate::copy_maker::CopyMaker;
 use crate::end::ToolEnd;
 use crate::records::run_records;
 use sf_format::{PrintFormat, ScanFormat};
-use sf_makers::PrintMaker;
+use sf_forms::PrintMaker;
 use sf_pair::Pair;
 use sf_print::Sink;
 use sf_read::{Lookahead, Source};
@@ -49,7 +49,7 @@ pub fn run_copy<S: Source, K: Sink, const N: usize>(
 /// Prints record after record of what the lookahead holds and its source gives, by runs of at most `limit` bytes:
 /// scans it by the scan format, and prints its values by the print format, each number as one of the kind that the
 /// print format has there. No pair is asked for. A record whose values the print format can't print ends the loop, and
-/// nothing is written for it: where `sf_makers::check_print` accepts the formats, one whose text for `c` hasn't one
+/// nothing is written for it: where `sf_forms::check_print` accepts the formats, one whose text for `c` hasn't one
 /// byte, or whose printed text is longer than one may be. It ends as `run_copy` does.
 pub fn run_scan_print<S: Source, K: Sink, const N: usize>(
     alloc: Global,

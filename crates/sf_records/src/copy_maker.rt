@@ -2,19 +2,18 @@
 ghost use Rattle.std.specs.Prelude.{◌≡◌, ◌≤◌, ◌+◌, length, map, refl, take, true, IfSome, IsSome, if◌then◌else◌};
 ghost use Rattle.sf_base.specs.Data.{datum_of};
 ghost use Rattle.sf_print.specs.Printed.{printed};
-ghost use Rattle.sf_print.specs.Sinks.{counted_on};
+ghost use Rattle.sf_print.specs.sink.Sinks.{counted_on};
 ghost use Rattle.sf_pair.specs.Fits.{Fit};
 ghost use Rattle.sf_records.specs.Copies.{copying, is_copied, row_in, row_of};
-ghost use Rattle.sf_makers.specs.Works.{Writes, sink_failed};
+ghost use Rattle.sf_forms.specs.makers.Works.{Writes, sink_failed};
 
-use sf_base::{Shown, Value};
+use sf_base::{Shown, Store, Value};
 use sf_format::ScanFormat;
-use sf_makers::{FEW_VALUES, MOST_VALUES, Maker, Unwritten, row, shown_row};
+use sf_forms::{FEW_VALUES, MOST_VALUES, Maker, Unwritten, row, shown_row};
 use sf_pair::laws::fits_is_fit;
 use sf_pair::{Pair, WriteFault};
 use sf_print::{PrintFault, Sink, TextInPlace, write_text};
 use sf_run::Report;
-use sf_store::Store;
 use std::marker::Model;
 
 /// The room for the copy of a record that is written in place: 1,023 bytes, and as many as the longest number has.

@@ -2,6 +2,7 @@
 //! its copy.
 #![tactic(auto)]
 
+pub mod by_lines;
 mod copy;
 mod copy_maker;
 mod end;
@@ -11,6 +12,10 @@ mod records;
 mod scan;
 mod turn;
 
+pub use by_lines::{
+    LineFault, LineFormats, LineRead, LinesEnd, LinesFault, LinesOptions, Teller, next_line,
+    run_lines,
+};
 pub use copy::{run_copy, run_scan_print};
 pub use copy_maker::CopyMaker;
 pub use end::{ToolEnd, ToolFault};

@@ -4,9 +4,9 @@ ghost use Rattle.std.specs.Prelude.{MatchOption};
 ghost use Rattle.std.specs.Result.{result_err};
 ghost use Rattle.sf_format.specs.Proper.{AreInOrder};
 ghost use Rattle.sf_forms.specs.declared.form.OutputForm.TheVariants.{Plain};
-ghost use Rattle.sf_makers.specs.Forms.{IsBare};
-ghost use Rattle.sf_print.specs.Sinks.{counted_on};
-ghost use Rattle.sf_read.specs.Ahead.{input_of};
+ghost use Rattle.sf_forms.specs.makers.Forms.{IsBare};
+ghost use Rattle.sf_print.specs.sink.Sinks.{counted_on};
+ghost use Rattle.sf_read.specs.source.Ahead.{input_of};
 ghost use Rattle.sf_records.specs.Judging.{Judges, fault_by, fault_of, is_write};
 ghost use Rattle.sf_run.specs.Runs.{RunReport};
 ghost use Rattle.sf_run.specs.outcome.Status.TheVariants as Status;
@@ -16,13 +16,12 @@ ghost use Rattle.sf_records.specs.Works.{turn_in};
 use crate::end::{ToolEnd, ToolFault, ended_by};
 use crate::plain::write_plain;
 use crate::turn::{Turn, next_turn};
+use sf_base::{HeapStore, Store};
 use sf_format::ScanFormat;
-use sf_forms::OutputForm;
-use sf_makers::{Maker, Unwritten};
+use sf_forms::{Maker, OutputForm, Unwritten};
 use sf_print::Sink;
 use sf_read::{Lookahead, Source, fscan_held, fscan_over};
 use sf_run::{Report, is_in_order};
-use sf_store::{HeapStore, Store};
 use std::alloc::Global;
 
 /// The most records that one loop writes.

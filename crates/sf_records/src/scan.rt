@@ -1,7 +1,7 @@
 //! The records of an input, each written in a form.
 ghost use Rattle.std.specs.Prelude.{◌≡◌, ◌≤◌, ℕ, List, Some, true, if◌then◌else◌};
-ghost use Rattle.sf_print.specs.Sinks.{counted_on};
-ghost use Rattle.sf_read.specs.Ahead.{input_of};
+ghost use Rattle.sf_print.specs.sink.Sinks.{counted_on};
+ghost use Rattle.sf_read.specs.source.Ahead.{input_of};
 ghost use Rattle.sf_records.specs.Judging.{is_write};
 ghost use Rattle.sf_records.specs.Forms.{writing};
 ghost use Rattle.sf_records.specs.Lines.{scanning};
@@ -10,8 +10,7 @@ ghost use Rattle.sf_records.specs.Records.{Loops, status_by};
 use crate::end::ToolEnd;
 use crate::records::run_records;
 use sf_format::ScanFormat;
-use sf_forms::OutputForm;
-use sf_makers::FormMaker;
+use sf_forms::{FormMaker, OutputForm};
 use sf_print::Sink;
 use sf_read::{Lookahead, Source};
 use std::alloc::Global;

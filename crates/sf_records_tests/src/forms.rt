@@ -3,12 +3,12 @@ ghost use Rattle.std.specs.Prelude.{◌≤◌};
 
 use crate::copies::{LIMIT, is};
 use crate::reading_back::write_table;
+use sf_base::Store;
 use sf_format::{Profile, ScanFormat};
 use sf_print::{ListSink, ScriptSink, WriteStep};
 use sf_read::{Lookahead, SliceSource, fscan_fixed};
 use sf_records::{FormWriter, OutputForm, RecordFault, push_record, run_scan_as};
 use sf_run::Report;
-use sf_store::Store;
 use std::process::Abort;
 use std::test::Fail;
 

@@ -4,6 +4,8 @@
 #[cfg(test)]
 mod between;
 #[cfg(test)]
+mod by_lines;
+#[cfg(test)]
 mod copies;
 #[cfg(test)]
 mod devices;

@@ -1,12 +1,11 @@
 //! What a call answers.
-use sf_base::Value;
+use sf_base::{HeapStore, Value};
 use sf_format::FormatFault;
 use sf_pair::WriteFault;
 use sf_print::PrintFault;
 use sf_read::ScanRowFault;
 use sf_records::ToolEnd;
 use sf_run::{Outcome, Scanned, StartFault};
-use sf_store::HeapStore;
 
 #[derive(Debug, Drop)]
 pub enum Answer {

@@ -1,10 +1,10 @@
 //! Formats, scanners and scans.
 use crate::answer::{Answer, told};
+use sf_base::HeapStore;
 use sf_format::{PrintFormat, Profile, ScanFormat};
 use sf_read::{Lookahead, SliceSource, fscan, fscan_over, scan_row, sscan};
 use sf_rows::Named;
 use sf_run::{Ending, Scanner};
-use sf_store::HeapStore;
 use std::alloc::Global;
 
 const LIMIT: u32 = 1048576;

@@ -4,14 +4,14 @@ use Rattle.std.proofs.Common.{ap, ◌∙◌, arith, lit<, true≢false}
 use Rattle.std.specs.Prelude.{◌==◌}
 use Rattle.std.proofs.lemmas.Bool.Decides.{nat_tests}
 use Rattle.std.specs.Char.{is_ascii_digit, is_ascii_hexdigit, is_ascii_alphanumeric, to_ascii_lowercase}
-use Rattle.sf_float_item.specs.declared.reached.Radix.{Radix}
-use Rattle.sf_float_item.specs.declared.reached.Radix.TheVariants.{Ten, Sixteen}
-use Rattle.sf_float_item.specs.declared.reached.Reached.{Reached}
-use Rattle.sf_float_item.specs.declared.reached.Reached.TheVariants as at
-use Rattle.sf_float_item.specs.Sequences.{is_digit, opens_exponent, is_sign}
-use Rattle.sf_float_item.specs.Tests.{after_exponent, after_letter, letter_of_exponent, after_point, after_fraction, after_digits}
-use Rattle.sf_float_item.specs.Tests.{first_of_number, after_zero, letter, first, in_parentheses, next, read, begins_float}
-use Rattle.sf_float_item.proofs.Deciding.{read_more, read_nothing}
+use Rattle.sf_float_read.specs.declared.item.reached.Radix.{Radix}
+use Rattle.sf_float_read.specs.declared.item.reached.Radix.TheVariants.{Ten, Sixteen}
+use Rattle.sf_float_read.specs.declared.item.reached.Reached.{Reached}
+use Rattle.sf_float_read.specs.declared.item.reached.Reached.TheVariants as at
+use Rattle.sf_float_read.specs.item.Sequences.{is_digit, opens_exponent, is_sign}
+use Rattle.sf_float_read.specs.item.Tests.{after_exponent, after_letter, letter_of_exponent, after_point, after_fraction, after_digits}
+use Rattle.sf_float_read.specs.item.Tests.{first_of_number, after_zero, letter, first, in_parentheses, next, read, begins_float}
+use Rattle.sf_float_read.proofs.ItemLemmas.Deciding.{read_more, read_nothing}
 
 -- one that is read on with is a byte
 abbrev IsByte : ℕ → Option Reached → Type 0

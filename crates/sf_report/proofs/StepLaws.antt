@@ -8,11 +8,11 @@ use Rattle.sf_base.specs.declared.real.Real as real
 use Rattle.sf_base.specs.declared.real.Real.TheVariants as reals
 use Rattle.sf_base.specs.declared.values.Kind.{Kind}
 use Rattle.sf_base.specs.declared.values.Kind.TheVariants as kinds
-use Rattle.sf_float_item.specs.Sequences.{IsFloat}
-use Rattle.sf_float_item.specs.Tests.{is_float}
-use Rattle.sf_float_item.proofs.Deciding.{decided}
-use Rattle.sf_float_value.specs.Computed.{stored_in}
-use Rattle.sf_float_value.proofs.StoredComputed.{stored_is_computed}
+use Rattle.sf_float_read.specs.item.Sequences.{IsFloat}
+use Rattle.sf_float_read.specs.item.Tests.{is_float}
+use Rattle.sf_float_read.proofs.ItemLemmas.Deciding.{decided}
+use Rattle.sf_float_read.specs.value.Computed.{stored_in}
+use Rattle.sf_float_read.proofs.ValueLemmas.StoredComputed.{stored_is_computed}
 use Rattle.sf_format.specs.declared.directive.Shape.{Shape}
 use Rattle.sf_format.specs.declared.directive.Shape.TheVariants.{Int, Text, Set, Chars, Float, Count}
 use Rattle.sf_format.specs.declared.directive.Conversion.{Conversion}

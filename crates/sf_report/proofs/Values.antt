@@ -11,8 +11,8 @@ use Rattle.std.specs.Float.Ieee.{binary32, binary64}
 use Rattle.sf_base.specs.Bytes.{AreBytes}
 use Rattle.sf_base.specs.declared.real.Real as real
 use Rattle.sf_base.specs.declared.real.Real.TheVariants as reals
-use Rattle.sf_float_value.specs.Values.{IsStored}
-use Rattle.sf_float_value.proofs.StoredBits.{stored_bits}
+use Rattle.sf_float_read.specs.value.Values.{IsStored}
+use Rattle.sf_float_read.proofs.ValueLemmas.StoredBits.{stored_bits}
 use Rattle.sf_base.specs.declared.values.Kind.{Kind}
 use Rattle.sf_base.specs.declared.values.Kind.TheVariants as kinds
 use Rattle.sf_base.specs.Data.{Datum, Number, Bytes, Real, Assigned, IsIn, IsSigned, IsUnsigned, datum_at, signed_value, unsigned_value}

@@ -1,6 +1,6 @@
 -- What the store of a run holds.
 use Rattle.std.specs.Prelude.{◌≡◌, ◌≤◌, ◌+◌, ℕ, List, ◌++◌, length, None, IfSome}
-use Rattle.sf_store.specs.Kept.{Kept, buffer_of, text_of, texts_in}
+use Rattle.sf_base.specs.stores.Kept.{Kept, buffer_of, text_of, texts_in}
 use Rattle.sf_format.specs.declared.directive.Directive.{Directive}
 use Rattle.sf_format.specs.Widths.{width_sum}
 

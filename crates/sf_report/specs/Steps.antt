@@ -8,7 +8,7 @@ use Rattle.sf_base.specs.declared.real.Real as real
 use Rattle.sf_base.specs.declared.real.Real.TheVariants as reals
 use Rattle.sf_base.specs.declared.values.Kind.{Kind}
 use Rattle.sf_base.specs.declared.values.Kind.TheVariants as kinds
-use Rattle.sf_float_value.specs.Values.{IsStored}
+use Rattle.sf_float_read.specs.value.Values.{IsStored}
 use Rattle.sf_format.specs.declared.directive.Shape.{Shape}
 use Rattle.sf_format.specs.declared.directive.Shape.TheVariants.{Int, Text, Float, Count}
 use Rattle.sf_format.specs.declared.directive.Conversion.{Conversion}

@@ -1,7 +1,7 @@
 -- What the types of the code stand for.
 use Rattle.std.specs.Prelude.{List}
 use Rattle.sf_base.specs.Data.{Assigned}
-use Rattle.sf_store.specs.Kept.{Kept}
+use Rattle.sf_base.specs.stores.Kept.{Kept}
 use Rattle.sf_report.specs.declared.outcome.Outcome.{Outcome}
 use Rattle.sf_report.specs.Runs.{RunReport}
 

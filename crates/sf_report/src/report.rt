@@ -5,8 +5,7 @@ ghost use Rattle.sf_base.specs.Data.{datum_of, datum_of_number, datum_of_shown, 
 ghost use Rattle.sf_report.specs.Runs.{c_return};
 
 use crate::outcome::{Outcome, Status};
-use sf_base::{Number, Shown, Taken, Value};
-use sf_store::Store;
+use sf_base::{Number, Shown, Store, Taken, Value};
 use std::marker::Model;
 
 /// What a run that has ended came to, with the store of its values.

@@ -1,7 +1,6 @@
 //! Comparisons that say where they failed.
-use sf_base::Value;
+use sf_base::{Store, Value};
 use sf_run::Report;
-use sf_store::Store;
 use std::fmt::Debug;
 use std::test::Fail;
 

@@ -6,10 +6,9 @@ use crate::number_scans::number_scans;
 use crate::quick_scans::quick_scans;
 use crate::text_scans::text_scans;
 use crate::told::{Met, Told};
-use sf_base::Value;
+use sf_base::{Store, Value};
 use sf_format::{Profile, ScanFormat};
 use sf_run::Report;
-use sf_store::Store;
 use std::alloc::Global;
 use std::test::Fail;
 

@@ -9,7 +9,7 @@ use Rattle.std.proofs.lemmas.Option.{get_or_from_slice_get, slice_get_within}
 use Rattle.std.proofs.lemmas.List.{append-nil, append_assoc, drop-drop, length-append, take_all, take-append-drop}
 use Rattle.sf_base.specs.Data.{Assigned, Bytes, Real as RealOf}
 use Rattle.sf_base.specs.declared.real.Real as real
-use Rattle.sf_store.specs.Kept.{Kept, nothing_kept, texts_in, with_text, with_value}
+use Rattle.sf_base.specs.stores.Kept.{Kept, nothing_kept, texts_in, with_text, with_value}
 use Rattle.sf_format.specs.declared.directive.Directive.{Directive}
 use Rattle.sf_format.specs.Layout.{assigns_item, items_assigned, items_taken, takes_item}
 use Rattle.sf_format.specs.Proper.{AreProper, IsProper, destinations_of, slots_of}

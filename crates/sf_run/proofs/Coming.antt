@@ -7,7 +7,7 @@ use Rattle.std.proofs.lemmas.List.{drop-append-le, drop-drop, drop_all, length-t
 use Rattle.std.proofs.lemmas.List.Sums.{sum_by-append}
 use Rattle.std.proofs.Math.Seq.{take-add}
 use Rattle.sf_base.specs.Bytes.{is_white}
-use Rattle.sf_store.specs.Kept.{Opened, text_of}
+use Rattle.sf_base.specs.stores.Kept.{Opened, text_of}
 use Rattle.sf_format.specs.declared.directive.Shape.{Shape}
 use Rattle.sf_format.specs.declared.directive.Conversion.{Conversion}
 use Rattle.sf_format.specs.declared.directive.Directive.{Directive}

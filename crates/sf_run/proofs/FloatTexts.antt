@@ -7,16 +7,16 @@ use Rattle.sf_base.specs.Bytes.{is_white}
 use Rattle.sf_base.specs.declared.real.Real.TheVariants as reals
 use Rattle.sf_base.specs.declared.values.Kind.{Kind}
 use Rattle.sf_base.specs.declared.values.Kind.TheVariants as kinds
-use Rattle.sf_float_item.specs.declared.reached.Reached.{Reached}
-use Rattle.sf_float_item.specs.declared.reached.Reached.TheVariants as at
-use Rattle.sf_float_item.specs.Decimals.{IsDecimal}
-use Rattle.sf_float_item.specs.Sequences.{IsFloat}
-use Rattle.sf_float_item.specs.Tests.{next, read, is_float, begins_float}
-use Rattle.sf_float_item.proofs.Decimals.{decimal_float}
-use Rattle.sf_float_item.proofs.Deciding.{float_decided, read_more, read_nothing}
-use Rattle.sf_float_value.specs.Computed.{stored_in}
-use Rattle.sf_float_value.specs.Values.{IsStored}
-use Rattle.sf_float_value.proofs.StoredComputed.{stored_is_computed}
+use Rattle.sf_float_read.specs.declared.item.reached.Reached.{Reached}
+use Rattle.sf_float_read.specs.declared.item.reached.Reached.TheVariants as at
+use Rattle.sf_float_read.specs.item.Decimals.{IsDecimal}
+use Rattle.sf_float_read.specs.item.Sequences.{IsFloat}
+use Rattle.sf_float_read.specs.item.Tests.{next, read, is_float, begins_float}
+use Rattle.sf_float_read.proofs.ItemLemmas.Decimals.{decimal_float}
+use Rattle.sf_float_read.proofs.ItemLemmas.Deciding.{float_decided, read_more, read_nothing}
+use Rattle.sf_float_read.specs.value.Computed.{stored_in}
+use Rattle.sf_float_read.specs.value.Values.{IsStored}
+use Rattle.sf_float_read.proofs.ValueLemmas.StoredComputed.{stored_is_computed}
 use Rattle.sf_format.specs.declared.directive.Conversion.{Conversion}
 use Rattle.sf_format.specs.declared.directive.Shape.TheVariants.{Float}
 use Rattle.sf_item.specs.declared.item.ItemScan.{ItemScan}

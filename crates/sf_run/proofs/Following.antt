@@ -3,7 +3,7 @@ use Rattle.std.proofs.Common.{[], ◌≡◌, ◌≢◌, ℕ, ◌+◌, ◌-◌, �
 use Rattle.std.proofs.lemmas.List.{append-nil, length-take-le}
 use Rattle.std.specs.Prelude.{slice_get}
 use Rattle.sf_base.specs.Data.{Datum}
-use Rattle.sf_store.specs.Kept.{Kept}
+use Rattle.sf_base.specs.stores.Kept.{Kept}
 use Rattle.sf_format.specs.declared.directive.Directive.{Directive}
 use Rattle.sf_format.specs.Proper.{AreProper}
 use Rattle.sf_report.specs.Limits.{RunWithin}

@@ -7,7 +7,7 @@ use Rattle.std.specs.List.{AllByRecursion}
 use Rattle.std.proofs.lemmas.Option.{slice_get_within, slice_get_cases, get_or_from_slice_get}
 use Rattle.std.proofs.lemmas.List.{drop_more, drop_all, take-append-drop, length-take-le}
 use Rattle.std.proofs.lemmas.Bool.{lt-ltb}
-use Rattle.sf_store.specs.Kept.{Opened, text_of}
+use Rattle.sf_base.specs.stores.Kept.{Opened, text_of}
 use Rattle.sf_format.specs.declared.directive.Directive.{Directive}
 use Rattle.sf_format.specs.Proper.{IsProper, AreProper, destinations_of}
 use Rattle.sf_run.specs.declared.directive.Finished.{Finished}

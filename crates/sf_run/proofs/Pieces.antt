@@ -10,12 +10,12 @@ use Rattle.std.proofs.lemmas.Option.{get_or_from_slice_get, slice_get_within}
 use Rattle.std.proofs.lemmas.List.{length-take, length-take-le, drop_more, drop-drop, drop-append-le, get_or-drop, get_or-take, take_all}
 use Rattle.sf_base.specs.Bytes.{is_white}
 use Rattle.sf_base.specs.Data.{value_of}
-use Rattle.sf_float_item.specs.declared.decimal.Decimal.{Decimal}
-use Rattle.sf_float_item.specs.declared.reached.Reached.{Reached}
-use Rattle.sf_float_item.specs.declared.reached.Reached.TheVariants as places
-use Rattle.sf_float_item.specs.Decimals.{DecimalWithin}
-use Rattle.sf_float_item.specs.Tests.{read, is_float, is_whole_at, begins_float}
-use Rattle.sf_float_item.proofs.Deciding.{float_decided}
+use Rattle.sf_float_read.specs.declared.item.decimal.Decimal.{Decimal}
+use Rattle.sf_float_read.specs.declared.item.reached.Reached.{Reached}
+use Rattle.sf_float_read.specs.declared.item.reached.Reached.TheVariants as places
+use Rattle.sf_float_read.specs.item.Decimals.{DecimalWithin}
+use Rattle.sf_float_read.specs.item.Tests.{read, is_float, is_whole_at, begins_float}
+use Rattle.sf_float_read.proofs.ItemLemmas.Deciding.{float_decided}
 use Rattle.sf_format.specs.declared.directive.Base.{Base}
 use Rattle.sf_format.specs.declared.directive.Conversion.{Conversion}
 use Rattle.sf_format.specs.declared.directive.Directive.{Directive}

@@ -13,7 +13,7 @@ use Rattle.std.proofs.lemmas.List.{map-append}
 use Rattle.std.proofs.lemmas.List.Sums.{sum_by-cons}
 use Rattle.sf_base.specs.declared.real.Real as real
 use Rattle.sf_base.specs.Data.{Datum, Bytes, Real, Assigned, datum_at, datum_of_number}
-use Rattle.sf_store.specs.Kept.{Kept, assigned, with_closed, with_dropped, Opened, text_of, text_in, texts_in, values_closed}
+use Rattle.sf_base.specs.stores.Kept.{Kept, assigned, with_closed, with_dropped, Opened, text_of, text_in, texts_in, values_closed}
 use Rattle.sf_report.specs.Memory.{capacity_of}
 use Rattle.sf_base.specs.declared.number.Number.{Number}
 use Rattle.sf_format.specs.declared.directive.Conversion.{Conversion}

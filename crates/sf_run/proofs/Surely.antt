@@ -7,7 +7,7 @@ use Rattle.std.proofs.lemmas.Bool.{or_left, or_right}
 use Rattle.std.proofs.lemmas.List.{append-nil, take-append-drop}
 use Rattle.std.proofs.lemmas.List.Sums.{sum_by-append, sum_by-cons}
 use Rattle.sf_base.specs.Data.{Assigned, Datum}
-use Rattle.sf_store.specs.Kept.{Kept, texts_in, text_of, Opened, buffer_of}
+use Rattle.sf_base.specs.stores.Kept.{Kept, texts_in, text_of, Opened, buffer_of}
 use Rattle.sf_format.specs.declared.directive.Directive.{Directive}
 use Rattle.sf_format.specs.Layout.{items_taken, takes_item}
 use Rattle.sf_format.specs.Proper.{AreProper, has_optional, is_optional}

@@ -30,7 +30,7 @@ use Rattle.sf_run.specs.declared.tally.Tally as code
 use Rattle.sf_run.specs.Tallies.{tally_of}
 use Rattle.sf_run.specs.Texts.{text_slot, opened_for}
 use Rattle.sf_report.specs.Limits.{RunTold}
-use Rattle.sf_store.specs.Kept.{Opened}
+use Rattle.sf_base.specs.stores.Kept.{Opened}
 use Rattle.sf_report.proofs.Inputs.{open_all}
 use Rattle.sf_report.proofs.Machines.{some_is, can_take_one, IsReal, item_byte, item_byte-below, item_takes}
 use Rattle.sf_run.proofs.FloatTexts.{float_alike}

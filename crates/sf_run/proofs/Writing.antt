@@ -8,7 +8,7 @@ use borrow.Rule.Slice.PartMut.{put_mid}
 use Rattle.std.specs.Prelude.{IfSome}
 use Rattle.std.proofs.lemmas.Grind.{flat_map-append}
 use Rattle.sf_base.specs.Data.{Assigned, Datum}
-use Rattle.sf_store.specs.Kept.{Kept, texts_in}
+use Rattle.sf_base.specs.stores.Kept.{Kept, texts_in}
 use Rattle.sf_format.specs.declared.directive.Directive.{Directive}
 use Rattle.sf_format.specs.Proper.{IsProper}
 use Rattle.sf_report.specs.Machine.{Skipping}

@@ -1,7 +1,7 @@
 -- Directives that begin and pass within a piece of the input, and give a store what they give.
 use Rattle.std.specs.Prelude.{◌≡◌, ℕ, ◌+◌, ◌<◌, ◌≤◌, Bool, true, List, [], ◌++◌, length, Option, Some, None}
 use Rattle.sf_base.specs.Data.{Assigned, datum_at}
-use Rattle.sf_store.specs.Kept.{Kept, text_in, texts_in}
+use Rattle.sf_base.specs.stores.Kept.{Kept, text_in, texts_in}
 use Rattle.sf_format.specs.declared.directive.Directive.{Directive}
 use Rattle.sf_format.specs.Layout.{items_assigned, items_taken}
 use Rattle.sf_format.specs.Proper.{has_optional}

@@ -1,6 +1,6 @@
 -- What a scanner holds.
-use Rattle.sf_store.specs.declared.store.Store as store
-use Rattle.sf_store.specs.Kept.{Kept}
+use Rattle.sf_base.specs.declared.stores.store.Store as store
+use Rattle.sf_base.specs.stores.Kept.{Kept}
 use Rattle.sf_run.specs.declared.scanner.Scanner.{Scanner}
 use Rattle.sf_report.specs.Memory.{capacity_of}
 use Rattle.sf_run.specs.Standing.{Standing}

@@ -1,7 +1,7 @@
 -- Where a run stands, and of what input.
 use Rattle.std.specs.Prelude.{ℕ, suc, ◌+◌, ◌-◌, ◌≡◌, ◌<◌, ◌≤◌, Bool, false, List, [], ◌∷◌, ◌++◌, length, take, drop, slice_get, Option}
 use Rattle.std.specs.Prelude.{Some, None, IfNone, is_some}
-use Rattle.sf_store.specs.Kept.{Opened}
+use Rattle.sf_base.specs.stores.Kept.{Opened}
 use Rattle.sf_format.specs.declared.directive.Directive.{Directive}
 use Rattle.sf_format.specs.declared.directive.Directive.TheVariants.{Conv}
 use Rattle.sf_format.specs.Proper.{IsProper, AreProper}

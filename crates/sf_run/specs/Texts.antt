@@ -3,7 +3,7 @@ use Rattle.std.specs.Prelude.{◌≡◌, ℕ, Bool, true, false, List, map, Opti
 use Rattle.std.specs.Option.{option_map}
 use Rattle.sf_base.specs.Bytes.{is_white}
 use Rattle.sf_base.specs.Data.{Assigned}
-use Rattle.sf_store.specs.Kept.{Opened, longer}
+use Rattle.sf_base.specs.stores.Kept.{Opened, longer}
 use Rattle.sf_format.specs.declared.directive.Shape.{Shape}
 use Rattle.sf_format.specs.declared.directive.Shape.TheVariants.{Int, Text, Set, Chars, Float, Count}
 use Rattle.sf_format.specs.declared.directive.Directive.{Directive}

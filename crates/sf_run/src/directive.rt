@@ -5,7 +5,7 @@ ghost use Rattle.std.specs.Prelude.{Option, Some, None, IfSome, IsNone};
 ghost use Rattle.sf_base.specs.Bytes.{is_white};
 ghost use Rattle.std.specs.Option.{option_map};
 ghost use Rattle.sf_base.specs.Data.{Number as NumberOf, Real as RealOf, datum_of_number, value_of};
-ghost use Rattle.sf_store.specs.Kept.{Opened, text_of};
+ghost use Rattle.sf_base.specs.stores.Kept.{Opened, text_of};
 ghost use Rattle.sf_base.specs.Kinds.{bounds_of};
 ghost use Rattle.sf_format.specs.declared.directive.Conversion.{Conversion};
 ghost use Rattle.sf_format.specs.declared.directive.Directive.{Directive};
@@ -33,7 +33,7 @@ ghost use Rattle.sf_run.specs.Stopping.{is_memory_status};
 
 use crate::number::{decimal_real, number_of};
 use sf_base::{Kind, Number, Real, is_space, space_run};
-use sf_float_item::numeral_within;
+use sf_float_read::numeral_within;
 use sf_format::{Base, Conversion, Directive, Row, ScanFormat, Shape};
 use sf_item::{
     ItemEnd, ItemScan, WholeInteger, characters_item, decimal_within, hex_within, members_item,

@@ -2,12 +2,13 @@
 ghost use Rattle.std.specs.Prelude.{◌≡◌, true, None, ℕ, List, if◌then◌else◌};
 ghost use Rattle.std.specs.Option.{option_map};
 ghost use Rattle.sf_base.specs.Data.{Number as NumberOf, datum_of_number, value_of};
-ghost use Rattle.sf_float_item.specs.Decimals.{IsDecimal};
+ghost use Rattle.sf_float_read.specs.item.Decimals.{IsDecimal};
 ghost use Rattle.sf_report.specs.Machine.{real_at};
 
 use sf_base::{Kind, Number, Real};
-use sf_float_item::{Decimal, is_float};
-use sf_float_value::{decimal_value_f32, decimal_value_f64, value_f32, value_f64};
+use sf_float_read::{
+    Decimal, decimal_value_f32, decimal_value_f64, is_float, value_f32, value_f64,
+};
 
 /// The number with the sign (true: a minus) and the magnitude, where the kind holds it.
 #[inline(always)]

@@ -2,7 +2,7 @@
 ghost use Rattle.std.specs.Prelude.{◌≡◌, ◌<◌, ◌≤◌, ◌+◌, ◌-◌, ◌^◌, ◌++◌, ℕ, List, length, slice_get, take, drop, true};
 ghost use Rattle.std.specs.Prelude.{None, Some, IfSome, IsNone, IsSome};
 ghost use Rattle.sf_format.specs.declared.directive.Directive.{Directive};
-ghost use Rattle.sf_store.specs.Kept.{buffer_of, nothing_kept};
+ghost use Rattle.sf_base.specs.stores.Kept.{buffer_of, nothing_kept};
 ghost use Rattle.sf_format.specs.Layout.{row_of};
 ghost use Rattle.sf_format.specs.Proper.{IsProper, destinations_of};
 ghost use Rattle.sf_report.specs.declared.outcome.Ending.{Ending};
@@ -21,10 +21,9 @@ use crate::directive::{
     real_at_once, text_at_once, until_at_once, whole_byte, whole_space,
 };
 use crate::number::real_of;
-use sf_base::Number;
+use sf_base::{HeapStore, Number, Store};
 use sf_format::{Base, Directive, Row, ScanFormat, Way};
 use sf_report::{Outcome, Status};
-use sf_store::{HeapStore, Store};
 
 /// Gives a store without an opened text what a directive gives that ends so within the piece. Answers whether that is
 /// something. None where the directive fails, or the storing is refused.

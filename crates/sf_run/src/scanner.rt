@@ -7,7 +7,7 @@ ghost use Rattle.std.specs.Option.{option_map};
 ghost use Rattle.std.specs.Result.{result_ok};
 ghost use Rattle.sf_base.specs.Data.{Assigned, Bytes, Real as RealOf, datum_of_number};
 ghost use Rattle.sf_report.specs.Machine.{real_at, real_end};
-ghost use Rattle.sf_store.specs.Kept.{buffer_of, longer, with_bytes, nothing_kept, text_of, texts_in};
+ghost use Rattle.sf_base.specs.stores.Kept.{buffer_of, longer, with_bytes, nothing_kept, text_of, texts_in};
 ghost use Rattle.sf_format.specs.declared.directive.Directive.{Directive};
 ghost use Rattle.sf_format.specs.Proper.{AreProper, IsProper, destinations_of, slots_of};
 ghost use Rattle.sf_format.specs.Widths.{width_sum};
@@ -27,11 +27,10 @@ use crate::directive::{Finished, Phase, Run, finish, run_on};
 use crate::feeding::{Fed, FeedState, StartFault};
 use crate::number::real_of;
 use crate::tally::Tally;
-use sf_base::{Kind, Number, Real};
+use sf_base::{FixedStore, HeapStore, Kind, Number, Real, Store, push_each};
 use sf_format::{Directive, ScanFormat};
 use sf_item::ItemScan;
 use sf_report::{Ending, Outcome, Report, Scanned, Status};
-use sf_store::{FixedStore, HeapStore, Store, push_each};
 use std::alloc::Global;
 
 /// The most bytes that a run may consume: no limit is above it.

@@ -1,10 +1,9 @@
 //! Numbers of 1 to 25 digits by the quick run and by the scanner, each cut at every place: at the number's end, too.
 use crate::runs::scanned;
-use sf_base::{Value, digit_value};
+use sf_base::{HeapStore, Value, digit_value};
 use sf_format::{Profile, ScanFormat};
 use sf_rows::{LIMIT, is};
 use sf_run::{Ending, Outcome, Report, Status, quick_run};
-use sf_store::HeapStore;
 use std::alloc::Global;
 use std::test::Fail;
 

@@ -1,9 +1,9 @@
 //! Scanners that are handed their input in pieces: rows of pieces, and each row of a scan in every cutting of its text.
 use crate::runs::ended;
+use sf_base::{FixedStore, Store};
 use sf_format::{Profile, ScanFormat};
 use sf_rows::{PieceRow, ScanRow, is, pieces, scans};
 use sf_run::{Ending, FeedState, Scanner};
-use sf_store::{FixedStore, Store};
 use std::alloc::Global;
 use std::test::Fail;
 

@@ -1,10 +1,9 @@
 //! The quick run and the scanner side by side, and what the quick run makes of a store.
 use crate::runs::scanned;
-use sf_base::Value;
+use sf_base::{HeapStore, Store, Value};
 use sf_format::{Profile, ScanFormat};
 use sf_rows::{Met, ScanRow, Told, is, scans};
 use sf_run::{Ending, Report, Scanned, quick_run};
-use sf_store::{HeapStore, Store};
 use std::alloc::Global;
 use std::test::Fail;
 

@@ -1,8 +1,8 @@
 //! Runs of scanners that are handed pieces, what C returns for them, and a scanner that waits.
+use sf_base::{HeapStore, Store};
 use sf_format::{Profile, ScanFormat};
 use sf_rows::{c_returns, is};
 use sf_run::{Ending, Scanned, Scanner};
-use sf_store::{HeapStore, Store};
 use std::alloc::Global;
 use std::test::Fail;
 

@@ -1,8 +1,8 @@
 //! Runs that are not started.
+use sf_base::FixedStore;
 use sf_format::{Profile, ScanFormat};
 use sf_rows::is;
 use sf_run::{Scanner, StartFault};
-use sf_store::FixedStore;
 use std::alloc::Global;
 use std::test::Fail;
 

@@ -1,10 +1,9 @@
 //! Scanners over a store that was used before, and a text of many pieces.
 use crate::runs::ended;
-use sf_base::Value;
+use sf_base::{HeapStore, Store, Value};
 use sf_format::{Profile, ScanFormat};
 use sf_rows::{LIMIT, Met, Told, has_values, is};
 use sf_run::{Ending, Report, Scanned, Scanner, StartFault, Status};
-use sf_store::{HeapStore, Store};
 use std::alloc::Global;
 use std::test::Fail;
 

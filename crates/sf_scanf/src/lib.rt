@@ -35,24 +35,25 @@
 //! are `ListSink`, `StdSink` and `BlockSink`, or an impl of `Sink`. What takes memory takes `alloc`, which `rt.alloc()`
 //! gives, and says so where memory is refused; nothing here aborts.
 //!
-//! The whole loops of the command `sf` are in crates of their own: `sf_records` and `sf_lines`.
+//! The whole loops of the command `sf` are in a crate of their own, `sf_records`.
 #![tactic(auto)]
 
 mod outcomes;
 
 pub use outcomes::{is_done, is_end};
-pub use sf_base::{Kind, Taken, Value};
-pub use sf_blocks::BlockSink;
+pub use sf_base::{FixedStore, HeapStore, Kind, Store, StoreFull, Taken, Value};
 pub use sf_format::{FormatFault, FormatWhy, PrintFormat, Profile, ScanFormat};
 pub use sf_loops::{
     LineFault, LineItems, LineReports, LineWhy, Lines, RecordFault, RecordItems, RecordWhy,
     Records, Reports,
 };
 pub use sf_pair::{Pair, PairFault, PairWhy, WriteFault};
-pub use sf_pair_read::{read_back, read_back_fixed, read_back_over};
-pub use sf_pair_rows::{ReadRowsFault, WriteRowsFault, read_rows, write_rows};
+pub use sf_pair_read::{
+    ReadRowsFault, WriteRowsFault, read_back, read_back_fixed, read_back_over, read_rows,
+    write_rows,
+};
 pub use sf_print::{
-    ListSink, PrintFault, Sink, SinkFault, StdSink, fprint, fprint_given, printed_len,
+    BlockSink, ListSink, PrintFault, Sink, SinkFault, StdSink, fprint, fprint_given, printed_len,
 };
 pub use sf_read::{
     Field, GivenRow, Lookahead, Row, RowFault, ScanRowFault, SliceSource, Source, SourceFault,
@@ -60,4 +61,3 @@ pub use sf_read::{
     sscan_row,
 };
 pub use sf_run::{Ending, Fed, FeedState, Outcome, Report, Scanned, Scanner, StartFault, Status};
-pub use sf_store::{FixedStore, HeapStore, Store, StoreFull};

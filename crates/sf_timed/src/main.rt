@@ -4,7 +4,7 @@
 //! `over TEXT COUNT` does so over one store, and `row TEXT COUNT` makes a row of it each time.
 #![tactic(auto)]
 
-use sf_base::Value;
+use sf_base::{HeapStore, Store, Value};
 use sf_format::{Profile, ScanFormat};
 use sf_loops::{Lines, Records};
 use sf_read::{
@@ -12,7 +12,6 @@ use sf_read::{
     sscan_over, sscan_row,
 };
 use sf_run::Status;
-use sf_store::{HeapStore, Store};
 use std::alloc::Global;
 use std::env;
 

@@ -1,6 +1,6 @@
 use Rattle.std.proofs.Common.{◌≡◌, ◌∙◌, List, Some, Ok, ap, refl, subst}
 use Rattle.sf_format.specs.declared.directive.Directive.{Directive}
-use Rattle.sf_read.specs.Rows.{slots_by}
+use Rattle.sf_read.specs.field.Rows.{slots_by}
 use Rattle.sf_loops.specs.Counts.{AnswersNext, IsCount}
 use Rattle.example_count.proofs.count.Goals as goal
 

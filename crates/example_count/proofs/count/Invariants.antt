@@ -1,5 +1,5 @@
 use Rattle.std.proofs.Common.{Some}
-use Rattle.sf_read.specs.Rows.{slots_by}
+use Rattle.sf_read.specs.field.Rows.{slots_by}
 use Rattle.sf_loops.specs.Counts.{Counting}
 use Rattle.example_count.proofs.count.Given as goal
 

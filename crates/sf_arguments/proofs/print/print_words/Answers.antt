@@ -2,7 +2,7 @@ use Rattle.std.proofs.Common.{◌∙◌, arith, ap, sym, subst, map, length, str
 use Rattle.std.proofs.lemmas.Grind.{common_steps}
 use Rattle.std.proofs.lemmas.List.{length-map}
 use Rattle.std.proofs.lemmas.Result.{err_from_is_err_and}
-use Rattle.sf_print.specs.Sinks.{counted_on}
+use Rattle.sf_print.specs.sink.Sinks.{counted_on}
 use Rattle.sf_arguments.specs.declared.argument_fault.ArgumentFault.{ArgumentFault}
 use Rattle.sf_arguments.specs.Prints.{Answers, is_write_fault}
 use Rattle.sf_arguments.proofs.PrintAnswering.{refused_is, memory_is}

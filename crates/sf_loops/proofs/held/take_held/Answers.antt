@@ -2,7 +2,7 @@ use Rattle.std.proofs.Common.{◌≡◌, ◌++◌, ◌∙◌, length, take, subs
 use Rattle.sf_run.specs.Limits.{RunWithin}
 use Rattle.sf_run.specs.Runs.{RunReport}
 use Rattle.sf_run.specs.Views.{report_by}
-use Rattle.sf_read.specs.Counts.{lines_after}
+use Rattle.sf_read.specs.source.Counts.{lines_after}
 use Rattle.sf_loops.proofs.Taking.{goes_at_once, held_run}
 use Rattle.sf_loops.proofs.held.take_held.Goals as goal
 

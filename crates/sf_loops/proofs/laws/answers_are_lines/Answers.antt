@@ -1,4 +1,4 @@
-use Rattle.sf_read.specs.Rows.{slots_by}
+use Rattle.sf_read.specs.field.Rows.{slots_by}
 use Rattle.sf_loops.proofs.LinesInTurn.{answers_are_lines}
 use Rattle.sf_loops.proofs.laws.answers_are_lines.Goals as goal
 

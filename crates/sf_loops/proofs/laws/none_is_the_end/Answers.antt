@@ -1,4 +1,4 @@
-use Rattle.sf_read.specs.Rows.{slots_by}
+use Rattle.sf_read.specs.field.Rows.{slots_by}
 use Rattle.sf_loops.proofs.LinesInTurn.{none_is_the_end}
 use Rattle.sf_loops.proofs.laws.none_is_the_end.Goals as goal
 

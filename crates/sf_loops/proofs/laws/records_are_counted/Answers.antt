@@ -1,4 +1,4 @@
-use Rattle.sf_read.specs.Rows.{slots_by}
+use Rattle.sf_read.specs.field.Rows.{slots_by}
 use Rattle.sf_loops.proofs.Counting.{records_are_counted}
 use Rattle.sf_loops.proofs.laws.records_are_counted.Goals as goal
 

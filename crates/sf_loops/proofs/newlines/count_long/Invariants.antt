@@ -1,5 +1,5 @@
 use Rattle.std.proofs.Common.{◌≡◌, ◌≤◌, length, take}
-use Rattle.sf_read.specs.Counts.{lines_after}
+use Rattle.sf_read.specs.source.Counts.{lines_after}
 use Rattle.sf_loops.proofs.newlines.count_long.Given as goal
 
 -- what is left is there, and counted after the others it gives what all give

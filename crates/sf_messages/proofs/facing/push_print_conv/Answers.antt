@@ -1,7 +1,7 @@
 use Rattle.std.proofs.Common.{◌≡◌, ◌∙◌, ◌++◌, List, Option, Some, ℕ, ap, append_assoc}
 use Rattle.std.specs.Prelude.{codes}
 use Rattle.sf_messages.specs.Facing.{print_head_text, width_given}
-use Rattle.sf_shown.specs.Shown.{field_text}
+use Rattle.sf_messages.specs.shown.Shown.{field_text}
 use Rattle.sf_messages.proofs.facing.push_print_conv.Goals as goal
 
 four_written : (old a b c d first second third fourth : List ℕ) → first ≡ old ++ a → second ≡ first ++ b → third ≡ second ++ c

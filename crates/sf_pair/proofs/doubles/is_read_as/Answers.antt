@@ -1,4 +1,4 @@
-use Rattle.sf_pair_texts.proofs.RealCode.{read_as_so, not_read_as}
+use Rattle.sf_pair.proofs.ConversionLemmas.RealCode.{read_as_so, not_read_as}
 use Rattle.sf_pair.proofs.doubles.is_read_as.Goals as goal
 
 pub returns-then-is_float : goal.returns-then-is_float

@@ -1,6 +1,6 @@
 use Rattle.std.proofs.Common.{◌≤◌, ◌++◌, length, take, ap, sym, ◌∙◌, arith, true≢false}
 use Rattle.sf_base.specs.Data.{Datum, datum_of_shown}
-use Rattle.sf_print.specs.Text.{value_text}
+use Rattle.sf_print.specs.texts.Text.{value_text}
 use Rattle.sf_print.proofs.InPlace.{ends_at}
 use Rattle.sf_pair.specs.Fits.{value_fits}
 use Rattle.sf_pair.proofs.InPlace.{written_part}

@@ -1,6 +1,6 @@
 use Rattle.std.proofs.Common.{sym, ◌∙◌, arith}
-use Rattle.sf_pair_texts.specs.Neighbours.{first_by, stop_set}
-use Rattle.sf_pair_texts.proofs.Meets.{meet_at, no_meet}
+use Rattle.sf_pair.specs.conversions.Neighbours.{first_by, stop_set}
+use Rattle.sf_pair.proofs.ConversionLemmas.Meets.{meet_at, no_meet}
 use Rattle.sf_pair.proofs.pairing.runs_on.Goals as goal
 
 pub returns-then-goes_on : goal.returns-then-goes_on

@@ -1,6 +1,6 @@
 use Rattle.std.proofs.Common.{◌≤◌, arith}
 use Rattle.sf_base.specs.Data.{datum_of_number}
-use Rattle.sf_print.specs.Text.{value_text}
+use Rattle.sf_print.specs.texts.Text.{value_text}
 use Rattle.sf_print.proofs.InPlace.{ends_at}
 use Rattle.sf_pair.proofs.InPlace.{written_part}
 use Rattle.sf_pair.proofs.quick.write_number_read.Goals as goal

@@ -1,7 +1,7 @@
 use Rattle.std.proofs.Common.{sym, ◌∙◌, arith}
 use Rattle.sf_base.specs.Bytes.{is_white}
-use Rattle.sf_pair_texts.specs.Neighbours.{first_by}
-use Rattle.sf_pair_texts.proofs.Meets.{meet_at, no_meet}
+use Rattle.sf_pair.specs.conversions.Neighbours.{first_by}
+use Rattle.sf_pair.proofs.ConversionLemmas.Meets.{meet_at, no_meet}
 use Rattle.sf_pair.proofs.walk.may_begin_with_space.Goals as goal
 
 pub returns-then-is_space : goal.returns-then-is_space

@@ -1,7 +1,7 @@
 use Rattle.std.proofs.Common.{◌≡◌, ◌&&◌, false}
 use Rattle.sf_base.specs.Bytes.{is_white}
 use Rattle.sf_report.specs.Machine.{some_below}
-use Rattle.sf_pair_texts.specs.Neighbours.{first_by}
+use Rattle.sf_pair.specs.conversions.Neighbours.{first_by}
 use Rattle.sf_pair.proofs.walk.may_begin_with_space.Given as goal
 
 abbrev pub invariant-loop-k : goal.invariant-loop-k

@@ -1,6 +1,6 @@
 use Rattle.std.proofs.Common.{◌≡◌, ◌≤◌, ℕ, List, ◌++◌, length, Some, sym, subst}
 use Rattle.std.specs.Prelude.{IfOk, IsSome}
-use Rattle.sf_store.specs.Kept.{texts_in}
+use Rattle.sf_base.specs.stores.Kept.{texts_in}
 use Rattle.sf_format.specs.declared.directive.Directive.{Directive}
 use Rattle.sf_format.specs.Widths.{width_sum}
 use Rattle.sf_print.specs.Printed.{printed}

@@ -2,7 +2,7 @@ use Rattle.std.proofs.Common.{◌≡◌, ◌∙◌, Bool, cond, map, ap, sym, Er
 use Rattle.std.proofs.lemmas.Result.{err_from_is_err_and}
 use Rattle.std.specs.Option.{option_map}
 use Rattle.sf_base.specs.Data.{datum_of}
-use Rattle.sf_sink.specs.Sinks.{counted_on}
+use Rattle.sf_print.specs.sink.Sinks.{counted_on}
 use Rattle.sf_print.specs.Given.{given_measured}
 use Rattle.sf_print.specs.Printed.{is_sink_fault}
 use Rattle.sf_print.proofs.Judged.{given_measured_kept}

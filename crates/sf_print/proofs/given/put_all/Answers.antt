@@ -6,7 +6,7 @@ use Rattle.std.specs.Option.{option_map}
 use Rattle.sf_base.specs.Data.{datum_of}
 use Rattle.sf_format.specs.declared.unit.Unit.TheVariants as unit
 use Rattle.sf_print.specs.Given.{given_unit, given_printed}
-use Rattle.sf_texts.proofs.Joined.{flat_map_more}
+use Rattle.sf_print.proofs.TextLemmas.Joined.{flat_map_more}
 use Rattle.sf_print.proofs.Staging.{Stops-middle, handed_on, flat_map_cut, length_more, PutsAll-same, PutsAll-then}
 use Rattle.sf_print.proofs.given.put_all.Goals as goal
 

@@ -1,6 +1,6 @@
 use Rattle.std.proofs.Common.{[], ◌∷◌, ◌++◌, ap, sym}
 use Rattle.std.specs.Fmt.{decimal}
-use Rattle.sf_digits.specs.Decimals.{minus}
+use Rattle.sf_print.specs.digits.Decimals.{minus}
 use Rattle.sf_print.proofs.Staging.{stays, handed_on, Stops-front, PutsAll-then, PutsAll-same}
 use Rattle.sf_print.proofs.handing.put_number.Goals as goal
 

@@ -1,8 +1,8 @@
 use Rattle.std.proofs.Common.{sym, ap, ◌∙◌}
-use Rattle.sf_texts.specs.declared.piece.Piece.{Piece}
-use Rattle.sf_texts.specs.Runs.{piece_bytes}
-use Rattle.sf_texts.specs.Visible.{without_blanks}
-use Rattle.sf_texts.proofs.Blanks.{blank_run}
+use Rattle.sf_print.specs.declared.texts.piece.Piece.{Piece}
+use Rattle.sf_print.specs.texts.Runs.{piece_bytes}
+use Rattle.sf_print.specs.texts.Visible.{without_blanks}
+use Rattle.sf_print.proofs.TextLemmas.Blanks.{blank_run}
 use Rattle.sf_print.proofs.in_place.visible_of.Goals as goal
 
 pub returns-in-Run-eq32-default : goal.returns-in-Run-eq32-default

@@ -2,8 +2,8 @@ use Rattle.std.proofs.Common.{◌++◌, take, ap, sym, ◌∙◌, arith, true≢
 use Rattle.std.proofs.lemmas.List.{take_all}
 use Rattle.std.proofs.lemmas.List.Folds.{length-flat_map-take}
 use Rattle.std.specs.List.{flat_map}
-use Rattle.sf_texts.specs.Runs.{piece_bytes}
-use Rattle.sf_texts.specs.declared.piece.Piece.TheVariants as pieces
+use Rattle.sf_print.specs.texts.Runs.{piece_bytes}
+use Rattle.sf_print.specs.declared.texts.piece.Piece.TheVariants as pieces
 use Rattle.sf_print.proofs.InPlace.{ends_at, more_written}
 use Rattle.sf_print.proofs.in_place.write_pieces.Goals as goal
 

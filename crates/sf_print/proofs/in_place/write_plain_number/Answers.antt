@@ -1,6 +1,6 @@
 use Rattle.std.proofs.Common.{List, ℕ, ◌++◌, take, ap, sym, ◌∙◌, arith}
 use Rattle.sf_print.proofs.InPlace.{front_kept}
-use Rattle.sf_texts.proofs.Plainness.{plain_shown}
+use Rattle.sf_print.proofs.TextLemmas.Plainness.{plain_shown}
 use Rattle.sf_print.proofs.in_place.write_plain_number.Goals as goal
 
 pub returns-clause-written : goal.returns-clause-written

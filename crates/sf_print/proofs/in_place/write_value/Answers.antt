@@ -1,8 +1,8 @@
 use Rattle.std.proofs.Common.{List, ℕ, ◌++◌, take, ap, sym, ◌∙◌}
 use Rattle.sf_base.specs.Data.{datum_of_shown}
 use Rattle.sf_base.specs.declared.values.Shown.{Shown}
-use Rattle.sf_texts.specs.Text.{value_text}
-use Rattle.sf_texts.proofs.Plainness.{plain_shown}
+use Rattle.sf_print.specs.texts.Text.{value_text}
+use Rattle.sf_print.proofs.TextLemmas.Plainness.{plain_shown}
 use Rattle.sf_print.proofs.in_place.write_value.Goals as goal
 
 pub returns-else-buf-at-lt-NUMBER_BYTES-clause-written : goal.returns-else-buf-at-lt-NUMBER_BYTES-clause-written

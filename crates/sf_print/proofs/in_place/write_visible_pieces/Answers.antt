@@ -1,8 +1,8 @@
 use Rattle.std.proofs.Common.{ℕ, ◌++◌, List, take, ap, sym, ◌∙◌, arith, true≢false, length, length-append, get_or, ◌≡◌, ◌≤◌, refl}
 use Rattle.std.proofs.lemmas.List.{length-take-le}
-use Rattle.sf_texts.specs.Runs.{piece_bytes}
-use Rattle.sf_texts.specs.declared.piece.Piece.TheVariants as pieces
-use Rattle.sf_texts.proofs.Blanks.{first_written, more_visible, visible_grows}
+use Rattle.sf_print.specs.texts.Runs.{piece_bytes}
+use Rattle.sf_print.specs.declared.texts.piece.Piece.TheVariants as pieces
+use Rattle.sf_print.proofs.TextLemmas.Blanks.{first_written, more_visible, visible_grows}
 use Rattle.sf_print.proofs.in_place.write_visible_pieces.Goals as goal
 use Rattle.sf_print.proofs.in_place.write_visible_pieces.Goals.{then-end-eq0+in_ok-end, else-end-eq0+in_ok-end-2}
 

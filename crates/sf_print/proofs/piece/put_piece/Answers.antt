@@ -1,5 +1,5 @@
 use Rattle.std.proofs.Common.{ap, sym}
-use Rattle.sf_texts.specs.Runs.{piece_bytes}
+use Rattle.sf_print.specs.texts.Runs.{piece_bytes}
 use Rattle.sf_print.proofs.Staging.{Puts-same}
 use Rattle.sf_print.proofs.piece.put_piece.Goals as goal
 

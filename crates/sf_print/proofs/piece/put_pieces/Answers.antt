@@ -1,9 +1,9 @@
 use Rattle.std.proofs.Common.{◌++◌, ◌+◌, length, take, drop, get_or, ap, ◌∙◌, arith, length-append}
 use Rattle.std.specs.List.{flat_map}
-use Rattle.sf_texts.specs.Runs.{piece_bytes}
-use Rattle.sf_texts.specs.declared.piece.Piece.TheVariants as pieces
+use Rattle.sf_print.specs.texts.Runs.{piece_bytes}
+use Rattle.sf_print.specs.declared.texts.piece.Piece.TheVariants as pieces
 use Rattle.std.proofs.lemmas.List.{take_all}
-use Rattle.sf_texts.proofs.Joined.{flat_map_more}
+use Rattle.sf_print.proofs.TextLemmas.Joined.{flat_map_more}
 use Rattle.sf_print.proofs.Staging.{Stops-middle, handed_on, flat_map_cut, length_more, PutsAll-same, PutsAll-then}
 use Rattle.sf_print.proofs.piece.put_pieces.Goals as goal
 

@@ -1,6 +1,6 @@
 use Rattle.std.proofs.Common.{◌≡◌, ◌+◌, length, take}
 use Rattle.std.specs.List.{flat_map}
-use Rattle.sf_texts.specs.Runs.{piece_bytes}
+use Rattle.sf_print.specs.texts.Runs.{piece_bytes}
 use Rattle.sf_print.specs.Staged.{held}
 use Rattle.sf_print.proofs.Staging.{PutsAll}
 use Rattle.sf_print.proofs.piece.put_pieces.Given as goal

@@ -1,7 +1,7 @@
 use Rattle.std.proofs.Common.{◌≡◌, ◌∙◌, Bool, cond, map, ap, sym, Err}
 use Rattle.std.proofs.lemmas.Result.{err_from_is_err_and}
 use Rattle.sf_base.specs.Data.{datum_of}
-use Rattle.sf_sink.specs.Sinks.{counted_on}
+use Rattle.sf_print.specs.sink.Sinks.{counted_on}
 use Rattle.sf_print.specs.Printed.{measured, is_sink_fault}
 use Rattle.sf_print.proofs.Judged.{measured_kept}
 use Rattle.sf_print.proofs.print.fprint_long.Goals as goal

@@ -1,4 +1,4 @@
-use Rattle.sf_texts.specs.Floats.{real_text}
+use Rattle.sf_print.specs.texts.Floats.{real_text}
 use Rattle.sf_print.proofs.Staging.{Puts-same}
 use Rattle.sf_print.proofs.print.put_float.Goals as goal
 

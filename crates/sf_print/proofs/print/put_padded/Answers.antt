@@ -1,7 +1,7 @@
 use Rattle.std.proofs.Common.{length, ap, sym, arith}
 use Rattle.sf_base.specs.Data.{datum_of}
-use Rattle.sf_texts.specs.Text.{value_text}
-use Rattle.sf_texts.proofs.Reals.{real_value}
+use Rattle.sf_print.specs.texts.Text.{value_text}
+use Rattle.sf_print.proofs.TextLemmas.Reals.{real_value}
 use Rattle.sf_print.proofs.Staging.{Puts-same}
 use Rattle.sf_print.proofs.print.put_padded.Goals as goal
 

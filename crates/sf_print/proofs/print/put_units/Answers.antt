@@ -5,7 +5,7 @@ use Rattle.std.proofs.lemmas.List.Folds.{length-flat_map-take}
 use Rattle.sf_base.specs.Data.{datum_of}
 use Rattle.sf_format.specs.declared.unit.Unit.TheVariants as unit
 use Rattle.sf_print.specs.Printed.{unit_text, printed}
-use Rattle.sf_texts.proofs.Joined.{flat_map_more}
+use Rattle.sf_print.proofs.TextLemmas.Joined.{flat_map_more}
 use Rattle.sf_print.proofs.Staging.{Stops-middle, handed_on, flat_map_cut, length_more, PutsAll-same, PutsAll-then}
 use Rattle.sf_print.proofs.print.put_units.Goals as goal
 

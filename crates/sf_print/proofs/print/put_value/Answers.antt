@@ -1,6 +1,6 @@
 use Rattle.std.proofs.Common.{sym}
 use Rattle.sf_base.specs.Data.{datum_of}
-use Rattle.sf_texts.specs.Text.{value_text}
+use Rattle.sf_print.specs.texts.Text.{value_text}
 use Rattle.sf_print.proofs.Staging.{Puts-same}
 use Rattle.sf_print.proofs.print.put_value.Goals as goal
 

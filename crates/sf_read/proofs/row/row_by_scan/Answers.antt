@@ -1,10 +1,10 @@
 use Rattle.std.proofs.Common.{Option, Some, None, ◌≤◌, arith}
 use Rattle.std.specs.Prelude.{IfSome, IsErrOf, unwrap_or}
-use Rattle.sf_store.specs.Kept.{Kept}
+use Rattle.sf_base.specs.stores.Kept.{Kept}
 use Rattle.sf_format.specs.Widths.{width_sum}
 use Rattle.sf_run.specs.Memory.{capacity_of}
 use Rattle.sf_run.specs.declared.feeding.StartFault.TheVariants.{NoMemory}
-use Rattle.sf_field.specs.Rows.{slots_by}
+use Rattle.sf_read.specs.field.Rows.{slots_by}
 use Rattle.sf_read.specs.declared.row.ScanRowFault.TheVariants.{Start}
 use Rattle.std.proofs.lemmas.Grind.{common_steps}
 use Rattle.sf_read.proofs.Shapes.{given, no_start}

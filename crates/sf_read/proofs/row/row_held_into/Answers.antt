@@ -1,7 +1,7 @@
 use Rattle.std.proofs.Common.{length, subst}
 use Rattle.sf_run.specs.Runs.{RunReport}
 use Rattle.sf_run.specs.Views.{report_by}
-use Rattle.sf_field.specs.Rows.{AreSlotsOf, slots_by}
+use Rattle.sf_read.specs.field.Rows.{AreSlotsOf, slots_by}
 use Rattle.sf_read.proofs.Shapes.{given, row_scanned}
 use Rattle.sf_read.proofs.row.row_held_into.Goals as goal
 

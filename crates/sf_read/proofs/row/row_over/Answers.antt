@@ -1,6 +1,6 @@
 use Rattle.std.proofs.Common.{Option, Some, None, ◌≡◌, ◌∙◌, ◌≤◌, refl, sym, subst, arith}
 use Rattle.std.specs.Prelude.{IfSome, IsErrOf, IsSome, unwrap_or}
-use Rattle.sf_store.specs.Kept.{Kept}
+use Rattle.sf_base.specs.stores.Kept.{Kept}
 use Rattle.sf_format.specs.Widths.{width_sum}
 use Rattle.sf_run.specs.Memory.{capacity_of}
 use Rattle.sf_run.specs.declared.feeding.StartFault.TheVariants.{NoMemory}

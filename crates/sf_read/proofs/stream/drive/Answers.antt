@@ -3,7 +3,7 @@ use Rattle.std.proofs.lemmas.List.{drop_all}
 use Rattle.sf_run.specs.Runs.{IsOpen}
 use Rattle.sf_run.specs.Standing.{used_by, ran_out}
 use Rattle.sf_run.specs.Scanner.{standing}
-use Rattle.sf_source.specs.Counts.{lines_after}
+use Rattle.sf_read.specs.source.Counts.{lines_after}
 use Rattle.sf_read.specs.Reading.{Reading}
 use Rattle.sf_read.proofs.Reading.{started, fed_more, refilled, ended, ended_at_end, failed, falls}
 use Rattle.sf_read.proofs.Lines.{lines_on, no_lines}

@@ -2,8 +2,8 @@ use Rattle.std.proofs.Common.{◌≡◌, ℕ, List, Some, ◌+◌, ◌-◌, ◌�
 use Rattle.sf_run.specs.Standing.{used_by}
 use Rattle.sf_run.specs.Memory.{capacity_of}
 use Rattle.sf_run.specs.Scanner.{kept_by, standing}
-use Rattle.sf_source.specs.Ahead.{input_of}
-use Rattle.sf_source.specs.Counts.{lines_after}
+use Rattle.sf_read.specs.source.Ahead.{input_of}
+use Rattle.sf_read.specs.source.Counts.{lines_after}
 use Rattle.sf_read.specs.Reading.{Reading}
 use Rattle.sf_read.proofs.stream.drive.Given as goal
 

@@ -2,7 +2,7 @@ use Rattle.std.proofs.Common.{rules, ◌≡◌, ◌∙◌, take, drop, refl, sym
 use Rattle.std.specs.Prelude.{IfOk}
 use Rattle.std.proofs.lemmas.List.{take-append-drop, length-take-le}
 use Rattle.sf_run.specs.Limits.{RunTold}
-use Rattle.sf_source.specs.Ahead.{input_of}
+use Rattle.sf_read.specs.source.Ahead.{input_of}
 use Rattle.sf_run.specs.Runs.{RunReport}
 use Rattle.sf_read.specs.Reads.{WaitedFor}
 use Rattle.sf_read.specs.Scan.{Scan}

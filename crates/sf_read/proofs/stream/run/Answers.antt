@@ -1,5 +1,5 @@
 use Rattle.std.proofs.Common.{take, sym, ap, ◌∙◌}
-use Rattle.sf_source.specs.Counts.{lines_after}
+use Rattle.sf_read.specs.source.Counts.{lines_after}
 use Rattle.sf_run.specs.Scanner.{standing}
 use Rattle.sf_read.proofs.Endings.{has_report, count_failures, ends_at_end, scans, driven_by}
 use Rattle.sf_read.proofs.stream.run.Goals as goal

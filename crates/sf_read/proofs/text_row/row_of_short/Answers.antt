@@ -2,7 +2,7 @@ use Rattle.std.proofs.Common.{inl, length, subst}
 use Rattle.sf_run.specs.outcome.Ending.TheVariants.{End}
 use Rattle.sf_run.specs.Runs.{RunReport}
 use Rattle.sf_run.specs.Views.{report_by}
-use Rattle.sf_field.specs.Rows.{AreSlotsOf, slots_by}
+use Rattle.sf_read.specs.field.Rows.{AreSlotsOf, slots_by}
 use Rattle.sf_read.proofs.Shapes.{given}
 use Rattle.sf_read.proofs.text_row.row_of_short.Goals as goal
 

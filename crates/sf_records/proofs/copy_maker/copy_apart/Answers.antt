@@ -3,7 +3,7 @@ use Rattle.sf_base.specs.Data.{Datum, datum_of}
 use Rattle.sf_format.specs.declared.directive.Directive.{Directive}
 use Rattle.sf_format.specs.Proper.{destinations_of}
 use Rattle.sf_print.specs.Printed.{printed}
-use Rattle.sf_makers.specs.Works.{Writes}
+use Rattle.sf_forms.specs.makers.Works.{Writes}
 use Rattle.sf_records.specs.Copies.{is_copied, row_in, row_of}
 use Rattle.sf_records.proofs.copy_maker.copy_apart.Goals as goal
 

@@ -3,7 +3,7 @@ use Rattle.sf_print.specs.declared.fault.PrintFault.{PrintFault}
 use Rattle.sf_print.specs.declared.fault.PrintFault.TheVariants as fault
 use Rattle.sf_print.specs.Printed.{WritesText}
 use Rattle.sf_forms.specs.Written.{TakesPart}
-use Rattle.sf_makers.proofs.Faults.{front_is_part}
+use Rattle.sf_forms.proofs.MakerLemmas.Faults.{front_is_part}
 use Rattle.sf_records.proofs.copy_maker.send.Goals as goal
 
 -- a text that was not taken whole was taken in part

@@ -4,9 +4,9 @@ use Rattle.sf_run.specs.outcome.Status.{Status}
 use Rattle.sf_run.specs.outcome.Status.TheVariants.{Done}
 use Rattle.sf_run.specs.Stopping.{is_memory_status}
 use Rattle.std.specs.Prelude.{unwrap_or}
-use Rattle.sf_store.specs.Kept.{Kept, nothing_kept}
+use Rattle.sf_base.specs.stores.Kept.{Kept, nothing_kept}
 use Rattle.sf_run.specs.Memory.{capacity_of}
-use Rattle.sf_read.specs.Counts.{counted_on}
+use Rattle.sf_read.specs.source.Counts.{counted_on}
 use Rattle.sf_read.specs.Scan.{is_fault}
 use Rattle.sf_run.proofs.Told as told
 use Rattle.sf_records.proofs.Further.{bare_lines, goes_further}

@@ -2,7 +2,7 @@ use Rattle.std.proofs.Common.{◌≡◌, ◌-◌, ◌≤◌, ℕ, List, Some, tr
 use Rattle.std.specs.Prelude.{unwrap_or}
 use Rattle.sf_format.specs.Widths.{width_sum}
 use Rattle.sf_run.specs.Memory.{capacity_of}
-use Rattle.sf_read.specs.Ahead.{input_of}
+use Rattle.sf_read.specs.source.Ahead.{input_of}
 use Rattle.sf_records.proofs.Looping.{Going}
 use Rattle.sf_records.proofs.records.run_records.Given as goal
 

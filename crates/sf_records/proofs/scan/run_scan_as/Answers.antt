@@ -1,6 +1,6 @@
 use Rattle.std.proofs.Common.{subst}
 use Rattle.sf_forms.specs.Heads.{Heading}
-use Rattle.sf_makers.specs.Forms.{writing_under}
+use Rattle.sf_forms.specs.makers.Forms.{writing_under}
 use Rattle.sf_records.specs.Records.{Loops}
 use Rattle.sf_records.proofs.scan.run_scan_as.Goals as goal
 

@@ -1,6 +1,6 @@
 use Rattle.std.proofs.Common.{refl, sym, subst, Option, Some, None}
 use Rattle.std.specs.Prelude.{IfSome, IsNone, IsSome}
-use Rattle.sf_store.specs.Kept.{Kept}
+use Rattle.sf_base.specs.stores.Kept.{Kept}
 use Rattle.sf_run.specs.declared.directive.Ended.{Ended}
 use Rattle.sf_run.specs.Quick.{IsSure, MayBeGiven, Passes}
 use Rattle.sf_run.specs.Texts.{slot_of}

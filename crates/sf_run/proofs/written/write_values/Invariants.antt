@@ -1,5 +1,5 @@
 use Rattle.std.proofs.Common.{◌≡◌, ◌-◌, ◌≤◌, ℕ, drop, length, take}
-use Rattle.sf_store.specs.Kept.{Kept}
+use Rattle.sf_base.specs.stores.Kept.{Kept}
 use Rattle.sf_run.specs.Written.{texts_by}
 use Rattle.sf_run.proofs.AtOnce.{Counted}
 use Rattle.sf_run.proofs.written.write_values.Given as goal

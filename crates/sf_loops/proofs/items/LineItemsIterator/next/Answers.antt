@@ -1,6 +1,6 @@
 use Rattle.std.proofs.Common.{refl, arith, ap, inr, ◌≡◌, ◌∙◌, ◌-◌}
 use Rattle.std.specs.Prelude.{if◌then◌else◌}
-use Rattle.sf_read.specs.Rows.{slots_by}
+use Rattle.sf_read.specs.field.Rows.{slots_by}
 use Rattle.sf_loops.specs.Items.{LinesLeft}
 use Rattle.sf_loops.specs.LineTexts.{goes_on}
 use Rattle.sf_loops.proofs.Given.{line_answers_by, line_row_by, stays_by}

@@ -1,5 +1,5 @@
 use Rattle.std.proofs.Common.{refl, arith, ap, inr, ◌≡◌}
-use Rattle.sf_read.specs.Rows.{slots_by}
+use Rattle.sf_read.specs.field.Rows.{slots_by}
 use Rattle.sf_loops.specs.Items.{RecordsLeft}
 use Rattle.sf_loops.proofs.Given.{answers_by, row_by, stays_by}
 use Rattle.sf_loops.proofs.items.RecordItemsIterator.next.Goals as goal

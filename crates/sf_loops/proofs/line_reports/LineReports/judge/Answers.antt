@@ -1,5 +1,5 @@
 use Rattle.std.proofs.Common.{◌≡◌, ◌∙◌, sym, ap, subst, Err}
-use Rattle.sf_read.specs.Counts.{counted_on}
+use Rattle.sf_read.specs.source.Counts.{counted_on}
 use Rattle.sf_loops.specs.declared.line_fault.LineWhy.TheVariants as why
 use Rattle.sf_loops.specs.Lines.{IsLineFault, LineLoop, Misses}
 use Rattle.sf_loops.specs.Turns.{outcome_of}

@@ -1,6 +1,6 @@
 use Rattle.std.proofs.Common.{◌≡◌, ◌∙◌, true, length, Some, None, Ok, Err, refl, sym, ap, subst}
 use Rattle.sf_run.specs.Runs.{RunReport}
-use Rattle.sf_read.specs.Rows.{AreGivenAs, AreSlotsOf, slots_by}
+use Rattle.sf_read.specs.field.Rows.{AreGivenAs, AreSlotsOf, slots_by}
 use Rattle.sf_read.specs.RowScans.{HasShape}
 use Rattle.sf_loops.specs.Lines.{LineLoop, LineRowAnswers}
 use Rattle.sf_loops.proofs.Given.{end_kept}

@@ -1,5 +1,5 @@
 use Rattle.std.proofs.Common.{subst}
-use Rattle.sf_makers.specs.Works.{Makes}
+use Rattle.sf_forms.specs.makers.Works.{Makes}
 use Rattle.sf_pair.specs.Formats.{Formats}
 use Rattle.sf_records.specs.Copies.{copying}
 use Rattle.sf_records.proofs.copy_maker.CopyMakerMaker.write.Goals as goal

@@ -1,11 +1,11 @@
 use Rattle.sf_base.specs.Data.{Bytes}
-use Rattle.sf_store.specs.Kept.{text_of}
+use Rattle.sf_base.specs.stores.Kept.{text_of}
 use Rattle.sf_report.specs.Steps.{Stores}
 use Rattle.std.proofs.Common.{length, arith, true, refl, ◌∙◌}
 use Rattle.sf_run.specs.Scanner.{kept_by}
 use Rattle.sf_run.proofs.Moves.{place_taken}
 use Rattle.sf_run.proofs.Slots.{is_destination_of, given_more, joined_text, closed_values, room_passed}
-use Rattle.sf_store.specs.Kept.{buffer_of}
+use Rattle.sf_base.specs.stores.Kept.{buffer_of}
 use Rattle.sf_run.proofs.Slots.{closed_capacity, size_passed, size_closed}
 use Rattle.sf_run.proofs.scanner.Scanner.close_text.Goals as goal
 

@@ -3,7 +3,7 @@ use Rattle.std.proofs.Common.{length, arith, false, refl, ◌∙◌}
 use Rattle.sf_run.specs.Scanner.{kept_by}
 use Rattle.sf_run.proofs.Moves.{place_taken}
 use Rattle.sf_run.proofs.Slots.{opened_none, given_on, room_passed}
-use Rattle.sf_store.specs.Kept.{buffer_of}
+use Rattle.sf_base.specs.stores.Kept.{buffer_of}
 use Rattle.sf_run.proofs.Slots.{size_passed}
 use Rattle.sf_run.proofs.scanner.Scanner.pass.Goals as goal
 

@@ -1,5 +1,5 @@
 use Rattle.std.proofs.Common.{length, arith, false}
-use Rattle.sf_store.specs.Kept.{buffer_of}
+use Rattle.sf_base.specs.stores.Kept.{buffer_of}
 use Rattle.sf_run.specs.Scanner.{kept_by}
 use Rattle.sf_run.proofs.Moves.{place_taken}
 use Rattle.sf_run.proofs.Slots.{given_on, room_passed, size_passed}

@@ -4,7 +4,7 @@ use Rattle.std.proofs.Common.{length, arith, true, refl, ◌∙◌}
 use Rattle.sf_run.specs.Scanner.{kept_by}
 use Rattle.sf_run.proofs.Moves.{place_taken}
 use Rattle.sf_run.proofs.Slots.{opened_none, is_destination_of, given_more, slot_placed, slot_unused, joined_number, room_passed}
-use Rattle.sf_store.specs.Kept.{buffer_of}
+use Rattle.sf_base.specs.stores.Kept.{buffer_of}
 use Rattle.sf_run.proofs.Slots.{size_passed}
 use Rattle.sf_run.proofs.scanner.Scanner.set.Goals as goal
 

@@ -1,6 +1,6 @@
 use Rattle.std.proofs.Common.{arith, true, refl}
 use Rattle.sf_base.specs.Data.{Real}
-use Rattle.sf_store.specs.Kept.{text_of}
+use Rattle.sf_base.specs.stores.Kept.{text_of}
 use Rattle.sf_report.specs.Steps.{Stores}
 use Rattle.sf_run.specs.Scanner.{kept_by}
 use Rattle.sf_run.proofs.Moves.{place_taken}

@@ -1,5 +1,5 @@
 use Rattle.std.proofs.Common.{◌≡◌, [], false, Some, refl, ap, length, arith}
-use Rattle.sf_store.specs.Kept.{Kept, buffer_of}
+use Rattle.sf_base.specs.stores.Kept.{Kept, buffer_of}
 use Rattle.sf_report.specs.Residual.{nothing_yet, run_of}
 use Rattle.sf_run.specs.Tallies.{tally_of}
 use Rattle.sf_run.specs.Scanner.{standing}

@@ -1,6 +1,0 @@
-use Rattle.std.proofs.Common.{◌≡◌, take}
-use Rattle.sf_answer.specs.Escaped.{escaped}
-use Rattle.sf_answer.proofs.escape.escaped.Given as goal
-
-abbrev pub invariant-loop-b : goal.invariant-loop-b
-invariant-loop-b l = l.word.items ≡ escaped (take l.b-index l.bytes)

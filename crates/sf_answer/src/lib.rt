@@ -1,9 +1,0 @@
-//! The scan format that reads back what a print format prints.
-#![tactic(auto)]
-
-mod answer;
-mod escape;
-mod parts;
-
-pub use answer::{NoScanText, scan_part, scan_text};
-pub use escape::escaped;

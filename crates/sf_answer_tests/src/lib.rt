@@ -1,9 +1,0 @@
-//! Tests of `sf_answer`, and of the widths of `sf_pair`.
-#![tactic(auto)]
-
-#[cfg(test)]
-mod answers;
-#[cfg(test)]
-mod compare;
-#[cfg(test)]
-mod widths;

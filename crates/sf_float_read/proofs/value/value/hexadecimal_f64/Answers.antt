@@ -1,0 +1,35 @@
+use Rattle.std.proofs.Common.{◌≡◌, ◌*◌, ◌<◌, ℕ, Bool, List, None, true, false, sym, subst, arith}
+use Rattle.std.specs.Float.Ieee.{Float, binary64, of_bits, neg, ones, hid}
+use Rattle.sf_float_read.specs.value.Values.{IsHexValue, stored}
+use Rattle.sf_float_read.proofs.ValueLemmas.PatternLemmas.{bits_stored, minus_bits_stored, infinity_stored, minus_infinity_stored, minus_value}
+use Rattle.sf_float_read.proofs.value.value.hexadecimal_f64.Goals as goal
+
+-- out of range, with either sign
+beyond : (negative : Bool) (t : List ℕ) (bits : ℕ) → bits ≡ ones binary64 * hid binary64
+    → IsHexValue binary64 false t (of_bits binary64 bits)
+    → (x : Float) × IsHexValue binary64 negative t x × (None ≡ stored binary64 x)
+beyond true t bits e v = (neg (of_bits binary64 bits), minus_value binary64 t _ v, minus_infinity_stored binary64 bits e)
+beyond false t bits e v = (of_bits binary64 bits, v, infinity_stored binary64 bits e)
+
+pub returns-then-bits-eq-INFINITY_F64 : goal.returns-then-bits-eq-INFINITY_F64
+returns-then-bits-eq-INFINITY_F64 c = beyond c.args.negative c.args.numeral.now c.hexadecimal-bits.result c.if-bits-eq-INFINITY_F64.true
+    c.hexadecimal-bits.ensures.value
+
+pub returns-then-negative : goal.returns-then-negative
+returns-then-negative c =
+    let b = c.hexadecimal-bits in
+    let t = c.args.numeral.now in
+    let y = of_bits binary64 b.result in
+    let few : b.result < ones binary64 * hid binary64 = omega (arith, b.ensures.most, c.if-bits-eq-INFINITY_F64.false) in (
+      neg y,
+      subst (λ s. IsHexValue binary64 s t (neg y)) (sym c.if-negative.true) (minus_value binary64 t y b.ensures.value),
+      minus_bits_stored binary64 b.result few,
+    )
+
+pub returns-else-negative : goal.returns-else-negative
+returns-else-negative c =
+    let b = c.hexadecimal-bits in
+    let t = c.args.numeral.now in
+    let y = of_bits binary64 b.result in
+    let few : b.result < ones binary64 * hid binary64 = omega (arith, b.ensures.most, c.if-bits-eq-INFINITY_F64.false) in
+    (y, subst (λ s. IsHexValue binary64 s t y) (sym c.if-negative.false) b.ensures.value, bits_stored binary64 b.result few)

@@ -1,7 +1,0 @@
-use Rattle.std.proofs.Common.{take}
-use Rattle.std.specs.Str.Parse.{digits_value}
-use Rattle.sf_float_value.specs.Hexadecimals.{IsCapped}
-use Rattle.sf_float_value.proofs.digits.capped.Given as goal
-
-abbrev pub invariant-loop-b : goal.invariant-loop-b
-invariant-loop-b l = IsCapped (digits_value 10 (take l.b-index l.text)) l.number

@@ -1,7 +1,0 @@
-use Rattle.std.proofs.Common.{Some, sym, ap, ◌∙◌}
-use lib.Ieee.{binary32}
-use Rattle.sf_float_value.proofs.PatternLemmas.{nan_bits, nan_stored}
-use Rattle.sf_float_value.proofs.value.stored_f32.Goals as goal
-
-pub returns-then-is_nan : goal.returns-then-is_nan
-returns-then-is_nan c = ap Some (sym (nan_bits binary32)) ∙ nan_stored binary32 c.args.x (sym c.is_nan.ensures.value ∙ c.if-is_nan.true)

@@ -1,7 +1,0 @@
-//! Lines: what a line of an input is, and the reading of one.
-#![tactic(auto)]
-
-pub mod laws;
-mod line;
-
-pub use line::{LineRead, held_line, next_line};

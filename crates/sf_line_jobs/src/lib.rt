@@ -1,8 +1,0 @@
-//! Scans and copies line by line, each with what is said of the lines that are no match.
-#![tactic(auto)]
-
-mod copies;
-mod lines;
-
-pub use copies::copy_by_formats;
-pub use lines::scan_lines;

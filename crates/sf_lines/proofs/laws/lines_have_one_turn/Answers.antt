@@ -1,9 +1,0 @@
-use Rattle.sf_run.proofs.Told as told
-use Rattle.sf_lines.proofs.OneTurn.{same_turns}
-use Rattle.sf_lines.proofs.Turning.{turns_behind}
-use Rattle.sf_lines.proofs.laws.lines_have_one_turn.Goals as goal
-
-pub returns : goal.returns
-returns c w scanned n lines =
-    let all = turns_behind told.one_report w scanned n lines in
-    record { turns = all.0; are = all.1; only = λ others are. same_turns told.one_report w scanned n lines others all.0 are all.1 }

@@ -1,8 +1,0 @@
-use Rattle.std.proofs.Common.{◌+◌}
-use Rattle.sf_forms.specs.Columns.{texts}
-use Rattle.sf_makers.specs.Names.{AreGoodBelow}
-use Rattle.sf_makers.proofs.names.check_each.Given as goal
-
--- the names so far are good
-abbrev pub invariant-loop-before : goal.invariant-loop-before
-invariant-loop-before l = AreGoodBelow l.tagged (texts l.names) (l.before + 1)

@@ -1,0 +1,172 @@
+//! How directives are shown, and the lines that show a scan format.
+ghost use Rattle.std.specs.Prelude.{◌≡◌, ◌++◌, ◌≤◌, OnErr, OnOk, IfOk, length};
+ghost use Rattle.std.specs.Fmt.{decimal};
+ghost use Rattle.sf_messages.specs.shown.Shown.{letter_text, optional_text, members_text, missing_mark, head_text, field_text};
+ghost use Rattle.sf_messages.specs.shown.Shown.{conversion_text, directive_text, line_text, directive_lines, summary_text};
+ghost use Rattle.sf_messages.specs.shown.Shown.{show_text};
+
+use sf_arguments::kind_text;
+use sf_base::Kind;
+use sf_format::{Base, Conversion, Directive, ScanFormat, Shape};
+use sf_forms::push_quoted;
+use std::alloc::{AllocError, Global};
+use std::io::Write;
+
+fn letter_text(shape: &Shape, kind: Kind) -> &'static str
+    ensures { result.now ≡ letter_text shape.now kind }
+{
+    match shape {
+        Shape::Int(Base::Dec) => match kind {
+            Kind::I8 | Kind::I16 | Kind::I32 | Kind::I64 => "d",
+            Kind::U8 | Kind::U16 | Kind::U32 | Kind::U64 | Kind::Text | Kind::F32 | Kind::F64 => {
+                "u"
+            }
+        },
+        Shape::Int(Base::Oct) => "o",
+        Shape::Int(Base::Hex) => "x",
+        Shape::Int(Base::Bin) => "b",
+        Shape::Int(Base::Auto | Base::AutoBin) => "i",
+        Shape::Text => "s",
+        Shape::Set(_) => "[",
+        Shape::Chars => "c",
+        Shape::Float => "f",
+        Shape::Count => "n",
+    }
+}
+
+/// Appends a text.
+pub fn push_text(output: &mut Vec<u8>, text: &str) -> Result<(), AllocError>
+    ensures { OnOk result (output.new.items ≡ output.old.items ++ text.now) }
+{
+    output.extend_from_slice(text.as_bytes())
+}
+
+fn push_number(output: &mut Vec<u8>, number: u32) -> Result<(), AllocError>
+    ensures { OnOk result (output.new.items ≡ output.old.items ++ decimal number) }
+{
+    write!(output, "{number}").map_err(|_| AllocError)
+}
+
+fn push_optional(output: &mut Vec<u8>, number: Option<u32>) -> Result<(), AllocError>
+    ensures { OnOk result (output.new.items ≡ output.old.items ++ optional_text number) }
+{
+    match number {
+        None => push_text(output, "-"),
+        Some(number) => push_number(output, number),
+    }
+}
+
+fn push_members(output: &mut Vec<u8>, shape: &Shape) -> Result<(), AllocError>
+    ensures { OnOk result (output.new.items ≡ output.old.items ++ members_text shape.now) }
+{
+    if let Shape::Set(members) = shape {
+        push_text(output, " members ")?;
+        push_number(output, u32::from(members.count()))?;
+    }
+    Ok(())
+}
+
+/// Appends the mark of a conversion that may be missing.
+fn push_mark(output: &mut Vec<u8>, optional: bool) -> Result<(), AllocError>
+    ensures { OnOk result (output.new.items ≡ output.old.items ++ missing_mark optional) }
+{
+    if optional {
+        push_text(output, " optional")?;
+    }
+    Ok(())
+}
+
+fn push_head(output: &mut Vec<u8>, conversion: &Conversion) -> Result<(), AllocError>
+    ensures { OnOk result (output.new.items ≡ output.old.items ++ head_text conversion.now) }
+{
+    push_text(output, letter_text(&conversion.shape, conversion.kind))?;
+    push_text(output, " ")?;
+    push_text(output, kind_text(conversion.kind))
+}
+
+/// Appends a number after its label, or `-` where there is none.
+pub fn push_field(output: &mut Vec<u8>, label: &str, number: Option<u32>) -> Result<(), AllocError>
+    ensures { OnOk result (output.new.items ≡ output.old.items ++ field_text label.now number) }
+{
+    push_text(output, label)?;
+    push_optional(output, number)
+}
+
+fn push_conversion(output: &mut Vec<u8>, conversion: &Conversion) -> Result<(), AllocError>
+    ensures { OnOk result (output.new.items ≡ output.old.items ++ conversion_text conversion.now) }
+{
+    push_head(output, conversion)?;
+    push_field(output, " width ", conversion.width.map(u32::from))?;
+    push_field(output, " slot ", conversion.slot.map(u32::from))?;
+    push_members(output, &conversion.shape)?;
+    push_mark(output, conversion.optional)
+}
+
+/// Appends how a directive is shown; where memory is refused, a part of that.
+fn push_shown(output: &mut Vec<u8>, directive: &Directive) -> Result<(), AllocError>
+    ensures { OnOk result (output.new.items ≡ output.old.items ++ directive_text directive.now) }
+{
+    match directive {
+        Directive::Space => push_text(output, "space"),
+        Directive::Byte(b) => {
+            push_text(output, "byte ")?;
+            push_quoted(output, &[*b])
+        }
+        Directive::Percent => push_text(output, "percent"),
+        Directive::Conv(conversion) => push_conversion(output, conversion),
+    }
+}
+
+/// Appends how a directive is shown. Where memory is refused, the list is as it was.
+pub fn push_directive(
+    alloc: Global,
+    output: &mut Vec<u8>,
+    directive: &Directive,
+) -> Result<(), AllocError>
+    ensures pushed { OnOk result (output.new.items ≡ output.old.items ++ directive_text directive.now) }
+    ensures refused { OnErr result (output.new.items ≡ output.old.items) }
+{
+    let mut text = Vec::new(alloc);
+    push_shown(&mut text, directive)?;
+    output.extend_from_slice(&text)
+}
+
+fn push_line(output: &mut Vec<u8>, number: u32, directive: &Directive) -> Result<(), AllocError>
+    ensures { OnOk result (output.new.items ≡ output.old.items ++ line_text number directive.now) }
+{
+    push_number(output, number)?;
+    push_text(output, " ")?;
+    push_shown(output, directive)?;
+    push_text(output, "\n")
+}
+
+fn push_summary(output: &mut Vec<u8>, destinations: u8, sum: Option<u32>) -> Result<(), AllocError>
+    ensures { OnOk result (output.new.items ≡ output.old.items ++ summary_text destinations sum) }
+{
+    push_field(output, "destinations ", Some(u32::from(destinations)))?;
+    push_field(output, ", width sum ", sum)?;
+    push_text(output, "\n")?;
+    Ok(())
+}
+
+fn push_directives(output: &mut Vec<u8>, directives: &[Directive]) -> Result<(), AllocError>
+    requires { length directives.now ≤ 4096 }
+    ensures { OnOk result (output.new.items ≡ output.old.items ++ directive_lines 1 directives.now) }
+{
+    let mut number = 1;
+    for directive in directives {
+        push_line(output, number, directive)?;
+        number += 1;
+    }
+    Ok(())
+}
+
+/// The lines that show a scan format: each directive with its number, then its destinations and its width sum.
+pub fn show(alloc: Global, format: &ScanFormat, sum: Option<u32>) -> Result<Vec<u8>, AllocError>
+    ensures { IfOk result (λ lines. lines.items ≡ show_text format.now sum) }
+{
+    let mut output = Vec::new(alloc);
+    push_directives(&mut output, format.directives())?;
+    push_summary(&mut output, format.destinations(), sum)?;
+    Ok(output)
+}

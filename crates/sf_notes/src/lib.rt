@@ -1,8 +1,0 @@
-//! What is said after the line of a fault, where more is asked for.
-#![tactic(auto)]
-
-mod explain;
-
-pub use explain::{
-    Left, known_spans, more_of_line, notes_of_copies, notes_of_job, notes_of_refused,
-};

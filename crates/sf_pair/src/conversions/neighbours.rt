@@ -1,0 +1,178 @@
+//! What may stand first in a unit's text, and what an item would run on into.
+ghost use Rattle.std.specs.Prelude.{◌≡◌, ◌==◌, ◌≤◌, length};
+ghost use Rattle.std.specs.Char.{is_digit};
+ghost use Rattle.sf_base.specs.Bytes.{is_white};
+ghost use Rattle.sf_item.specs.Tests.{is_ink};
+ghost use Rattle.sf_print.specs.texts.Text.{pads_with_zeros};
+ghost use Rattle.sf_print.specs.texts.Visible.{least};
+ghost use Rattle.sf_pair.specs.conversions.Neighbours.{sign_or_digit, number_first, integer_first, float_digit, float_first};
+ghost use Rattle.sf_pair.specs.conversions.Neighbours.{text_first, first_by, is_auto_base, integer_stops, fraction_stops};
+ghost use Rattle.sf_pair.specs.conversions.Neighbours.{whole_stops, float_stops, stop_set};
+
+use crate::conversions::reals::has_point;
+use sf_base::{digit_value, is_space};
+use sf_format::{Base, FloatStyle, PrintConv, PrintLetter, Shape, Unit};
+use sf_item::{prefix_radix, radices_of};
+
+fn has_digit(base: u8, b: u8) -> bool
+    requires { base ≤ 16 }
+    ensures { result ≡ is_digit b base }
+{
+    digit_value(b, base).is_some()
+}
+
+fn is_ink(b: u8) -> bool
+    ensures { result ≡ is_ink b }
+{
+    !is_space(b)
+}
+
+fn sign_or_digit(conv: &PrintConv, b: u8) -> bool
+    ensures { result ≡ sign_or_digit conv.now b }
+{
+    if conv.plus {
+        b == b'+'
+    } else if conv.blank {
+        b == b' '
+    } else {
+        has_digit(10, b)
+    }
+}
+
+fn number_first(conv: &PrintConv, b: u8) -> bool
+    ensures { result ≡ number_first conv.now.letter conv.now b }
+{
+    match conv.letter {
+        PrintLetter::Signed => b == b'-' || sign_or_digit(conv, b),
+        PrintLetter::Octal => has_digit(8, b),
+        PrintLetter::HexLower | PrintLetter::HexUpper => has_digit(16, b),
+        PrintLetter::Binary => has_digit(2, b),
+        PrintLetter::Unsigned | PrintLetter::Text | PrintLetter::One | PrintLetter::Float(..) =>
+            has_digit(10, b),
+    }
+}
+
+/// Whether the flag `0` counts.
+pub fn pads_with_zeros(conv: &PrintConv) -> bool
+    ensures { result ≡ pads_with_zeros conv.now }
+{
+    conv.zero && !conv.minus && conv.precision.is_none()
+}
+
+fn integer_first(conv: &PrintConv, b: u8) -> bool
+    ensures { result ≡ integer_first conv.now b }
+{
+    if conv.width > 0 && !pads_with_zeros(conv) {
+        b == b' ' || number_first(conv, b)
+    } else {
+        number_first(conv, b)
+    }
+}
+
+fn float_digit(conv: &PrintConv, b: u8) -> bool
+    ensures { result ≡ float_digit conv.now b }
+{
+    b == b'-' || sign_or_digit(conv, b)
+}
+
+fn float_first(conv: &PrintConv, b: u8) -> bool
+    ensures { result ≡ float_first conv.now b }
+{
+    if conv.width > 0 && (!conv.zero || conv.minus) {
+        b == b' ' || float_digit(conv, b)
+    } else {
+        float_digit(conv, b)
+    }
+}
+
+fn text_first(conv: &PrintConv, read: &Shape, b: u8) -> bool
+    ensures { result ≡ text_first conv.now read.now b }
+{
+    match read {
+        Shape::Text => {
+            if conv.width > 0 {
+                b == b' ' || is_ink(b)
+            } else {
+                is_ink(b)
+            }
+        }
+        Shape::Set(members) => members.contains(b),
+        Shape::Chars => true,
+        Shape::Int(_) | Shape::Float | Shape::Count => false,
+    }
+}
+
+/// Whether the byte may stand first in the unit's text, where the next directive reads so.
+pub fn may_begin(unit: &Unit, read: &Shape, b: u8) -> bool
+    ensures { result ≡ first_by unit.now read.now b }
+{
+    match unit {
+        Unit::Byte(byte) => b == *byte,
+        Unit::Conv(conv) => match conv.letter {
+            PrintLetter::Text => text_first(conv, read, b),
+            PrintLetter::One => matches!(read, Shape::Chars),
+            PrintLetter::Float(..) => float_first(conv, b),
+            _ => integer_first(conv, b),
+        },
+    }
+}
+
+/// Whether the radix comes of the first digits, as for `i`.
+pub fn is_auto_base(base: Base) -> bool
+    ensures { result ≡ is_auto_base base }
+{
+    matches!(base, Base::Auto | Base::AutoBin)
+}
+
+/// Whether an integer of the base would go on with the byte, after a text that may be a 0 alone or is longer.
+fn integer_goes_on(base: Base, lone: bool, b: u8) -> bool
+    ensures { result ≡ integer_stops base lone b }
+{
+    let letter = prefix_radix(base, b).is_some();
+    ((lone || is_auto_base(base)) && letter) || has_digit(radices_of(base).first, b)
+}
+
+fn fraction_goes_on(b: u8) -> bool
+    ensures { result ≡ fraction_stops b }
+{
+    has_digit(10, b) || b == b'e' || b == b'E'
+}
+
+fn whole_goes_on(b: u8) -> bool
+    ensures { result ≡ whole_stops b }
+{
+    fraction_goes_on(b) || b == b'.' || b == b'x' || b == b'X'
+}
+
+/// Whether a float would go on with the byte, after the conversion's text.
+fn float_goes_on(conv: &PrintConv, b: u8) -> bool
+    ensures { result ≡ float_stops conv.now.letter conv.now b }
+{
+    match conv.letter {
+        PrintLetter::Float(FloatStyle::Exponent | FloatStyle::Hexadecimal, _) => has_digit(10, b),
+        PrintLetter::Float(FloatStyle::Fixed, _) => {
+            if has_point(conv) {
+                fraction_goes_on(b)
+            } else {
+                whole_goes_on(b)
+            }
+        }
+        PrintLetter::Float(FloatStyle::General, _) => whole_goes_on(b),
+        _ => false,
+    }
+}
+
+/// Whether an item of the shape would go on with the byte, after the conversion's text. `lone` is whether its least
+/// text has one byte.
+pub fn goes_on(conv: &PrintConv, read: &Shape, lone: bool, b: u8) -> bool
+    requires { lone ≡ (length (least conv.now) == 1) }
+    ensures { result ≡ stop_set read.now conv.now b }
+{
+    match read {
+        Shape::Int(base) => integer_goes_on(*base, lone, b),
+        Shape::Text => is_ink(b),
+        Shape::Set(members) => members.contains(b),
+        Shape::Float => float_goes_on(conv, b),
+        Shape::Chars | Shape::Count => false,
+    }
+}

@@ -1,8 +1,0 @@
-//! Where in its input a source is.
-#![tactic(auto)]
-
-mod place;
-mod placed;
-
-pub use place::Place;
-pub use placed::{BLOCK_BYTES, Input, Placed};

@@ -1,0 +1,8 @@
+use Rattle.std.proofs.Common.{◌≡◌, length, take}
+use Rattle.std.specs.List.{flat_map}
+use Rattle.sf_print.specs.texts.Runs.{piece_bytes}
+use Rattle.sf_print.specs.texts.Visible.{without_blanks}
+use Rattle.sf_print.proofs.texts.visible.visible_pieces.Given as goal
+
+abbrev pub invariant-loop-piece : goal.invariant-loop-piece
+invariant-loop-piece l = l.len ≡ length (without_blanks (flat_map piece_bytes (take l.piece-index l.pieces)))

@@ -1,0 +1,7 @@
+//! Rows, and the types that their slots may have.
+mod field;
+mod rows;
+mod tuples;
+
+pub use field::Field;
+pub use rows::{GivenRow, Row, RowFault};

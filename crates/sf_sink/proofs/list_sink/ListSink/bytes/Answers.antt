@@ -1,5 +1,0 @@
-use Rattle.std.proofs.Common.{rules}
-use Rattle.sf_sink.proofs.list_sink.ListSink.bytes.Goals as goal
-
-pub returns : goal.returns
-returns c = search rules

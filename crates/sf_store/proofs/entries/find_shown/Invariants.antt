@@ -1,8 +1,0 @@
-use Rattle.std.proofs.Common.{◌≡◌, drop, map}
-use Rattle.sf_base.specs.Data.{datum_at}
-use Rattle.sf_store.specs.Entries.{assigned_in}
-use Rattle.sf_store.proofs.entries.find_shown.Given as goal
-
-abbrev pub invariant-loop-entry : goal.invariant-loop-entry
-invariant-loop-entry l =
-    datum_at l.slot (map (assigned_in l.closed) (drop l.entry-index l.entries)) ≡ datum_at l.slot (map (assigned_in l.closed) l.entries)

@@ -1,5 +1,0 @@
-use Rattle.std.proofs.Common.{rules}
-use Rattle.sf_store.proofs.heap_store.HeapStoreStore.room.Goals as goal
-
-pub returns : goal.returns
-returns c = search rules

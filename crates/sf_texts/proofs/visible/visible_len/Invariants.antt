@@ -1,9 +1,0 @@
-use Rattle.std.proofs.Common.{◌≡◌, length, drop}
-use Rattle.sf_texts.specs.Visible.{without_blanks}
-use Rattle.sf_texts.proofs.visible.visible_len.Given as goal
-
-abbrev pub invariant-loop-byte : goal.invariant-loop-byte
-invariant-loop-byte l = record {
-  counted : l.len ≡ length (drop l.byte-index l.text);
-  passed : without_blanks l.text ≡ without_blanks (drop l.byte-index l.text);
-}
