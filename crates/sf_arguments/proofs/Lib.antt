@@ -1,4 +1,4 @@
-pub mod AnswerLemmas
+mod AnswerLemmas
 pub mod Escaping
 pub mod Finding
 pub mod Floats

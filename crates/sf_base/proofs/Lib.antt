@@ -1,4 +1,4 @@
-pub mod StoreLemmas
+mod StoreLemmas
 pub mod Sets
 pub mod Lacks
 pub mod Bits

@@ -1,6 +1,6 @@
-pub mod JobLemmas
-pub mod NoteLemmas
-pub mod ReasonLemmas
-pub mod ConsoleLemmas
-pub mod LineJobLemmas
-pub mod ToolLemmas
+mod JobLemmas
+mod NoteLemmas
+mod ReasonLemmas
+mod ConsoleLemmas
+mod LineJobLemmas
+mod ToolLemmas

@@ -1,12 +1,12 @@
-mod Between
-mod Cuts
-mod Firsts
-mod Full
-mod Fewest
-mod FirstDigits
-mod LaidBack
-mod Quotients
-mod ReadBack
-mod ShortBytes
-mod Texts
-mod Trials
+pub mod Between
+pub mod Cuts
+pub mod Firsts
+pub mod Full
+pub mod Fewest
+pub mod FirstDigits
+pub mod LaidBack
+pub mod Quotients
+pub mod ReadBack
+pub mod ShortBytes
+pub mod Texts
+pub mod Trials

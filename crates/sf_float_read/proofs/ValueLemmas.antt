@@ -2,7 +2,7 @@ pub mod Cutting
 pub mod Decimals
 pub mod FormsApart
 pub mod Fronts
-mod HexBack
+pub mod HexBack
 pub mod OneStored
 pub mod HexParts
 pub mod HexRounding

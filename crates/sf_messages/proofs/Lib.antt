@@ -1,2 +1,2 @@
-pub mod PlaceLemmas
+mod PlaceLemmas
 pub mod Lines

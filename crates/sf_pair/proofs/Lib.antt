@@ -1,4 +1,4 @@
-pub mod ConversionLemmas
+mod ConversionLemmas
 pub mod ReadDigits
 pub mod Numbers
 pub mod Taken

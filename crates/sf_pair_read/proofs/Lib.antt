@@ -1,2 +1,2 @@
-pub mod RowLemmas
+mod RowLemmas
 pub mod Scans

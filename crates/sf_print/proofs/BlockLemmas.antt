@@ -1,1 +1,1 @@
-mod Waiting
+pub mod Waiting

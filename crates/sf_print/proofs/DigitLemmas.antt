@@ -1,7 +1,7 @@
 pub mod EndsCopied
 pub mod Digits
 pub mod FourDigits
-mod ThreeDigits
+pub mod ThreeDigits
 pub mod Numerals
 pub mod OnlyNumeral
 pub mod Copied

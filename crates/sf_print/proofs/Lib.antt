@@ -1,6 +1,6 @@
 pub mod DigitLemmas
-pub mod TextLemmas
-pub mod BlockLemmas
+mod TextLemmas
+mod BlockLemmas
 -- of printing
 pub mod Appending
 pub mod NothingMissing

@@ -1,5 +1,5 @@
-pub mod SourceLemmas
-pub mod FieldLemmas
+mod SourceLemmas
+mod FieldLemmas
 pub mod LineLemmas
 -- of scans
 pub mod Blocks
