@@ -48,7 +48,8 @@ use Rattle.sf_pair.proofs.ConversionLemmas.Places.{read_more}
 use Rattle.sf_pair.proofs.ConversionLemmas.RealTexts.{size_of, body, seen_is}
 use Rattle.sf_pair.proofs.ConversionLemmas.RealSizes.{zero_is, zero_number, zero_finite, pads_is}
 use Rattle.sf_pair.proofs.ConversionLemmas.RealZero.{fixed_pointed, general_pointed}
-use Rattle.sf_pair.proofs.ConversionLemmas.ZeroRead.{whole_place, plain_place, fixed_zero_read, general_zero_read, exponent_zero_read, zero_matches}
+use Rattle.sf_pair.proofs.ConversionLemmas.ZeroRead.{whole_place, plain_place, fixed_zero_read, general_zero_read, exponent_zero_read}
+use Rattle.sf_pair.proofs.ConversionLemmas.ZeroRead.{zero_matches}
 use Rattle.sf_pair.proofs.ConversionLemmas.ZeroStored.{zero_is_stored}
 use Rattle.sf_pair.proofs.Back.{SkipsSo, ReadsBack}
 use Rattle.sf_pair.proofs.ReadBack.{reads_back}

@@ -43,7 +43,8 @@ use Rattle.sf_pair.proofs.Taken.{FirstOut, taken_within, either_ends}
 use Rattle.sf_pair.proofs.Paired.{full_by, Pairs, kinds_are, slot_is, width_is}
 use Rattle.sf_pair.proofs.ConversionLemmas.Places.{one_of, digits, passes, decimal_place, pointed_place, exponent_place, stopped_exponent}
 use Rattle.sf_pair.proofs.ConversionLemmas.Places.{stopped_fraction, stopped_whole, was_read, none_follows}
-use Rattle.sf_pair.proofs.ConversionLemmas.RealTexts.{StartsDigit, size_of, hidden, after_sign, body, before, text_is, digit_follows, body_ink}
+use Rattle.sf_pair.proofs.ConversionLemmas.RealTexts.{StartsDigit, size_of, hidden, after_sign, body, before, text_is, digit_follows}
+use Rattle.sf_pair.proofs.ConversionLemmas.RealTexts.{body_ink}
 use Rattle.sf_pair.proofs.ConversionLemmas.RealTexts.{seen_is, exponent_ends, general_ends, fixed_ends, pointed_ends}
 use Rattle.sf_pair.proofs.ConversionLemmas.RealSizes.{zero_is, least_is_shortest}
 use Rattle.sf_pair.proofs.Back.{SkipsSo, ReadsBack}

@@ -1,8 +1,10 @@
 //! The parts of a scan format, each of which reads one unit of a print format.
 ghost use Rattle.std.specs.Prelude.{◌≡◌, ◌++◌, List, ℕ, Option, OnOk};
 ghost use Rattle.std.specs.Fmt.{decimal};
-ghost use Rattle.sf_arguments.specs.answer.Parts.{literal_part, number_part, width_part, length_part, letter_part, opening_part};
-ghost use Rattle.sf_arguments.specs.answer.Parts.{stop_of, text_part, in_order, IsWidthOf, IsNumberPart, IsPart, IsPartBy};
+ghost use Rattle.sf_arguments.specs.answer.Parts.{literal_part, number_part, width_part, length_part, letter_part};
+ghost use Rattle.sf_arguments.specs.answer.Parts.{opening_part};
+ghost use Rattle.sf_arguments.specs.answer.Parts.{stop_of, text_part, in_order, IsWidthOf, IsNumberPart, IsPart};
+ghost use Rattle.sf_arguments.specs.answer.Parts.{IsPartBy};
 
 use sf_base::{Kind, is_space};
 use sf_format::{PrintConv, PrintLetter, Unit};

@@ -14,7 +14,8 @@ use Rattle.std.proofs.lemmas.Map.Keys.{IsDistinct-push}
 use Rattle.std.proofs.lemmas.Map.Steps.{length-le_from_distinct_below}
 use Rattle.sf_base.specs.Data.{Bytes, Assigned, datum_at}
 use Rattle.sf_base.specs.stores.Kept.{assigned, is_opened, with_closed, with_text}
-use Rattle.sf_base.specs.stores.Entries.{datum_in, assigned_in, IsWithin, slots_of, opened_at, kept_of, IsSlot, IsAbsent, IsUnderWay, IsSound}
+use Rattle.sf_base.specs.stores.Entries.{datum_in, assigned_in, IsWithin, slots_of, opened_at, kept_of, IsSlot, IsAbsent, IsUnderWay}
+use Rattle.sf_base.specs.stores.Entries.{IsSound}
 use Rattle.sf_base.specs.declared.stores.entries.Cell.{Cell}
 use Rattle.sf_base.specs.declared.stores.entries.Cell.TheVariants as cell
 use Rattle.sf_base.specs.declared.stores.entries.Entry.{Entry}

@@ -3,7 +3,8 @@ ghost use Rattle.std.specs.Prelude.{◌≡◌, ◌+◌, ◌<◌, ◌≤◌, ℕ,
 ghost use Rattle.std.specs.Prelude.{OnErr};
 ghost use Rattle.std.specs.Option.{option_map};
 ghost use Rattle.sf_base.specs.Data.{Real as RealOf, datum_of, datum_of_number, datum_of_shown, datum_at, is_number};
-ghost use Rattle.sf_base.specs.stores.Kept.{Kept, is_opened, with_value, with_opened, with_bytes, with_closed, with_dropped};
+ghost use Rattle.sf_base.specs.stores.Kept.{Kept, is_opened, with_value, with_opened, with_bytes, with_closed};
+ghost use Rattle.sf_base.specs.stores.Kept.{with_dropped};
 ghost use Rattle.sf_base.specs.stores.Kept.{with_text, text_of};
 
 use crate::{Number, Real, Shown, Value};

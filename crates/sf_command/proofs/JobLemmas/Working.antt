@@ -19,7 +19,8 @@ use Rattle.sf_words.specs.declared.order.Verb.TheVariants as verb
 use Rattle.sf_arguments.specs.declared.word_reading.WordReading.{WordReading}
 use Rattle.sf_command.specs.jobs.Answers.{Answer}
 use Rattle.sf_command.specs.jobs.Checks.{IsNoPrintWord, IsNoScanWord, IsScanWord, TellsLine, verdict_status, verdict_text}
-use Rattle.sf_command.specs.jobs.Commands.{CarriesOutBy, Copies, Counts, IsUnwrittenBy, PrintsBy, PrintsWord, ScansAs, ScansBy, ScansByNames}
+use Rattle.sf_command.specs.jobs.Commands.{CarriesOutBy, Copies, Counts, IsUnwrittenBy, PrintsBy, PrintsWord, ScansAs, ScansBy}
+use Rattle.sf_command.specs.jobs.Commands.{ScansByNames}
 use Rattle.sf_command.specs.jobs.Commands.{ScansForm, ScansPrint, ScansWord, ShowsBy, ShowsWord, Unread}
 use Rattle.sf_command.specs.jobs.Heads.{is_headed, names_text}
 use Rattle.sf_command.specs.jobs.Jobs.{AreNoTwo, IsJobBy, IsNoJobBy, IsNoPrint, IsNoScan, IsScan}
@@ -27,9 +28,11 @@ use Rattle.sf_command.specs.jobs.Writings.{IsWriting}
 use Rattle.sf_command.specs.declared.jobs.formats.ScanText.{ScanText}
 use Rattle.sf_command.specs.declared.jobs.job.Job.TheVariants as job
 use Rattle.sf_command.specs.declared.jobs.writing.Writing.TheVariants as written
-use Rattle.sf_command.proofs.JobLemmas.Answering.{counts_is, print_counts_is, refused_prints, refused_scans, refused_shows, unprinted_is, unread_is}
+use Rattle.sf_command.proofs.JobLemmas.Answering.{counts_is, print_counts_is, refused_prints, refused_scans, refused_shows, unprinted_is}
+use Rattle.sf_command.proofs.JobLemmas.Answering.{unread_is}
 use Rattle.sf_command.proofs.JobLemmas.Answering.{unwritten_is}
-use Rattle.sf_command.proofs.JobLemmas.Checking.{no_print_counts, no_print_format, no_print_text, no_print_unwritten, no_scan_counts, no_scan_format}
+use Rattle.sf_command.proofs.JobLemmas.Checking.{no_print_counts, no_print_format, no_print_text, no_print_unwritten, no_scan_counts}
+use Rattle.sf_command.proofs.JobLemmas.Checking.{no_scan_format}
 use Rattle.sf_command.proofs.JobLemmas.Checking.{no_scan_text, no_scan_unwritten}
 
 -- ---- words that are formats, and words that are none

@@ -29,7 +29,8 @@ use Rattle.sf_command.specs.declared.jobs.formats.ScanText.{ScanText}
 use Rattle.sf_command.specs.declared.jobs.job.Job.{Job}
 use Rattle.sf_command.specs.declared.jobs.job.Job.TheVariants as job
 use Rattle.sf_command.proofs.JobLemmas.Working.{no_print, no_scan}
-use Rattle.sf_command.specs.notes.Explains.{Explains, MaySay, OfBoth, OfWord, SaysClean, SaysFailed, SaysFormat, SaysMore, SaysMoreOfRefused}
+use Rattle.sf_command.specs.notes.Explains.{Explains, MaySay, OfBoth, OfWord, SaysClean, SaysFailed, SaysFormat, SaysMore}
+use Rattle.sf_command.specs.notes.Explains.{SaysMoreOfRefused}
 use Rattle.sf_command.specs.notes.Explains.{SaysPair, SaysRefused, told_at, verdict_notes, word_by}
 
 module _ (profile : Profile) where

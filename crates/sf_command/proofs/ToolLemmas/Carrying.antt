@@ -27,8 +27,10 @@ use Rattle.sf_command.specs.jobs.Answers.{Answer}
 use Rattle.sf_records.specs.Forms.{writing}
 use Rattle.sf_records.specs.form.OutputForm.{OutputForm}
 use Rattle.sf_arguments.specs.declared.word_reading.WordReading.{WordReading}
-use Rattle.sf_command.specs.jobs.Commands.{CarriesOut, CarriesOutBy, Copies, CopiesBoth, CopiesWords, IsRefusedText, ScansAs, ScansBy, ScansForm}
-use Rattle.sf_command.specs.jobs.Commands.{ScansPrint, ScansPrintWords, ScansText, ScansUnder, ScansWord, Unread, form_of, grammar_of, reading_of}
+use Rattle.sf_command.specs.jobs.Commands.{CarriesOut, CarriesOutBy, Copies, CopiesBoth, CopiesWords, IsRefusedText, ScansAs, ScansBy}
+use Rattle.sf_command.specs.jobs.Commands.{ScansForm}
+use Rattle.sf_command.specs.jobs.Commands.{ScansPrint, ScansPrintWords, ScansText, ScansUnder, ScansWord, Unread, form_of, grammar_of}
+use Rattle.sf_command.specs.jobs.Commands.{reading_of}
 use Rattle.sf_command.specs.jobs.CopyFormats.{line_of}
 use Rattle.sf_command.specs.declared.jobs.copy_formats.CopyFormats.{CopyFormats}
 use Rattle.sf_records.specs.Copies.{copying}

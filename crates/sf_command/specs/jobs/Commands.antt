@@ -48,7 +48,8 @@ use Rattle.sf_messages.specs.declared.fault.CommandFault.TheVariants.{BadEscape,
 use Rattle.sf_messages.specs.declared.fault.CommandFault.TheVariants.{Pair}
 use Rattle.sf_command.specs.jobs.Answers.{Answer}
 use Rattle.sf_command.specs.jobs.Heads.{IsUnnamed, due_header, header_fault, heading_by, is_headed, names_text, split}
-use Rattle.sf_command.specs.jobs.Checks.{AnswersWord, ChecksWords, IsFaultOf, IsNoPrintWord, IsNoScanWord, IsPrintWord, IsScanWord, IsUnprintable}
+use Rattle.sf_command.specs.jobs.Checks.{AnswersWord, ChecksWords, IsFaultOf, IsNoPrintWord, IsNoScanWord, IsPrintWord, IsScanWord}
+use Rattle.sf_command.specs.jobs.Checks.{IsUnprintable}
 use Rattle.sf_arguments.specs.Escapes.{IsBadEscape, Unescapes}
 use Rattle.sf_arguments.specs.Prints.{Answers, IsUnwritten}
 use Rattle.sf_arguments.specs.declared.word_reading.WordReading.{WordReading}

@@ -1,7 +1,8 @@
 //! The check of a print format and a scan format as a pair.
 ghost use Rattle.std.specs.Prelude.{◌≡◌, ◌++◌, ◌≤◌, ◌∷◌, [], ℕ, List, IfOk, IfErr, length, map, string_bytes};
 ghost use Rattle.sf_arguments.specs.answer.Escaped.{escaped};
-ghost use Rattle.sf_command.specs.jobs.Checks.{AnswersUnits, AnswersWord, Checks, ChecksWords, IsNoPrintWord, IsNoScanWord};
+ghost use Rattle.sf_command.specs.jobs.Checks.{AnswersUnits, AnswersWord, Checks, ChecksWords, IsNoPrintWord};
+ghost use Rattle.sf_command.specs.jobs.Checks.{IsNoScanWord};
 ghost use Rattle.sf_command.specs.jobs.Checks.{IsPrintWord, IsScanWord, IsVerdict, TellsLine};
 ghost use Rattle.sf_command.specs.jobs.Checks.{verdict_status, verdict_text};
 ghost use Rattle.sf_command.specs.jobs.Commands.{ChecksTexts, Counts, IsUnwrittenBy};

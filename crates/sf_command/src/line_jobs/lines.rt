@@ -11,7 +11,8 @@ ghost use Rattle.sf_command.specs.jobs.Writings.{IsWriting, SuitsAll};
 ghost use Rattle.sf_arguments.specs.Escapes.{Unescapes};
 ghost use Rattle.sf_command.specs.notes.Explains.{OfWord};
 ghost use Rattle.sf_command.specs.console.Fronts.{file_name};
-ghost use Rattle.sf_command.specs.line_jobs.Lines.{KnowsSpans, RunsForm, RunsLines, RunsUnder, RunsWriting, SaysBy, SaysLines};
+ghost use Rattle.sf_command.specs.line_jobs.Lines.{KnowsSpans, RunsForm, RunsLines, RunsUnder, RunsWriting, SaysBy};
+ghost use Rattle.sf_command.specs.line_jobs.Lines.{SaysLines};
 ghost use Rattle.sf_command.specs.line_jobs.Lines.{ScansLines, SomeIsSaid, SomeIsSaidBy, answer_by};
 
 use crate::console::{Console, file_name, write_told};

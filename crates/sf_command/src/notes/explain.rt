@@ -15,8 +15,10 @@ ghost use Rattle.sf_words.specs.declared.order.Verb.{Verb};
 ghost use Rattle.sf_words.specs.declared.order.Verb.TheVariants.{Copy};
 ghost use Rattle.sf_command.specs.jobs.CopyFormats.{AreCopies, IsOwnUnpaired};
 ghost use Rattle.sf_command.specs.notes.Explains.{AreSpansOf, Explains, MaySay, OfBoth, OfWord, SaysClean, SaysFailed};
-ghost use Rattle.sf_command.specs.notes.Explains.{SaysFormat, SaysMore, SaysMoreOfRefused, SaysPair, SaysRefused, IsMoreOfLine};
-ghost use Rattle.sf_command.specs.notes.Explains.{shown_at, told_at, told_of_line, value_number, value_word, verdict_notes};
+ghost use Rattle.sf_command.specs.notes.Explains.{SaysFormat, SaysMore, SaysMoreOfRefused, SaysPair, SaysRefused};
+ghost use Rattle.sf_command.specs.notes.Explains.{IsMoreOfLine};
+ghost use Rattle.sf_command.specs.notes.Explains.{shown_at, told_at, told_of_line, value_number, value_word};
+ghost use Rattle.sf_command.specs.notes.Explains.{verdict_notes};
 ghost use Rattle.sf_command.specs.notes.Explains.{word_by};
 
 use crate::jobs::{CopyFormats, Job, RefusedWord, ScanText, grammar_of};

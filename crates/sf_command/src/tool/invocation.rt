@@ -2,7 +2,8 @@
 ghost use Rattle.std.specs.Prelude.{◌≡◌, ◌≤◌, ◌<◌, None, Some, Ok, true, false, length, map, string_bytes};
 ghost use Rattle.sf_words.specs.Orders.{HasTexts, HasTextsFor};
 ghost use Rattle.sf_words.specs.declared.order.Verb.TheVariants.{Copy};
-ghost use Rattle.sf_command.specs.tool.Exits.{CanRun, Declines, Does, DoesOn, DoesOrder, EndsCopies, EndsLines, EndsRefused};
+ghost use Rattle.sf_command.specs.tool.Exits.{CanRun, Declines, Does, DoesOn, DoesOrder, EndsCopies, EndsLines};
+ghost use Rattle.sf_command.specs.tool.Exits.{EndsRefused};
 ghost use Rattle.sf_command.specs.tool.Exits.{EndsScans};
 ghost use Rattle.sf_command.specs.tool.Exits.{Exits, ExitsOn, ExitsSomewhere, Helps, is_explained};
 ghost use Rattle.sf_command.specs.tool.Rooms.{TakesAWord};

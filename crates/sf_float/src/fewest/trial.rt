@@ -5,7 +5,8 @@ ghost use Rattle.std.specs.Float.{float_is_finite};
 ghost use Rattle.std.specs.Float.Ieee.{Float};
 ghost use Rattle.sf_float.specs.fewest.Cut.{IsCut};
 ghost use Rattle.sf_float.specs.fewest.Full.{IsFullDouble};
-ghost use Rattle.sf_float.specs.fewest.Digits.{number_of, most_decimals, near, other, reads_back, tried, searched, trimmed};
+ghost use Rattle.sf_float.specs.fewest.Digits.{number_of, most_decimals, near, other, reads_back, tried, searched};
+ghost use Rattle.sf_float.specs.fewest.Digits.{trimmed};
 ghost use Rattle.sf_float.specs.fewest.Digits.{shortest};
 
 use crate::fewest::cut::Cut;

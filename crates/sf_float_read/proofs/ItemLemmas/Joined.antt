@@ -5,8 +5,10 @@ use Rattle.std.specs.Char.{is_ascii_alphanumeric}
 use Rattle.std.specs.List.{AllByRecursion}
 use Rattle.sf_float_read.specs.declared.item.reached.Radix.{Radix}
 use Rattle.sf_float_read.specs.declared.item.reached.Radix.TheVariants.{Ten, Sixteen}
-use Rattle.sf_float_read.specs.item.Sequences.{is_digit, is_sign, AllDecimal, IsDecimal, IsSignedDecimal, IsExponentPart, IsFraction, IsWhole}
-use Rattle.sf_float_read.specs.item.Sequences.{IsNumber, Spells, Begins, IsPayload, IsNanTail, IsInfinityTail, IsZeroTail, IsUnsigned, IsFloat}
+use Rattle.sf_float_read.specs.item.Sequences.{is_digit, is_sign, AllDecimal, IsDecimal, IsSignedDecimal, IsExponentPart, IsFraction}
+use Rattle.sf_float_read.specs.item.Sequences.{IsWhole}
+use Rattle.sf_float_read.specs.item.Sequences.{IsNumber, Spells, Begins, IsPayload, IsNanTail, IsInfinityTail, IsZeroTail, IsUnsigned}
+use Rattle.sf_float_read.specs.item.Sequences.{IsFloat}
 use Rattle.sf_float_read.specs.item.Parts.{AreDigits, IsSign, IsExponent, IsNumeral, IsHexadecimal, IsInfinity, IsCharSequence, IsNan}
 use Rattle.sf_float_read.specs.item.Parts.{IsFloatInParts, PartsAreSequences}
 use Rattle.sf_float_read.proofs.ItemLemmas.Apart.{either}

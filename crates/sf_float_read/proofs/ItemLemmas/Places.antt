@@ -10,7 +10,8 @@ use Rattle.sf_float_read.specs.declared.item.reached.Radix.{Radix}
 use Rattle.sf_float_read.specs.declared.item.reached.Radix.TheVariants.{Ten, Sixteen}
 use Rattle.sf_float_read.specs.declared.item.reached.Reached.{Reached}
 use Rattle.sf_float_read.specs.declared.item.reached.Reached.TheVariants as at
-use Rattle.sf_float_read.specs.item.Sequences.{is_digit, opens_exponent, is_sign, AllDecimal, IsSignedDecimal, IsExponentPart, IsSomeFraction}
+use Rattle.sf_float_read.specs.item.Sequences.{is_digit, opens_exponent, is_sign, AllDecimal, IsSignedDecimal, IsExponentPart}
+use Rattle.sf_float_read.specs.item.Sequences.{IsSomeFraction}
 use Rattle.sf_float_read.specs.item.Sequences.{IsFraction, IsWhole, IsNumber, Spells, IsPayload, IsNanTail, IsInfinityTail, IsZeroTail}
 use Rattle.sf_float_read.specs.item.Sequences.{IsUnsigned}
 use Rattle.sf_float_read.specs.item.Steps.{Completes, Goes}

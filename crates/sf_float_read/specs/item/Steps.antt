@@ -2,7 +2,8 @@
 use Rattle.std.specs.Prelude.{◌≡◌, ℕ, ◌<◌, List, [], ◌∷◌, ◌++◌, ⊤, Option, Some, None}
 use Rattle.sf_float_read.specs.declared.item.reached.Reached.{Reached}
 use Rattle.sf_float_read.specs.declared.item.reached.Reached.TheVariants as at
-use Rattle.sf_float_read.specs.item.Sequences.{IsDecimal, AllDecimal, IsSignedDecimal, IsFraction, IsSomeFraction, IsWhole, IsNumber, Spells}
+use Rattle.sf_float_read.specs.item.Sequences.{IsDecimal, AllDecimal, IsSignedDecimal, IsFraction, IsSomeFraction, IsWhole, IsNumber}
+use Rattle.sf_float_read.specs.item.Sequences.{Spells}
 use Rattle.sf_float_read.specs.item.Sequences.{Begins, IsPayload, IsNanTail, IsInfinityTail, IsZeroTail, IsUnsigned, IsFloat}
 use Rattle.sf_float_read.specs.declared.item.reached.Radix.TheVariants.{Sixteen}
 

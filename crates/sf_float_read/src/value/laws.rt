@@ -1,6 +1,7 @@
 //! Laws of the definitions that the contracts cite.
 //! None of these functions does anything: its contract is the law.
-ghost use Rattle.sf_float_read.specs.value.Laws.{HexadecimalReadsBack, OneHexValue, OneStored, StoredBits, StoredIsComputed};
+ghost use Rattle.sf_float_read.specs.value.Laws.{HexadecimalReadsBack, OneHexValue, OneStored, StoredBits};
+ghost use Rattle.sf_float_read.specs.value.Laws.{StoredIsComputed};
 
 /// What `%a` prints of a finite float, without a precision or with 13 digits or more, is read as that float.
 pub fn hexadecimal_reads_back()

@@ -1,8 +1,10 @@
 //! How directives are shown, and the lines that show a scan format.
 ghost use Rattle.std.specs.Prelude.{◌≡◌, ◌++◌, ◌≤◌, OnErr, OnOk, IfOk, length};
 ghost use Rattle.std.specs.Fmt.{decimal};
-ghost use Rattle.sf_messages.specs.shown.Shown.{letter_text, optional_text, members_text, missing_mark, head_text, field_text};
-ghost use Rattle.sf_messages.specs.shown.Shown.{conversion_text, directive_text, line_text, directive_lines, summary_text};
+ghost use Rattle.sf_messages.specs.shown.Shown.{letter_text, optional_text, members_text, missing_mark, head_text};
+ghost use Rattle.sf_messages.specs.shown.Shown.{field_text};
+ghost use Rattle.sf_messages.specs.shown.Shown.{conversion_text, directive_text, line_text, directive_lines};
+ghost use Rattle.sf_messages.specs.shown.Shown.{summary_text};
 ghost use Rattle.sf_messages.specs.shown.Shown.{show_text};
 
 use sf_arguments::kind_text;

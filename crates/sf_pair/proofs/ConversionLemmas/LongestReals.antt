@@ -34,7 +34,8 @@ use Rattle.sf_print.specs.texts.Floats.{style_of, float_conv}
 use Rattle.sf_pair.specs.conversions.Widths.{written_style, longest_digits, mark_digits, longest_float, NoneIsLonger}
 use Rattle.sf_pair.proofs.ConversionLemmas.Tests.{and_both}
 use Rattle.sf_pair.proofs.ConversionLemmas.RealTexts.{case_length, fixed_length, size_of, bare_sign, hidden, body, seen_is}
-use Rattle.sf_pair.proofs.ConversionLemmas.RealSizes.{pointed_size, fixed_size, exponent_of_size, hex_size, binary_exponent_size, passing, some_digit}
+use Rattle.sf_pair.proofs.ConversionLemmas.RealSizes.{pointed_size, fixed_size, exponent_of_size, hex_size, binary_exponent_size, passing}
+use Rattle.sf_pair.proofs.ConversionLemmas.RealSizes.{some_digit}
 use Rattle.sf_pair.proofs.ConversionLemmas.RealSizes.{body_size, mark_size, signs_of}
 use Rattle.sf_pair.proofs.ConversionLemmas.Shortest.{size_by}
 

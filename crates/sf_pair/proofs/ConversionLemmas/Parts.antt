@@ -8,7 +8,8 @@ use Rattle.std.specs.Fmt.{digits}
 use Rattle.sf_format.specs.declared.unit.PrintConv.{PrintConv}
 use Rattle.sf_format.specs.declared.unit.PrintLetter.{PrintLetter}
 use Rattle.sf_format.specs.declared.unit.PrintLetter.TheVariants as letter
-use Rattle.sf_print.specs.texts.Text.{integer_text, sign, mark, prefix, numeral, all_digits, filled, is_octal, opens_with_zero, least_digits}
+use Rattle.sf_print.specs.texts.Text.{integer_text, sign, mark, prefix, numeral, all_digits, filled, is_octal, opens_with_zero}
+use Rattle.sf_print.specs.texts.Text.{least_digits}
 use Rattle.sf_print.specs.texts.Text.{blanks, zeros, left_blanks, inner_zeros, right_blanks, base_of, is_upper}
 use Rattle.sf_print.specs.digits.Numeral.{IsNumeralOf}
 use Rattle.sf_pair.specs.conversions.Below.{LawsBelow}

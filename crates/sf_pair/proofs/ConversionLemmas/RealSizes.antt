@@ -28,8 +28,10 @@ use Rattle.sf_print.specs.texts.Text.{blanks, zeros}
 use Rattle.sf_print.specs.texts.Visible.{without_blanks}
 use Rattle.sf_pair.proofs.ConversionLemmas.Tests.{and_both}
 use Rattle.sf_pair.proofs.ConversionLemmas.Shortest.{size_by, size_more}
-use Rattle.sf_pair.proofs.ConversionLemmas.RealTexts.{case_length, fixed_length, first_low, count_some, exponent_long, raised_text, exponent_text_is}
-use Rattle.sf_pair.proofs.ConversionLemmas.RealTexts.{size_of, bare_sign, hidden, mark_bytes, after_sign, body, sign_is, mark_is, seen_is, seen_is_all}
+use Rattle.sf_pair.proofs.ConversionLemmas.RealTexts.{case_length, fixed_length, first_low, count_some, exponent_long, raised_text}
+use Rattle.sf_pair.proofs.ConversionLemmas.RealTexts.{exponent_text_is}
+use Rattle.sf_pair.proofs.ConversionLemmas.RealTexts.{size_of, bare_sign, hidden, mark_bytes, after_sign, body, sign_is, mark_is, seen_is}
+use Rattle.sf_pair.proofs.ConversionLemmas.RealTexts.{seen_is_all}
 
 -- a point and so many digits
 abbrev pub pointed_size : Bool → ℕ → ℕ

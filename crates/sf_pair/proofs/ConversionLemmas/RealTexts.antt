@@ -26,7 +26,8 @@ use Rattle.sf_base.specs.Bytes.{is_white}
 use Rattle.sf_print.specs.texts.Text.{blanks, zeros}
 use Rattle.sf_print.specs.texts.Visible.{without_blanks}
 use Rattle.sf_pair.proofs.ConversionLemmas.Bodies.{StartsInk, without_some}
-use Rattle.sf_pair.proofs.ConversionLemmas.Places.{is_one_of, one_of, digits, signs, decimals as decimal_bytes, All, digit_one, digits_decimal, passes}
+use Rattle.sf_pair.proofs.ConversionLemmas.Places.{is_one_of, one_of, digits, signs, decimals as decimal_bytes, All, digit_one}
+use Rattle.sf_pair.proofs.ConversionLemmas.Places.{digits_decimal, passes}
 use Rattle.sf_pair.proofs.ConversionLemmas.Places.{decimal_place, decimal_read, pointed_place, pointed_read, exponent_place, signed_read}
 
 -- ---- bytes of a list

@@ -12,7 +12,8 @@ use Rattle.sf_float.specs.Computed.{needed_of, kept_of, cut_to, power_of, number
 use Rattle.sf_float.specs.Computed.{binary_number_of, hex_numeral_of, binary_exponent_of, hexadecimal_of, digits_text}
 use Rattle.sf_print.specs.texts.Text.{zeros}
 use Rattle.sf_pair.proofs.ConversionLemmas.RealTexts.{exponent_text_is}
-use Rattle.sf_pair.proofs.ConversionLemmas.RealSizes.{zero_number, zero_scaled, zero_count, needed_none, power_zero, plain_zero, zero_binary}
+use Rattle.sf_pair.proofs.ConversionLemmas.RealSizes.{zero_number, zero_scaled, zero_count, needed_none, power_zero, plain_zero}
+use Rattle.sf_pair.proofs.ConversionLemmas.RealSizes.{zero_binary}
 use Rattle.sf_pair.proofs.ConversionLemmas.RealSizes.{some_digit}
 
 -- ---- the digits of 0

@@ -5,8 +5,10 @@ ghost use Rattle.sf_base.specs.Bytes.{is_white};
 ghost use Rattle.sf_item.specs.Tests.{is_ink};
 ghost use Rattle.sf_print.specs.texts.Text.{pads_with_zeros};
 ghost use Rattle.sf_print.specs.texts.Visible.{least};
-ghost use Rattle.sf_pair.specs.conversions.Neighbours.{sign_or_digit, number_first, integer_first, float_digit, float_first};
-ghost use Rattle.sf_pair.specs.conversions.Neighbours.{text_first, first_by, is_auto_base, integer_stops, fraction_stops};
+ghost use Rattle.sf_pair.specs.conversions.Neighbours.{sign_or_digit, number_first, integer_first, float_digit};
+ghost use Rattle.sf_pair.specs.conversions.Neighbours.{float_first};
+ghost use Rattle.sf_pair.specs.conversions.Neighbours.{text_first, first_by, is_auto_base, integer_stops};
+ghost use Rattle.sf_pair.specs.conversions.Neighbours.{fraction_stops};
 ghost use Rattle.sf_pair.specs.conversions.Neighbours.{whole_stops, float_stops, stop_set};
 
 use crate::conversions::reals::has_point;

@@ -18,7 +18,8 @@ use Rattle.sf_base.specs.Data.Datum.{Number, Bytes, Real}
 use Rattle.sf_format.specs.declared.unit.PrintLetter.{PrintLetter}
 use Rattle.sf_format.specs.declared.unit.PrintLetter.TheVariants as letter
 use Rattle.sf_format.specs.declared.unit.PrintConv.{PrintConv}
-use Rattle.sf_print.specs.texts.Text.{base_of, is_upper, is_octal, base_mark, integer_text, value_text, with_sign, prefix, numeral, all_digits}
+use Rattle.sf_print.specs.texts.Text.{base_of, is_upper, is_octal, base_mark, integer_text, value_text, with_sign, prefix, numeral}
+use Rattle.sf_print.specs.texts.Text.{all_digits}
 use Rattle.sf_print.specs.texts.Text.{filled, with_octal_zero, least_digits, opens_with_zero, blanks, zeros, left_blanks, inner_zeros}
 use Rattle.sf_print.specs.texts.Text.{right_blanks, pads_with_zeros, short_by}
 use Rattle.sf_print.specs.texts.Plain.{minus, is_decimal, is_plain}

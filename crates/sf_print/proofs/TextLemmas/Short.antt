@@ -8,7 +8,8 @@ use Rattle.sf_format.specs.declared.unit.PrintLetter.{PrintLetter}
 use Rattle.sf_format.specs.declared.unit.PrintLetter.TheVariants as letter
 use Rattle.sf_format.specs.declared.unit.PrintConv.{PrintConv}
 use Rattle.sf_print.specs.texts.Text.{base_of, is_upper, is_octal, base_mark, integer_text, bytes_text, shown_bytes, first_bytes}
-use Rattle.sf_print.specs.texts.Text.{sign, mark, prefix, numeral, all_digits, filled, least_digits, opens_with_zero, blanks, zeros, left_blanks}
+use Rattle.sf_print.specs.texts.Text.{sign, mark, prefix, numeral, all_digits, filled, least_digits, opens_with_zero, blanks, zeros}
+use Rattle.sf_print.specs.texts.Text.{left_blanks}
 use Rattle.sf_print.specs.texts.Text.{inner_zeros, right_blanks, pads_with_zeros, short_by}
 use Rattle.sf_print.proofs.DigitLemmas.Digits.{length_most}
 

@@ -4,7 +4,8 @@ ghost use Rattle.std.specs.Fmt.{digits};
 ghost use Rattle.std.specs.List.{flat_map, slice_range};
 ghost use Rattle.sf_print.specs.texts.Runs.{piece_bytes};
 ghost use Rattle.sf_print.specs.texts.Text.{integer_text, with_sign, sign, mark, base_of, is_upper, is_octal, numeral};
-ghost use Rattle.sf_print.specs.texts.Text.{pads_with_zeros, least_digits, with_octal_zero, filled, left_blanks, inner_zeros};
+ghost use Rattle.sf_print.specs.texts.Text.{pads_with_zeros, least_digits, with_octal_zero, filled, left_blanks};
+ghost use Rattle.sf_print.specs.texts.Text.{inner_zeros};
 ghost use Rattle.sf_print.specs.texts.Text.{right_blanks};
 
 use crate::digits::{write_decimal, write_digits};

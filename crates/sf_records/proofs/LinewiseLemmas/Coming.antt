@@ -19,7 +19,8 @@ use Rattle.sf_records.specs.declared.by_lines.judge.Verdict.TheVariants.{Is, Fai
 use Rattle.sf_records.specs.by_lines.Coming.{Came, IsTold, Passes, Turns, is_read_fault}
 use Rattle.sf_records.specs.by_lines.Judging.{TriesEach, is_matched, is_unwritten, is_write_fault, verdict_by}
 use Rattle.sf_read.specs.line.Reading.{Took}
-use Rattle.sf_records.specs.by_lines.Turns.{Comes, IsIgnored, IsRead, LineWork, Picks, Turn, fault_of, is_other, judged, written_by, number_of}
+use Rattle.sf_records.specs.by_lines.Turns.{Comes, IsIgnored, IsRead, LineWork, Picks, Turn, fault_of, is_other, judged, written_by}
+use Rattle.sf_records.specs.by_lines.Turns.{number_of}
 use Rattle.sf_records.proofs.LinewiseLemmas.Telling.{tells_nothing}
 
 -- ---- a verdict

@@ -16,7 +16,8 @@ use Rattle.sf_read.specs.declared.line.line.LineRead.{LineRead}
 use Rattle.sf_read.specs.declared.line.line.LineRead.TheVariants as reads
 use Rattle.sf_read.specs.line.Reading.{Took, TookPart, Reads, endless, is_failed}
 use Rattle.sf_records.specs.by_lines.Turns.{AreScanned, LineWork, Turn, Comes}
-use Rattle.sf_records.specs.by_lines.Loops.{is_write, AreLines, AreLinesAndPart, AreTurns, IsBegun, IsCutShort, TellsLines, goes_on, tellings}
+use Rattle.sf_records.specs.by_lines.Loops.{is_write, AreLines, AreLinesAndPart, AreTurns, IsBegun, IsCutShort, TellsLines, goes_on}
+use Rattle.sf_records.specs.by_lines.Loops.{tellings}
 use Rattle.sf_records.specs.by_lines.Loops.{telling_of, texts, text_of, is_written, fault_after, ended, status_by, most_lines}
 use Rattle.sf_records.specs.by_lines.Loops as turns
 use Rattle.sf_records.specs.declared.by_lines.judge.Judged.{Judged}
@@ -28,7 +29,8 @@ use Rattle.sf_records.specs.by_lines.Telling.{Tells}
 use Rattle.sf_records.proofs.LinewiseLemmas.Telling.{all_said, tells_nothing, tells_then}
 use Rattle.sf_read.proofs.LineLemmas.Lined.{Lined, begins, took, gone_all, consumed, failed_in, at_end}
 use Rattle.sf_records.proofs.LinewiseLemmas.Reading.{are_lines, lines_and_part}
-use Rattle.sf_records.proofs.LinewiseLemmas.Turning.{Passed, all_went_on, passed_length, passed_then, passed_more, tellings_append, texts_more, count_more}
+use Rattle.sf_records.proofs.LinewiseLemmas.Turning.{Passed, all_went_on, passed_length, passed_then, passed_more, tellings_append}
+use Rattle.sf_records.proofs.LinewiseLemmas.Turning.{texts_more, count_more}
 use Rattle.sf_records.proofs.LinewiseLemmas.Turning.{turns_behind, if_stopped}
 
 -- what the loop wrote, told and counted after these turns. The sink held the bytes `was`, and now `is`.

@@ -10,7 +10,8 @@ use Rattle.sf_run.specs.Runs.{RunReport}
 use Rattle.sf_run.specs.Limits.{RunWithin}
 use Rattle.sf_run.specs.Laws.{EachHasOneReport}
 use Rattle.sf_records.specs.declared.by_lines.end.LineFault.{LineFault}
-use Rattle.sf_records.specs.by_lines.Turns.{AreScanned, LineWork, Matches, Misses, Turn, IsJudged, Comes, fault_of, number_of, turn_by, used_whole}
+use Rattle.sf_records.specs.by_lines.Turns.{AreScanned, LineWork, Matches, Misses, Turn, IsJudged, Comes, fault_of, number_of, turn_by}
+use Rattle.sf_records.specs.by_lines.Turns.{used_whole}
 use Rattle.sf_records.specs.by_lines.Loops.{IfGoing, AreTurns, goes_on}
 use Rattle.sf_records.proofs.LinewiseLemmas.Choosing.{all_at}
 

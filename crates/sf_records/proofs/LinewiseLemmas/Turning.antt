@@ -12,7 +12,8 @@ use Rattle.sf_run.specs.Runs.{RunReport}
 use Rattle.sf_run.specs.Laws.{EachHasOneReport}
 use Rattle.sf_records.specs.declared.by_lines.end.LineFault.{LineFault}
 use Rattle.sf_records.specs.declared.by_lines.end.LineFault.TheVariants.{TooLong}
-use Rattle.sf_records.specs.by_lines.Turns.{AreScanned, LineWork, Matches, Misses, Picks, Turn, IsJudged, Comes, fault_of, number_of, turn_by}
+use Rattle.sf_records.specs.by_lines.Turns.{AreScanned, LineWork, Matches, Misses, Picks, Turn, IsJudged, Comes, fault_of, number_of}
+use Rattle.sf_records.specs.by_lines.Turns.{turn_by}
 use Rattle.sf_records.specs.by_lines.Turns.{used_whole}
 use Rattle.sf_records.proofs.LinewiseLemmas.Choosing.{all_append, contains_first, contains_later}
 use Rattle.sf_records.specs.by_lines.Loops.{IfGoing, AllGoOn, AreTurns, goes_on, tellings, telling_of, texts, text_of}

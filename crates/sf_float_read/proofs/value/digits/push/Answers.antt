@@ -2,7 +2,8 @@ use Rattle.std.proofs.Common.{ℕ, ◌^◌, ◌≤◌, ◌*◌, ◌+◌, subst, 
 use Rattle.sf_float_read.specs.value.Hexadecimals.{IsFront}
 use Rattle.sf_float_read.proofs.ValueLemmas.Fronts.{skipped_zero, skipped_more}
 use Rattle.sf_float_read.proofs.value.digits.push.Goals as goal
-use Rattle.sf_float_read.proofs.value.digits.push.Goals.{else-so_far-eq0-via-then-so_far-eq0+else-so_far, else-so_far-eq0-via-else-so_far-eq0}
+use Rattle.sf_float_read.proofs.value.digits.push.Goals.{else-so_far-eq0-via-then-so_far-eq0+else-so_far}
+use Rattle.sf_float_read.proofs.value.digits.push.Goals.{else-so_far-eq0-via-else-so_far-eq0}
 
 pub returns-then-digit-eq0-clause-front : goal.returns-then-digit-eq0-clause-front
 returns-then-digit-eq0-clause-front c v f =

@@ -1,7 +1,8 @@
 use Rattle.std.proofs.Common.{◌≡◌, ◌*◌, ◌<◌, ℕ, Bool, List, None, true, false, sym, subst, arith}
 use Rattle.std.specs.Float.Ieee.{Float, binary64, of_bits, neg, ones, hid}
 use Rattle.sf_float_read.specs.value.Values.{IsHexValue, stored}
-use Rattle.sf_float_read.proofs.ValueLemmas.PatternLemmas.{bits_stored, minus_bits_stored, infinity_stored, minus_infinity_stored, minus_value}
+use Rattle.sf_float_read.proofs.ValueLemmas.PatternLemmas.{bits_stored, minus_bits_stored, infinity_stored, minus_infinity_stored}
+use Rattle.sf_float_read.proofs.ValueLemmas.PatternLemmas.{minus_value}
 use Rattle.sf_float_read.proofs.value.value.hexadecimal_f64.Goals as goal
 
 -- out of range, with either sign

@@ -1,7 +1,8 @@
 use Rattle.std.proofs.Common.{◌∙◌, Bool, cond, length, refl, sym, ap, arith, true≢false}
 use Rattle.std.specs.Prelude.{vec_capacity}
 use Rattle.sf_read.specs.source.Counts.{counted_on}
-use Rattle.sf_read.proofs.LineLemmas.Gathering.{begins, not_before, within, at_end, ended_long, ended_short, failed, more, outgrows, too_many}
+use Rattle.sf_read.proofs.LineLemmas.Gathering.{begins, not_before, within, at_end, ended_long, ended_short, failed, more, outgrows}
+use Rattle.sf_read.proofs.LineLemmas.Gathering.{too_many}
 use Rattle.sf_read.proofs.LineLemmas.Gathering.{empty_list, tested_zero}
 use Rattle.sf_read.proofs.LineLemmas.Gathering.{tested_some, if_ok, if_err}
 use Rattle.sf_read.proofs.LineLemmas.Using as using
