@@ -1,4 +1,5 @@
 //! The scan format that reads back what a print format prints.
+
 mod answer;
 mod escape;
 mod parts;

@@ -1,4 +1,4 @@
-//! Bytes in the C locale, sets of bytes, and the values that a destination can hold.
+//! Bytes in the C locale, sets of bytes, the values that a destination can hold, and the stores that keep them.
 #![tactic(auto)]
 
 mod byte_set;

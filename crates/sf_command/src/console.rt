@@ -1,4 +1,5 @@
 //! The output and the error output of a command: messages, what waits in the output before them, and how it ends.
+
 mod console;
 mod ends;
 mod error_output;

@@ -1,4 +1,5 @@
 //! What an order of records does, and what the words of an order stand for: its formats, its names, and how it writes.
+
 mod check;
 mod command;
 mod copy;

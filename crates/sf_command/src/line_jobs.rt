@@ -1,4 +1,5 @@
 //! Scans and copies line by line, each with what is said of the lines that are no match.
+
 mod copies;
 mod lines;
 

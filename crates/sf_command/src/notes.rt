@@ -1,4 +1,5 @@
 //! What is said after the line of a fault, where more is asked for.
+
 mod explain;
 
 pub use explain::{

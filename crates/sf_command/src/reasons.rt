@@ -1,4 +1,5 @@
 //! Why an input or an output failed: the words of the system for it, and when they are said.
+
 mod faults;
 mod last_error;
 mod words;

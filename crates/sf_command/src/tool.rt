@@ -1,4 +1,5 @@
 //! The command `sf`: records scanned from an input, a line for each; and words printed by a format.
+
 mod files;
 mod invocation;
 pub mod laws;

@@ -1,4 +1,5 @@
 //! The text of a float: the shortest digits that are read as it in its kind, of several the nearest to it.
+
 mod cut;
 mod fives;
 mod laid;

@@ -1,4 +1,5 @@
 //! The input items of the floating-point conversions, byte by byte.
+
 mod decimal;
 mod digits;
 pub mod laws;

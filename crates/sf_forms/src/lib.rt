@@ -1,4 +1,4 @@
-//! How the values of one record are written: in a form, to a list or a sink.
+//! How the values of one record are written: in a form, to a list or a sink; and what is written of a report.
 #![tactic(auto)]
 
 mod columns;

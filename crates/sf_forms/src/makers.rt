@@ -1,4 +1,5 @@
 //! What is written of a report: its record in a form, its print, or what another maker makes of it.
+
 mod form;
 mod maker;
 mod names;

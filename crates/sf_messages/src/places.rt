@@ -1,4 +1,5 @@
 //! Where in its input a source is.
+
 mod place;
 mod placed;
 

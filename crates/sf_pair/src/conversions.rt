@@ -1,4 +1,5 @@
 //! The texts of a pair's conversions: what one may begin with, what an item would run on into, how long it is.
+
 mod below;
 mod neighbours;
 mod reals;

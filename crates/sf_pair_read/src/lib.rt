@@ -1,4 +1,4 @@
-//! Reading by a pair of a print format and a scan format.
+//! Reading by a pair of a print format and a scan format: one row, or a list of rows that was written by it.
 #![tactic(auto)]
 
 mod below;

@@ -1,4 +1,5 @@
 //! Lists of rows by a pair of formats: written one after the other, and read back.
+
 mod below;
 mod fault;
 mod reading;

@@ -1,4 +1,5 @@
 //! The digits of numbers: decimal ones, two and three at a time, and those of any base.
+
 mod copies;
 mod decimal;
 pub mod laws;

@@ -1,4 +1,4 @@
-//! Values printed by a format, over any sink.
+//! Values printed by a format, over any sink: their digits and texts, the sinks, and a block before a writer.
 #![tactic(auto)]
 
 mod blocks;

@@ -1,4 +1,5 @@
 //! Sinks: where printed bytes go.
+
 mod list_sink;
 mod script_sink;
 mod sink;

@@ -1,4 +1,5 @@
 //! The texts of values, in pieces: what a conversion prints of an integer, a float or bytes.
+
 mod floats;
 mod integer;
 mod piece;

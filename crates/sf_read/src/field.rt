@@ -1,4 +1,5 @@
 //! Rows, and the types that their slots may have.
+
 mod field;
 mod rows;
 mod tuples;

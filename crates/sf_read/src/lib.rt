@@ -1,4 +1,4 @@
-//! Whole scans of texts and of sources, and rows of what they give.
+//! Whole scans of texts and of sources, an input's lines, and rows of what a scan gives.
 #![tactic(auto)]
 
 mod field;

@@ -1,4 +1,5 @@
 //! Lines: what a line of an input is, and the reading of one.
+
 pub mod laws;
 mod line;
 

@@ -1,4 +1,5 @@
 //! Sources, and bytes read ahead of them.
+
 mod lookahead;
 mod script_source;
 mod slice_source;

@@ -1,4 +1,5 @@
 //! Lines of an input, read one by one, and what is scanned from each.
+
 mod end;
 mod formats;
 mod judge;

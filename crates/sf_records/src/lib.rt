@@ -1,5 +1,5 @@
-//! Records scanned from an input, one after the other, and what is written for each: its values in one form, or
-//! its copy.
+//! Records scanned from an input, one after the other or a line each, and what is written for each: its values in
+//! one form, or its copy.
 #![tactic(auto)]
 
 pub mod by_lines;

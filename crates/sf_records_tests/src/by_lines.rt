@@ -1,4 +1,5 @@
 //! Tests of the loop over lines, for what the program `sf` doesn't show.
+
 mod errors;
 mod hands;
 mod heads;
