@@ -1,4 +1,5 @@
-//! Words as values: their escapes, the value that each stands for where a conversion prints it, and a print of them.
+//! Words as values: their escapes, the value that each stands for where a conversion prints it, and a print of them;
+//! and the scan format that reads a print format back.
 #![tactic(auto)]
 
 mod answer;

@@ -1,4 +1,4 @@
-//! The command `sf`: records scanned from an input, a line for each; and words printed by a format.
+//! The command `sf` as a library: its words carried out, its files, and the program over its streams.
 
 mod files;
 mod invocation;

@@ -1,4 +1,4 @@
-//! What a command says: how formats are shown, why it ends, and what is said after that.
+//! What a command says: how formats are shown, why it ends, where in the input, and what is said after that.
 #![tactic(auto)]
 
 mod facing;
