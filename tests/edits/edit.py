@@ -1,10 +1,15 @@
-r"""An edit: a wrong body that the prover must refuse. A file tests/edits/CRATE/MODULE.FUNCTION.WHAT.edit has lines of these kinds:
+r"""An edit: a wrong body that the prover must refuse. A file tests/edits/CRATE/MODULE.edits has those of a module, one after another:
 
-    file: src/item.rt            the file that is changed
+    file: src/item.rt            the file that is changed; what stands above the first edit holds for each one that has no such line
+
+    edit: step.takes_none        the edit's name: the function that it changes, and how
     in: step                     the next texts are looked for in the body of this function alone (of an `impl`: `in: U8Field::kind`)
     old: self.left               a text that stands there exactly once
     new: None                    what stands in its place; further pairs apply to what the earlier ones made
+    open: says                   the clause (`ensures says { .. }`) or the goal that must stay open
     by: laws::says               of a definition: the function whose proof must be refused
+
+The whole name of that edit is CRATE/MODULE.step.takes_none.
 
 An edit changes the body of one function, or a table (a `static`, a `const`), or a definition that a law holds to account: of specs/,
 or of an `impl` for its trait (`ghost says = { .. }`). It changes no clause: an edit of what is promised shows nothing of the code.
@@ -14,9 +19,16 @@ import glob
 import os
 import re
 
+from same import is_same
+
 # Comments, strings and characters.
 NO_CODE = re.compile(r"""//[^\n]*|/\*.*?\*/|b?"(?:[^"\\]|\\.)*"|b?'(?:\\[^\n]{1,8}?|[^'\\\n])'""", re.S)
 CLAUSES = ("requires", "ensures", "ghost")
+
+
+def read(path):
+    with open(path, encoding="utf-8") as it:
+        return it.read()
 
 
 @functools.lru_cache(maxsize=None)
@@ -54,6 +66,13 @@ def bodies(text):
                 at, is_clause = closing(text, at) + 1, False
             else:
                 at += 1
+
+
+def clauses(text, number):
+    """The names of what a function ensures, by its number among those of the source; of a clause without a name, nothing."""
+    name, opens, _ = list(bodies(text))[number]
+    head = [it.end() for it in re.finditer(rf"\bfn\s+{name}\b", without_text(text)[:opens])][-1]
+    return re.findall(r"\bensures\*?\s*(\w*)\s*\{", without_text(text)[head:opens])
 
 
 def definitions(text):
@@ -143,9 +162,8 @@ def types_of(folder):
     """The modules in which a crate declares a type of each name."""
     found = {}
     for file in glob.glob(f"{folder}/src/**/*.rt", recursive=True):
-        with open(file, encoding="utf-8") as it:
-            for name in re.findall(r"\b(?:struct|enum)\s+(\w+)", without_text(it.read())):
-                found.setdefault(name, []).append(module_of(os.path.relpath(file, folder)))
+        for name in re.findall(r"\b(?:struct|enum)\s+(\w+)", without_text(read(file))):
+            found.setdefault(name, []).append(module_of(os.path.relpath(file, folder)))
     return found
 
 
@@ -153,20 +171,32 @@ class BadEdit(Exception):
     """Why an edit can't be applied, or shows nothing."""
 
 
+def edits_in(path, crate, folder):
+    """The edits of a file."""
+    module, head, found = os.path.basename(path).removesuffix(".edits"), [], []
+    for line in filter(None, read(path).split("\n")):
+        if line.startswith("edit: "):
+            found.append((f"{crate}/{module}.{line[6:].strip()}", [*head]))
+        else:
+            (found[-1][1] if found else head).append(line)
+    return [Edit(name, folder, lines) for name, lines in found]
+
+
 class Edit:
     """A wrong body. `texts` has each changed file before and after; `place` is the file and the function that it changes, or None
     where it changes a definition. `asks` is what a check must judge: a function, its module where its name is not known, or, of a
-    definition that names nothing, None. `bad` says why it can't be applied."""
+    definition that names nothing, None. `shown` is the file of the function that is judged, and its number there, where that is known.
+    `bad` says why it can't be applied."""
 
-    def __init__(self, crate, folder, path):
-        self.name, self.folder, self.how = f"{crate}/{os.path.basename(path)}", folder, ""
-        self.crate, self.texts, self.bad, self.place, self.spans, self.by, self.asks = crate, {}, None, None, [], None, None
+    def __init__(self, name, folder, lines):
+        self.name, self.folder, self.lines, self.how, self.crate = name, folder, lines, "", name.split("/")[0]
+        self.texts, self.bad, self.place, self.spans, self.by, self.open, self.asks, self.shown = {}, None, None, [], None, None, None, None
         try:
-            with open(path, encoding="utf-8") as it:
-                self.apply(it.read().split("\n"))
+            self.apply(lines)
             self.spans = [self.span(file, *both) for file, both in self.texts.items()]
             self.place = self.changed()
             self.asks = self.asked()
+            self.shown = self.judged_at()
         except BadEdit as why:
             self.bad = str(why)
 
@@ -175,19 +205,21 @@ class Edit:
         for line in lines:
             key, _, value = line.partition(": ") if not line.startswith("new:") else ("new", "", line[4:].removeprefix(" "))
             if key == "file":
-                file, function = self.file_of(value.strip()), None
+                file, function = value.strip(), None
             elif key == "in":
                 function = value.strip()
-            elif key == "by":
-                self.by = value.strip()
+            elif key in ("by", "open"):
+                setattr(self, key, value.strip())
             elif key == "old":
                 old = value
             elif key == "new":
                 if not file or not old:
                     raise BadEdit("a 'new:' line stands before any 'file:' or 'old:' line")
-                was, now = self.texts[file]
+                was, now = self.texts[self.file_of(file)]
                 self.texts[file] = was, replaced(now, file, function, old, value)
                 old = None
+            else:
+                raise BadEdit(f"it has a line of no known kind: {line}")
         if old or not any(was != now for was, now in self.texts.values()):
             raise BadEdit("it has no 'old:' and 'new:' pair that changes a text")
 
@@ -195,11 +227,9 @@ class Edit:
         if os.path.normpath(file) != file or not file.startswith(("src/", "specs/")):
             raise BadEdit("a 'file:' line names no file below src/ or specs/")
         if file not in self.texts:
-            try:
-                with open(f"{self.folder}/{file}", encoding="utf-8") as it:
-                    text = it.read()
-            except OSError:
-                raise BadEdit(f"there is no file {file}") from None
+            text = self.text_of(file)
+            if not text:
+                raise BadEdit(f"there is no file {file}")
             self.texts[file] = text, text
         return file
 
@@ -217,11 +247,13 @@ class Edit:
         file, first, end, _ = self.spans[0]
         if file.startswith("specs/"):
             return None
-        was = self.texts[file][0]
-        inside = [name for name, opens, closes in bodies(was) if opens < first and end <= closes]
+        was, now = self.texts[file]
+        inside = [it for it in bodies(was) if it[1] < first and end <= it[2]]
         if not inside and not any(opens <= first and end <= closes for opens, closes in definitions(was)):
             raise BadEdit("what it changes is neither the body of one function nor a definition")
-        return (file, inside[0]) if inside else None
+        if inside and is_same(*(text[inside[0][1] : inside[0][2] + 1 + len(text) - len(was)] for text in (was, now))):
+            raise BadEdit("it changes no value: the expression is the same as before")
+        return (file, inside[0][0]) if inside else None
 
     def asked(self):
         """What a check must judge, by the name that it prints."""
@@ -236,6 +268,27 @@ class Edit:
         self.is_function = block is not None and module is not None
         path = [*module, *filter(None, ["".join(block)]), name] if self.is_function else module_of(file)
         return "::".join([self.crate, *path]) if path else None
+
+    def judged_at(self):
+        """The file of the function that is judged, and its number among the functions of that file."""
+        if self.place:
+            text = self.texts[self.place[0]][0]
+            return self.place[0], next(at for at, it in enumerate(bodies(text)) if it[1] < self.spans[0][1] <= it[2])
+        *module, name = (self.by or "").split("::")
+        file = f"src/{'/'.join(module) or 'lib'}.rt"
+        found = [at for at, it in enumerate(bodies(self.text_of(file))) if it[0] == name]
+        return (file, found[0]) if len(found) == 1 else None
+
+    def text_of(self, file):
+        """A file of the crate as it stands, or nothing."""
+        path = f"{self.folder}/{file}"
+        return read(path) if os.path.isfile(path) else ""
+
+    def asks_for(self, goal):
+        """Whether a goal is of the clause that must stay open. With one clause alone, the goals of what is returned don't name it."""
+        if not self.open or goal == self.open or re.fullmatch(rf".*-clause-{re.escape(self.open)}(-.*)?", goal):
+            return True
+        return bool(self.shown) and goal.startswith("returns") and clauses(self.text_of(self.shown[0]), self.shown[1]) == [self.open]
 
     def home(self, name):
         """The module of a type of the crate, or None where it has none of that name, or several."""

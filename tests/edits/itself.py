@@ -5,8 +5,9 @@ The crate is taken as `rt ci` leaves one: proved, with nothing kept of its proof
 import os
 
 import kit
-from edit import Edit
-from rounds import Tries, is_own
+from edit import edits_in
+from judge import is_own
+from rounds import Tries
 
 SOURCE = """//! Numbers that follow one another.
 #![tactic(auto)]
@@ -106,15 +107,15 @@ pub mod hidden {
 # Each edit, and how what is said of it must begin. `same` is harmless, in a caller of what `twice` makes wrong. Of the three functions
 # `width` one is of a trait for a type, one of that trait for a number, and the last has another name than the runner finds.
 EDITS = {
-    "next.twice": ("in: next\nold: n + 1\nnew: n * 1", "low::next: "),
-    "after_next.same": ("old: let following = next(n);\nnew: let following: u8 = next(n);", "NOT REFUSED"),
-    "third.no_such_name": ("old: let following = after_next(n);\nnew: let following = no_such_name(n);", "BAD EDIT"),
-    "third.text_is_gone": ("old: n + 7\nnew: n", "BAD EDIT"),
-    "third.text_is_there_twice": ("old: next(following)\nnew: following", "BAD EDIT"),
-    "third.clause_changed": ("old: result ≡ n + 3\nnew: result ≡ result", "BAD EDIT"),
-    "third.nothing_changed": ("in: third\nold: next(following)\nnew: next(following)", "BAD EDIT"),
-    "third.judged_by_another": ("in: third\nold: next(following)\nnew: following\nby: next", "BAD EDIT"),
-    "third.stays": ("in: third\nold: next(following)\nnew: following", "low::third: "),
+    "lib.next.twice": ("in: next\nold: n + 1\nnew: n * 1", "low::next: "),
+    "lib.after_next.same": ("old: let following = next(n);\nnew: let following: u8 = next(n);", "NOT REFUSED"),
+    "lib.third.no_such_name": ("old: let following = after_next(n);\nnew: let following = no_such_name(n);", "BAD EDIT"),
+    "lib.third.text_is_gone": ("old: n + 7\nnew: n", "BAD EDIT"),
+    "lib.third.text_is_there_twice": ("old: next(following)\nnew: following", "BAD EDIT"),
+    "lib.third.clause_changed": ("old: result ≡ n + 3\nnew: result ≡ result", "BAD EDIT"),
+    "lib.third.nothing_changed": ("in: third\nold: next(following)\nnew: next(following)", "BAD EDIT"),
+    "lib.third.judged_by_another": ("in: third\nold: next(following)\nnew: following\nby: next", "BAD EDIT"),
+    "lib.third.stays": ("in: third\nold: next(following)\nnew: following", "low::third: "),
     "steps.size.none_of_a_step": ("in: size\nold: self.width\nnew: 0", "low::steps::Step::size: "),
     "steps.width.none_of_a_wide_step": ("in: width\nold: Step::size(self)\nnew: 0", "low::steps::StepWide::width: "),
     "steps.width.none_of_a_number": ("in: U8Wide::width\nold: *self\nnew: 0", "low::steps::U8Wide::width: "),
@@ -148,9 +149,11 @@ def made_up(root):
     written(f"{root}/crates.txt", "low:\n")
     written(f"{root}/crates/low/src/lib.rt", SOURCE)
     written(f"{root}/crates/low/src/steps.rt", STEPS)
-    for name, (lines, _) in EDITS.items():
-        written(f"{root}/{name}.edit", f"file: src/{'steps' if name.startswith('steps.') else 'lib'}.rt\n{lines}\n")
-    return {name: Edit("low", f"{root}/crates/low", f"{root}/{name}.edit") for name in EDITS}
+    for module in ("lib", "steps"):
+        own = [f"\nedit: {name.partition('.')[2]}\n{lines}\n" for name, (lines, _) in EDITS.items() if name.startswith(f"{module}.")]
+        written(f"{root}/{module}.edits", f"file: src/{module}.rt\n{''.join(own)}")
+    made = [it for module in ("lib", "steps") for it in edits_in(f"{root}/{module}.edits", "low", f"{root}/crates/low")]
+    return {it.name.removeprefix("low/"): it for it in made}
 
 
 def tried(room, with_prover=True, by_command=False):
@@ -172,7 +175,7 @@ def tried(room, with_prover=True, by_command=False):
             failed += 1
             print(f"the runner itself: {name}: wanted {wanted}.., found: {found[:200]}")
     for how, wanted in SAID.items():
-        if is_own(how, edits["next.twice"].names()) != wanted:
+        if is_own(how, edits["lib.next.twice"].names()) != wanted:
             failed += 1
             print(f"the runner itself: wanted {wanted} of what is said: {how}")
     return len(judged) + len(SAID) - failed, failed

@@ -191,3 +191,8 @@ def chosen(root, room, after_ci=False, by_command=False):
     rtlib = None if by_command else rtlib_of(rt)
     return OverLibraries(root, room, rtlib, after_ci) if rtlib else ByCommand(root, room)
 
+
+
+def version():
+    """The kit's identity, in one line."""
+    return subprocess.run(["rt", "version"], check=True, capture_output=True, text=True).stdout.strip()

@@ -1,13 +1,13 @@
 """Wrong bodies tried many at once.
 
 A round is one check of a crate with an edit in each of many functions, past what is refused (`--allow-holes`). Callers see contracts
-alone, and an edit changes a body alone, so that the goals of each function are those that it has with its own edit alone. An edit
-counts as refused only where the function that it changes is refused for itself: a declaration of its own proof, or a goal that the
-search left there. What a round can't judge is tried alone, and so is an edit of a definition, which names the function that it shows.
+alone, and an edit changes a body alone, so that the goals of each function are those that it has with its own edit alone. judge.py says
+when an edit counts as refused. What a round can't judge is tried alone, and so is an edit of a definition, which names the function that
+it shows.
 
 A round asks for the functions that it changes (`--only`), and the prover then reads these and those that they call. So a crate that
-`rt ci` has proved isn't proved once more before its rounds, and each of them keeps for the next what it proved. The whole crate is
-proved only for an edit that no function of its own refuses.
+`rt ci` has proved isn't proved once more before its rounds. Where earlier checks kept what they proved, each round begins with that;
+else each of them keeps for the next what it proved. The whole crate is proved only for an edit of a definition that names no function.
 """
 import contextlib
 import os
@@ -17,40 +17,15 @@ import tempfile
 import time
 
 from edit import applied
+from judge import Judged
 from kit import linked
 
-PROVED = ("no holes", "proved", "depends on a hole")
-# (the prover ran out of memory or steps: that shows nothing of the function)
-UNTOLD = "could not tell"
-REFUSED = ("not proved", "no proof")
-# Lines of `rattle check --allow-holes`, such as
-#   fn sf_base::runs::cut: not proved; it stands on `Rattle.sf_base.proofs.runs.cut.Answers.stops`, which antt refuses
-#   fn sf_base::runs::cut: no proof: .. `search` did not prove `returns`
-#   src/runs.rt:12:9: error[unknown-name]: ..
-FUNCTION = re.compile(r"fn (\S+): (.*)")
 ERROR = re.compile(r"(?:\./)?(src/\S+?):(\d+):\d+: error")
-DECLARATION = re.compile(r"`Rattle\.(\w+)\.proofs\.([^`]+)`")
 # What it says where `--only` has a name that the crate lacks, or that several functions have.
 NO_SUCH = re.compile(r"rattle: error: .*(?:has no function|several functions are named)")
-CALLED = re.compile(r"(?:calls|passes|a call of|the block|and) `([^`]+)`")
 
 
-def is_own(how, names):
-    """Whether a function is refused for its own proof: a declaration of it, or a goal that the search left."""
-    if how.startswith(PROVED) or how.startswith(UNTOLD):
-        return False
-    if "did not prove" in how:
-        return True
-    cited = ["::".join([crate, *path.split(".")]) for crate, path in DECLARATION.findall(how)]
-    return any(names.fullmatch(it) for it in cited) or not (cited or CALLED.search(how))
-
-
-def refusal(said, edit):
-    """The line that refuses the edit's function for itself, if one does; of a definition, the line that refuses the function that it names,
-    for itself or for a lemma."""
-    names = edit.names()
-    found = [it for it in map(FUNCTION.fullmatch, said.lines) if it and names.fullmatch(it[1])]
-    return next((it[0][3:] for it in found if (is_own(it[2], names) if edit.place else it[2].startswith(REFUSED))), None)
+BAD = "BAD EDIT"
 
 
 def has_ended(said):
@@ -73,8 +48,8 @@ class Tries:
     def __init__(self, kit, crate, room):
         self.kit, self.crate, self.kept, self.room = kit, crate, f"{room}/kept", room
         self.notes, self.times, self.checks, self.began, self.processor = [], [], 0, time.monotonic(), 0.0
-        # (whether the crate was proved as it stands, and its proofs lie in `kept`)
-        self.is_whole = False
+        # (whether the crate was proved as it stands, and its proofs lie in `kept`; and whether earlier checks left proofs there)
+        self.is_whole = self.has_kept = False
 
     def check(self, texts, kept, *flags):
         said = self.kit.check(self.crate, texts, kept, *flags)
@@ -88,6 +63,7 @@ class Tries:
         own = self.kit.kept(self.crate)
         if own:
             linked(own, self.kept)
+            self.has_kept = True
         os.makedirs(self.kept, exist_ok=True)
         return self.kit.is_proved(self.crate) or self.proved()
 
@@ -101,8 +77,8 @@ class Tries:
 
     @contextlib.contextmanager
     def over(self):
-        """The kept work, to which a check adds what it proves. Once the whole crate is proved there: a copy, so that it stays."""
-        if not self.is_whole:
+        """A copy of the kept work, so that it stays as it is; where there was none, the work itself, to which a check adds what it proves."""
+        if not self.is_whole and not self.has_kept:
             yield self.kept
             return
         copy = tempfile.mkdtemp(dir=self.room)
@@ -140,24 +116,20 @@ class Tries:
             refused, more = self.round([it for it in edits if it not in alone]) if len(alone) < len(edits) else ([], [])
             return refused, more + alone
         for edit in edits:
-            edit.how = refusal(said, edit) or ""
-        return [it for it in edits if it.how], [it for it in edits if not it.how]
+            edit.how = self.verdict(said, edit, texts)
+        return [it for it in edits if it.how and not it.how.startswith(BAD)], [it for it in edits if not it.how]
+
+    @staticmethod
+    def verdict(said, edit, texts):
+        """What refuses an edit, or why its refusal shows nothing; nothing, where the check refuses its function for no own reason."""
+        found = Judged(said.lines, edit, texts)
+        return f"{BAD}: {found.bad}" if found.bad else found.refused or ""
 
     def alone(self, edit):
         """Tries an edit by itself, and answers whether it is refused: by the function that it changes or names, or else by the crate."""
         texts = {file: now for file, (_, now) in edit.texts.items()}
-        if edit.asks:
-            said = self.asked([edit], texts)
-            how = refusal(said, edit) if has_ended(said) else None
-            if how:
-                edit.how = f"alone: {how}"
-                return True
-            if edit.by:
-                edit.how = f"NOT REFUSED by {edit.by}: {said.last()}"
-                return False
-            if said.status == 1 and not has_ended(said):
-                edit.how = f"BAD EDIT: {said.last()}"
-                return False
+        if edit.place or edit.asks:
+            return self.alone_by_function(edit, texts)
         if not self.proved():
             edit.how = "the crate as it stands is not proved"
             return False
@@ -167,7 +139,22 @@ class Tries:
             told = (it for it in said.lines if re.match(r"(note: )?\S+:\d+:\d+:", it))
             edit.how = "alone: " + next(told, said.last())
             return True
-        edit.how = f"BAD EDIT: {said.last()}" if said.status else "NOT REFUSED: the crate is still proved with this edit"
+        edit.how = f"{BAD}: {said.last()}" if said.status else "NOT REFUSED: the crate is still proved with this edit"
+        return False
+
+    def alone_by_function(self, edit, texts):
+        said = self.asked([edit], texts)
+        found = Judged(said.lines, edit, texts) if has_ended(said) else None
+        if found and found.refused:
+            edit.how = f"alone: {found.refused}"
+            return True
+        by = f" by {edit.by}" if edit.by else f" for {edit.open}" if edit.open else ""
+        if found and found.bad:
+            edit.how = f"{BAD}: {found.bad}"
+        elif said.status == 1 and not found and edit.place:
+            edit.how = f"{BAD}: {said.last()}"
+        else:
+            edit.how = f"NOT REFUSED{by}: {found and found.said or said.last()}"
         return False
 
     def all(self, edits):

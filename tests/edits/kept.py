@@ -1,0 +1,126 @@
+"""Verdicts that are kept: of which wrong bodies it is known that the prover refuses them.
+
+KEPT has the kit in its first line, and then a line `KEY CRATE/MODULE.FUNCTION.WHAT` for each wrong body that was refused with it. The key
+is a sum of all that the verdict rests on:
+
+- the edit, and the function that it changes with the files of its proof;
+- of its crate and of each crate below it, what a proof of another function can see: src/ without the bodies of functions and without
+  comments, specs/, and the lemmas of proofs/. A proof cites of another function the theorem alone ("cannot open its routine", as
+  `rattle check --help` says). So the bodies and proofs of other functions are left out, unless a crate has a cycle of calls;
+- the lines of crates.txt for these crates, and the files that judge an edit.
+
+An edit of a definition rests on the whole of its crate. A line with another key counts as none. `KEY itself` is the runner's own trial.
+A tenth of the edits is tried though their verdicts are kept: whole crates, chosen by the sum of all keys, so that nobody chooses.
+"""
+import functools
+import glob
+import hashlib
+import os
+import re
+
+from edit import NO_CODE, bodies, read
+
+# The files that judge; the others print, keep and try the runner.
+JUDGES = ("edit.py", "same.py", "judge.py", "rounds.py", "kit.py")
+SHARE = 10
+OF_A_FUNCTION = ("Answers.antt", "Invariants.antt")
+ITSELF = "itself"
+
+
+def sum_of(*parts):
+    found = hashlib.sha256()
+    for it in parts:
+        data = it.encode()
+        found.update(len(data).to_bytes(8, "big") + data)
+    return found.hexdigest()[:32]
+
+
+def without_comments(text):
+    return NO_CODE.sub(lambda it: " " if it[0].startswith(("//", "/*")) else it[0], text)
+
+
+def without_bodies(text):
+    made, at = "", 0
+    for _, opens, closes in bodies(text):
+        if opens >= at:
+            made, at = made + text[at:opens] + "{}", closes + 1
+    return re.sub(r"\s+", " ", without_comments(made + text[at:]))
+
+
+class Crate:
+    """A crate's texts by their names, and the sum of what a proof of another function sees of them."""
+
+    def __init__(self, folder, line):
+        files = sorted(it for part in ("src", "specs", "proofs") for it in glob.glob(f"{folder}/{part}/**", recursive=True))
+        self.texts = {it[len(folder) + 1 :]: read(it) for it in files if os.path.isfile(it)}
+        self.whole = sum_of(line, *(it for both in self.texts.items() for it in both))
+        if any("#[cycle(" in text for name, text in self.texts.items() if name.startswith("src/")):
+            self.seen = self.whole
+            return
+        self.seen = sum_of(line, *(it for name, text in self.texts.items() if not self.is_hidden(name) for it in (name, self.shown(name, text))))
+
+    @staticmethod
+    def is_hidden(name):
+        return name.startswith("proofs/") and os.path.basename(name) in OF_A_FUNCTION
+
+    @staticmethod
+    def shown(name, text):
+        return without_bodies(text) if name.startswith("src/") else text
+
+    def function(self, edit):
+        """The body of the function that an edit changes, and the files of its proof (of each function of that name)."""
+        (file, name), at = edit.place, edit.spans[0][1]
+        text = self.texts[file]
+        body = next(text[opens : closes + 1] for _, opens, closes in bodies(text) if opens < at <= closes)
+        proof = [it for path, text in self.texts.items() if self.is_hidden(path) and name in path.split("/")[:-1] for it in (path, text)]
+        return [without_comments(body), *proof]
+
+
+def keys(root, below, found):
+    """The key of each edit that can be applied, by its name; `below` has the crates below each crate, and `found` its edits."""
+    here = os.path.dirname(os.path.abspath(__file__))
+    listed = (it.partition("#")[0].strip() for it in read(f"{root}/crates.txt").split("\n"))
+    lines = {re.split(r"[ :]", it)[0]: it for it in listed if it}
+    crate = functools.lru_cache(maxsize=None)(lambda name: Crate(f"{root}/crates/{name}", lines[name]))
+    judges = sum_of(*(read(f"{here}/{it}") for it in JUDGES))
+    made = {ITSELF: sum_of(judges, *(read(f"{here}/{it}") for it in ("itself.py", "kept.py")))}
+    for name, edits in found.items():
+        lower = [it for one in sorted(below[name]) for it in (one, crate(one).seen)]
+        for edit in edits:
+            if not edit.bad:
+                own = [crate(name).seen, *crate(name).function(edit)] if edit.place else [crate(name).whole]
+                made[edit.name] = sum_of(judges, edit.name, *edit.lines, *own, *lower)
+    return made
+
+
+class Kept:
+    """The verdicts of a file KEPT, beside the keys that they must have."""
+
+    def __init__(self, path, kit, keys):
+        self.path, self.kit, self.keys = path, kit, keys
+        first, *lines = (read(path) if os.path.isfile(path) else "").split("\n")
+        self.of_other_kit = bool(first) and first != kit
+        self.lines = dict(it.split(" ", 1)[::-1] for it in lines if it)
+        self.current = {it for it, key in self.lines.items() if not self.of_other_kit and keys.get(it) == key}
+
+    def counts(self, names):
+        """How many lines of these edits are current, how many are not, and how many edits have none."""
+        current = sum(it in self.current for it in names)
+        stale = sum(it in self.lines and it not in self.current for it in names)
+        return current, stale, len(names) - current - stale
+
+    def share(self, found):
+        """The crates that are tried in any case, chosen by what stands in all of them: a tenth of the edits, or somewhat more."""
+        whole, chosen = sum_of(*(it for both in sorted(self.keys.items()) for it in both)), set()
+        for crate in sorted(found, key=lambda it: sum_of(whole, it)):
+            if sum(len(found[it]) for it in chosen) * SHARE >= sum(map(len, found.values())):
+                break
+            chosen.add(crate)
+        return chosen
+
+    def write(self, refused, tried):
+        """Keeps what was refused, and what stands there of others with its current key."""
+        names = {it for it in self.current if it not in tried} | {*refused}
+        with open(f"{self.path}.new", "w", encoding="utf-8") as file:
+            file.write(f"{self.kit}\n" + "".join(f"{self.keys[it]} {it}\n" for it in sorted(names)))
+        os.replace(f"{self.path}.new", self.path)

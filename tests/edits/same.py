@@ -1,0 +1,260 @@
+"""Whether an edit changes no value: `x & 1 == 1` and `x & 1 != 0` are the same whatever `x` is, and so are `!found` and `found == false`.
+
+The smallest expression that the edit changes is read as it was and as it is then. What is no operator and no number (a name, a field, a
+call) is a part of it that may have any value: both are computed at many values of these parts. A result below zero, and a division by
+zero, are faults. What can't be read so is taken for a change.
+"""
+import itertools
+import math
+import re
+
+TOKEN = re.compile(r"""b?"(?:[^"\\]|\\.)*"|b?'(?:\\[^']{1,8}|[^'\\])'|\d\w*(?:\.\d\w*)?|[A-Za-z_]\w*!?|'\w+
+    |<<=|>>=|\.\.=|\.\.\.|::|->|=>|==|!=|<=|>=|&&|\|\||<<|>>|\.\.|[-+*/%&|^]=|[^\s\w]""", re.X)
+OPENS, CLOSES = "([{", ")]}"
+# What an expression stands beside.
+EDGES = {";", ",", "=>", "=", "->", "let", "if", "while", "match", "return", "in", "else", "break", "{", "}"}
+ASSIGNS = {f"{it}=": it for it in ("+", "-", "*", "/", "%", "&", "|", "^", "<<", ">>")}
+LEVELS = [("..", "..="), ("||",), ("&&",), ("==", "!=", "<", ">", "<=", ">="), ("|",), ("^",), ("&",), ("<<", ">>"), ("+", "-"),
+          ("*", "/", "%")]
+NUMBER = re.compile(r"(0x[0-9a-fA-F_]+|0b[01_]+|\d[\d_]*)(?:[iu](?:8|16|32|64|128|size))?")
+WIDTHS = {"u8": 8, "u16": 16, "u32": 32, "u64": 64, "usize": 64, "u128": 128}
+COMPARES = {"==": "__eq__", "!=": "__ne__", "<": "__lt__", ">": "__gt__", "<=": "__le__", ">=": "__ge__"}
+
+
+class Unread(Exception):
+    """A text that is read no further."""
+
+
+class Fault(Exception):
+    """A value that there is not."""
+
+
+def edge(tokens, at, step):
+    """Where the expression ends that a place stands in, to the left (-1) or the right (1): the place beyond its last token."""
+    depth, opens, closes = 0, *((OPENS, CLOSES) if step > 0 else (CLOSES, OPENS))
+    while 0 <= at < len(tokens):
+        it = tokens[at]
+        if not depth and (it in EDGES or it in ASSIGNS and step < 0 or it in closes):
+            break
+        depth += (it in opens) - (it in closes)
+        at += step
+    return at
+
+
+def changed(was, now):
+    """The tokens of the smallest expression that is changed, as it was and as it is now, and what stands before it."""
+    old, new = TOKEN.findall(was), TOKEN.findall(now)
+    first = next((at for at, both in enumerate(zip(old, new)) if both[0] != both[1]), min(len(old), len(new)))
+    rest = old[first:], new[first:]
+    last = next((at for at, both in enumerate(zip(*map(reversed, rest))) if both[0] != both[1]), min(map(len, rest)))
+    left = edge(old, first - 1, -1) + 1
+    right = edge(old, len(old) - last, 1) - len(old)
+    if old[len(old) + right :][:1] == ["=>"] and old[left - 1] != "if":
+        raise Unread
+    return old[left : len(old) + right], new[left : len(new) + right], old[left - 1] if left else ""
+
+
+class Reader:
+    """Reads an expression of tokens into tuples: (operator, parts..), ("number", n), ("part", text)."""
+
+    def __init__(self, tokens):
+        self.tokens, self.at = tokens, 0
+
+    def here(self):
+        return self.tokens[self.at] if self.at < len(self.tokens) else ""
+
+    def next(self):
+        self.at += 1
+        return self.tokens[self.at - 1] if self.at <= len(self.tokens) else ""
+
+    def whole(self):
+        for at, it in enumerate(self.tokens):
+            if it == "=" or it in ASSIGNS:
+                place, value = self.tokens[:at], Reader(self.tokens[at + 1 :]).whole()
+                return ("=", " ".join(place), (ASSIGNS[it], Reader(place).whole(), value) if it in ASSIGNS else value)
+        found = self.level(0)
+        if self.at != len(self.tokens):
+            raise Unread
+        return found
+
+    def level(self, number):
+        if number == len(LEVELS):
+            return self.cast()
+        found = self.level(number + 1)
+        while self.here() in LEVELS[number]:
+            found = (self.next(), found, self.level(number + 1))
+            if found[0] == "|" and found[2][0] == "number":
+                # (what `matches!` has is a pattern)
+                raise Unread
+        return found
+
+    def cast(self):
+        found = self.unary()
+        while self.here() == "as":
+            self.next()
+            found = ("as", found, self.next())
+        return found
+
+    def unary(self):
+        it = self.here()
+        if it == "!":
+            self.next()
+            return ("!", self.unary())
+        if it in ("-", "*", "&"):
+            raise Unread
+        return self.postfix()
+
+    def group(self):
+        """The text of a group in brackets that begins here."""
+        start, depth = self.at, 0
+        while True:
+            it = self.next()
+            if not it:
+                raise Unread
+            depth += (it in OPENS) - (it in CLOSES)
+            if not depth:
+                return " ".join(self.tokens[start : self.at])
+
+    def postfix(self):
+        it = self.here()
+        if it == "(":
+            self.next()
+            found = self.level(0)
+            if self.next() != ")":
+                raise Unread
+        else:
+            it = self.next()
+            number = NUMBER.fullmatch(it)
+            if number:
+                found = ("number", int(number[1].replace("_", ""), 0) if number[1][:2] in ("0x", "0b") else int(number[1].replace("_", "")))
+            elif re.fullmatch(r"b'(\\?.)'", it):
+                found = ("part", it) if "\\" in it else ("number", ord(it[2]))
+            elif it in ("true", "false"):
+                found = ("truth", it == "true")
+            elif re.fullmatch(r"[A-Za-z_]\w*", it) and it not in ("move", "unsafe", "loop", "for", "mut", "ref", "as"):
+                found = ("part", it)
+            else:
+                raise Unread
+        while self.here() in (".", "::", "?", "(", "["):
+            text = found[1] if found[0] == "part" else repr(found)
+            it = self.here()
+            more = self.group() if it in "([" else self.next() + (self.next() if it != "?" else "")
+            found = ("part", f"{text}{more}")
+        return found
+
+
+def parts(tree):
+    """The parts of an expression that may have any value, as often as they stand there."""
+    if tree[0] == "part":
+        return [tree[1]]
+    return [name for it in tree[1:] if isinstance(it, tuple) for name in parts(it)]
+
+
+def numbers(tree):
+    if tree[0] == "number":
+        return [tree[1]]
+    return [number for it in tree[1:] if isinstance(it, tuple) for number in numbers(it)]
+
+
+def is_truth(tree, truths):
+    return tree[0] in ("truth", "!", "&&", "||", *COMPARES) or tree[0] == "part" and tree[1] in truths
+
+
+def truths(tree, wanted, found):
+    """Adds to what is found the parts that are true or false, of an expression that is one, or not."""
+    if tree[0] == "part" and wanted:
+        found.add(tree[1])
+    for it in tree[1:]:
+        if isinstance(it, tuple):
+            beside = tree[0] in ("==", "!=", "&", "|", "^") and any(is_truth(other, found) for other in tree[1:])
+            truths(it, tree[0] in ("&&", "||", "!") or beside or wanted and tree[0] in ("&", "|", "^"), found)
+
+
+def value(tree, given):
+    """What an expression is, at given values of its parts."""
+    kind = tree[0]
+    if kind in ("number", "truth"):
+        return tree[1]
+    if kind == "part":
+        return given[tree[1]]
+    if kind == "=":
+        return tree[1], value(tree[2], given)
+    first = value(tree[1], given)
+    if kind in ("&&", "||"):
+        return value(tree[2], given) if first == (kind == "&&") else first
+    if kind == "!":
+        if not isinstance(first, bool):
+            raise Unread
+        return not first
+    if kind == "as":
+        if tree[2] not in WIDTHS:
+            raise Unread
+        return int(first) % 2 ** WIDTHS[tree[2]]
+    return computed(kind, first, value(tree[2], given))
+
+
+def computed(kind, first, second):
+    if kind in COMPARES:
+        return getattr(int(first), COMPARES[kind])(int(second))
+    if kind in ("..", "..="):
+        return first, second + (kind == "..=")
+    if kind in ("&", "|", "^"):
+        return {"&": first & second, "|": first | second, "^": first ^ second}[kind]
+    if kind in "/%" and not second or kind == "-" and first < second or kind in ("<<", ">>") and second > 127:
+        raise Fault
+    return {"+": lambda: first + second, "-": lambda: first - second, "*": lambda: first * second, "/": lambda: first // second,
+            "%": lambda: first % second, "<<": lambda: first << second, ">>": lambda: first >> second}[kind]()
+
+
+def samples(names, flags, found):
+    """Values of at most three parts, at which two expressions are compared: all small ones, those about the numbers that stand there, and
+    others."""
+    near = {it + by for it in found for by in (-1, 0, 1)}
+    about = {one + sign * two + by for one in found | {0} for two in found | {0} for sign in (1, -1) for by in (-1, 0, 1)}
+    usual = {*range(12), *about, *(2**it + by for it in range(3, 66) for by in (-1, 0, 1)), *(ord(it) for it in "\t\r 09AFafz")}
+    chosen = sorted(it for it in (usual if len(names) < 3 else near | {*range(6)}) if it >= 0)
+    each = [[False, True] if it in flags else chosen for it in names]
+    if len(names) > 3 or math.prod(map(len, each)) > 200000:
+        raise Unread
+    yield from itertools.product(*each)
+    if len(names) == 1 and not flags:
+        yield from ([it] for it in range(70000))
+
+
+def apart(one, other):
+    """The smallest parts of two expressions in which they differ."""
+    if len(one) == len(other) == 3 and one[0] == other[0] and one[0] != "=":
+        for at, beside in ((1, 2), (2, 1)):
+            if one[beside] == other[beside] and isinstance(one[at], tuple):
+                return apart(one[at], other[at])
+    return one, other
+
+
+def result(tree, given):
+    try:
+        return value(tree, given)
+    except Fault:
+        return None
+
+
+def is_same(was, now):
+    """Whether the expression that differs between two texts has the same value in both."""
+    try:
+        *tokens, before = changed(was, now)
+        trees = [Reader(it).whole() for it in tokens]
+        flags = set()
+        calls = [sorted(name for name in parts(it) if "(" in name) for it in trees]
+        if calls[0] != calls[1]:
+            return False
+        for it in trees * 2:
+            truths(it, before in ("if", "while"), flags)
+        trees = apart(*trees)
+        names = sorted({name for it in trees for name in parts(it)})
+        found = {number for it in trees for number in numbers(it)}
+        for values in samples(names, flags, found):
+            given = dict(zip(names, values, strict=True))
+            if result(trees[0], given) != result(trees[1], given):
+                return False
+        return True
+    except (Unread, TypeError, IndexError, RecursionError, OverflowError):
+        return False
