@@ -606,13 +606,13 @@ class Interrupts(Launcher):
 
 class Shown(Launcher):
     def test_a_terminal_is_shown_which_of_how_many_crates_are_proved(self):
-        self.say("slow", "1.2")
+        self.say("slow", "2.5")
         out, shown = self.shown("a")
         self.assertEqual(out, "made of first, called with: a\n")
         first, _, rest = shown.partition("\r\n")
         self.assertEqual(first, "sf: proving and building the program here: about 12 minutes on 2 cores")
-        self.assertRegex(rest, r"\A\r\x1b\[Ksf: 0 of 4 crates done, proving (other, low|low, other) \(0:0\d\)\r")
-        self.assertRegex(rest, r"sf: 3 of 4 crates done, proving sf \(0:0\d\)\r")
+        self.assertRegex(rest, r"\A\r\x1b\[Ksf: 0 of 4 crates done, proving (other, low|low, other) \(0:\d\d\)\r")
+        self.assertRegex(rest, r"sf: 3 of 4 crates done, proving sf \(0:\d\d\)\r")
         self.assertTrue(rest.endswith("\r\x1b[Kan error text\r\n"), rest)
         self.assertEqual(rest.count("\n"), 1)
 
