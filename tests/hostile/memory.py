@@ -25,6 +25,7 @@ CALLS = [
     ("scan, 4096 directives", ["scan", "%*d" * 1365], b"1 " * 2730),
     ("lines", ["scan", "--lines", "%d"], b"1\n22\n333\n"),
     ("lines, texts of any length", ["scan", "--lines", "%s"], b"\n".join(b"b" * (1 << size) for size in range(20))),
+    ("lines, a text of 1,000,000 bytes", ["scan", "--lines", "%s"], b"1\n" + b"a" * 1000000 + b"\n2\n"),
     ("lines, two formats", ["scan", "--lines", "--output", "json", "-e", "%d%3s", "-e", "%s"], b"1ab\n22\nc\n" * 3000),
     ("lines, some of them told", ["scan", "--lines", "--keep-going", "%d"], b"1\nx\n" * 30),
     ("lines, many of them told", ["scan", "--lines", "--keep-going", "%d"], b"1\nx\n" * 40000),
@@ -93,6 +94,8 @@ def under(words, text):
     """A check of one call under each limit, and that more memory is never worse."""
     def check():
         ample = program.run(*words, stdin=text)
+        if ample[0] == 4:
+            return f"with ample memory: {shown(ample[2])}"
         enough = None
         for kilobytes in limits(words):
             got = within(kilobytes, words, text)

@@ -5,6 +5,7 @@
      FAIL_READ=N       the Nth read of standard input fails
      FAIL_WRITE=N      the Nth write to standard output fails
      FAIL_ERRNO=E      with this errno (that of an interrupted call, for one)
+     FAIL_TIMES=N      from that write on, N of them fail; else it alone
      SHORT=N           a read or write of these streams moves at most N bytes
      COUNTS=FILE       how many allocations, reads and writes there were is written there at the end */
 #define _GNU_SOURCE
@@ -18,7 +19,7 @@
 
 extern void *__libc_malloc(size_t), *__libc_realloc(void *, size_t);
 
-static long allocations, reads, writes, fail_alloc, fail_read, fail_write, fail_errno, most;
+static long allocations, reads, writes, fail_alloc, fail_read, fail_write, fail_errno, fail_times, most;
 static int fails_on, is_ready;
 
 static long number(const char *name)
@@ -35,6 +36,7 @@ __attribute__((constructor)) static void begin(void)
 	fail_read = number("FAIL_READ");
 	fail_write = number("FAIL_WRITE");
 	fail_errno = number("FAIL_ERRNO");
+	fail_times = getenv("FAIL_TIMES") ? number("FAIL_TIMES") : 1;
 	most = number("SHORT");
 	is_ready = 1;
 }
@@ -86,7 +88,8 @@ ssize_t __write(int handle, const void *from, size_t size)
 {
 	if (handle != 1)
 		return syscall(SYS_write, handle, from, size);
-	if (++writes == fail_write) {
+	writes++;
+	if (fail_write && writes >= fail_write && writes - fail_write < fail_times) {
 		errno = (int)fail_errno;
 		return -1;
 	}

@@ -124,6 +124,18 @@ def interrupted_writes(refusals, words, text):
     return check
 
 
+def often_interrupted_writes(refusals, words, text):
+    """A write that is interrupted some times is tried again until it goes."""
+    def check():
+        ample = program.run(*words, stdin=text)
+        for times in (1, 2, 3, 10, 1000):
+            fault = difference(refusals.run(words, text, FAIL_WRITE=1, FAIL_TIMES=times, FAIL_ERRNO=errno.EINTR), ample)
+            if fault:
+                return f"{times} times: {fault}"
+        return ""
+    return check
+
+
 def reads(refusals, words, text, lines, name=b"record"):
     """Each read of one byte fails in turn, or is interrupted: exactly the records that were whole by then are written."""
     def check():
@@ -147,6 +159,7 @@ def checks():
         yield f"{name}: short reads and writes", short(refusals, words, text)
         yield f"{name}: writes", writes(refusals, words, text)
         yield f"{name}: interrupted writes", interrupted_writes(refusals, words, text)
+        yield f"{name}: a write that is often interrupted", often_interrupted_writes(refusals, words, text)
     text = b" +7,ab\n08,c\n-12,zz\n"
     yield "scan: reads", reads(refusals, ["scan", "%d,%s%*1[\\n]"], text, [b'7 "ab"\n', b'8 "c"\n', b'-12 "zz"\n'])
     yield "scan by line: reads", reads(refusals, ["scan", "--line-buffered", "%d,%s%*1[\\n]"], text, [b'7 "ab"\n', b'8 "c"\n', b'-12 "zz"\n'])

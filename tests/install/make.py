@@ -18,6 +18,9 @@ FILES = {
     "share/fish/vendor_completions.d/sf.fish": 0o644,
 }
 
+# The variables of the Makefile that name a folder, and how the file that is put there ends.
+FOLDERS = {"BINDIR": "bin/sf", "MANDIR": "sf.1", "BASHDIR": "completions/sf", "ZSHDIR": "_sf", "FISHDIR": "sf.fish"}
+
 # Stands for the launcher: where there is no program it builds one, which says what it was called with.
 LAUNCHER = """#!/bin/sh
 if [ ! -x crates/sf/out/sf ]; then
@@ -83,6 +86,19 @@ class Make(Clone):
         self.make("install", f"DESTDIR={self.place}")
         self.assertEqual(found(self.place + "/usr/local"), FILES)
         self.assertEqual(os.listdir(self.place), ["usr"])
+
+    def test_each_folder_can_be_given(self):
+        """The file that it is for goes there, and the others stay where PREFIX has them."""
+        for name, file in FOLDERS.items():
+            with self.subTest(name):
+                words = [f"PREFIX={self.place}", f"{name}={self.place}/given"]
+                self.make("install", *words)
+                folder = os.path.dirname(next(it for it in FILES if it.endswith(file)))
+                given = "given/man1/" if name == "MANDIR" else "given/"
+                due = {it.replace(folder + "/", given): mode for it, mode in FILES.items()}
+                self.assertEqual(found(self.place), due)
+                self.make("uninstall", *words)
+                self.assertEqual(found(self.place), {})
 
     def test_a_package_has_its_zsh_completions_where_debian_looks(self):
         self.make("install", f"DESTDIR={self.place}", "PREFIX=/usr")

@@ -82,6 +82,23 @@ class Prebuilt(Packed):
             self.edit(file)
         self.expect("prebuilt")
 
+    def test_what_another_command_has_built_is_it_where_it_is_the_same(self):
+        """As the merge gate builds it, which makes the folder anew."""
+        self.command("xz", "#!/bin/sh\nexit 1\n")
+        self.put("prebuilt")
+        self.expect("prebuilt")
+        self.put("another")
+        self.expect("first", builds=1)
+
+    def test_an_edit_while_the_sum_is_made_is_built(self):
+        source = self.clone + "/crates/low/src/lib.rt"
+        os.rename(self.clone + "/prebuilt/sum", self.clone + "/prebuilt/sum itself")
+        write(self.clone + "/prebuilt/sum", f"#!/bin/sh\n\"$0 itself\" && printf second >'{source}'\n")
+        os.chmod(self.clone + "/prebuilt/sum", 0o755)
+        self.expect("prebuilt")
+        os.rename(self.clone + "/prebuilt/sum itself", self.clone + "/prebuilt/sum")
+        self.expect("second", builds=1)
+
     def test_an_edit_is_built_and_one_that_is_taken_back_is_not(self):
         self.expect("prebuilt")
         self.edit("low/src/lib.rt")
@@ -160,7 +177,6 @@ class Prebuilt(Packed):
         self.assertEqual(read(self.bin + "/unpacks"), "\n")
         self.expect_nothing_left()
 
-
     def test_in_a_folder_that_cannot_be_written_it_runs_too(self):
         self.without_rt()
         how = self.closed()
@@ -238,6 +254,8 @@ class Proved(Packed):
         self.edit("low/specs/Lib.antt")
         status, out, _ = self.ended(running)
         self.assertEqual((status, out.count("the sources have changed meanwhile")), (1, 1))
+        self.expect("first", builds=2)
+        self.expect("first", builds=2)
 
     def test_a_failing_build_is_a_fault(self):
         self.say("fails", "low")

@@ -5,7 +5,7 @@ import re
 import shutil
 import subprocess
 
-from launcher import PROGRAM, RT, SECONDS, read
+from launcher import PROGRAM, RT, SECONDS, read, write
 from launching import Packed
 
 
@@ -81,3 +81,10 @@ class Packing(Packed):
         os.makedirs(self.clone + "/crates/middle/out/incremental")
         self.packs()
         self.assertEqual(read(self.clone + "/prebuilt/SECONDS"), "# some figures\nother 0\nlow 1\nmiddle 300\nsf 0\n")
+
+    def test_a_figure_is_of_the_program_and_of_the_system(self):
+        """Both of its times, minutes and seconds, whatever the shell itself took."""
+        self.packs()
+        write(self.clone + "/crates/sf/out/build/low.times", "0m1.00s 0m2.00s\n1m2.34s 2m5.67s\n")
+        self.assertEqual((self.packs(), self.builds()), (0, 1))
+        self.assertIn("\nlow 188\n", read(self.clone + "/prebuilt/SECONDS"))

@@ -89,6 +89,22 @@ class Files(Streams):
         self.gives(3, b"1\n2\n3\n4\n5\n6\n", UNOPENED, "scan", "%d", "ab", "gone", "cd")
         self.gives(3, b"", UNOPENED + UNOPENED, "scan", "--lines", "--matching", "%d", "gone", "gone")
 
+    def test_a_name_without_a_byte_is_no_file(self):
+        """As that of a variable that isn't set; standard input isn't read in its place."""
+        for words in (("scan", "%d"), ("scan", "--lines", "%d"), ("copy", "%d;", "%11d;")):
+            with self.subTest(words):
+                self.gives(3, b"", b"sf: : can't be opened\n", *words, "", stdin=b"5\n")
+
+    def test_a_file_is_read_in_blocks(self):
+        """A read that asks for less than a packet loses the rest of it."""
+        ours, theirs = os.pipe2(os.O_DIRECT)
+        self.addCleanup(os.close, ours)
+        packets = [b"%04095d\n" % number for number in range(1, 9)]
+        for packet in packets:
+            os.write(theirs, packet)
+        os.close(theirs)
+        self.gives(0, b"1\n2\n3\n4\n5\n6\n7\n8\n", b"", "scan", "%d", "/dev/stdin", stdin=ours)
+
     def test_the_greatest_status_counts(self):
         said = b"sf: bad: record 2: matching failure at 1, used 1, assigned 0\n"
         self.gives(3, b"7\n", UNOPENED + said, "scan", "%d", "gone", "bad", "cd")

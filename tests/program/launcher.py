@@ -61,7 +61,7 @@ apart: low
 KIT = "kit-1 logic 12ab\n"
 
 # The commands of the system that the launcher uses.
-TOOLS = """awk cat chmod cmp cp date dirname find flock getconf grep head mkdir mkfifo mktemp mv nproc readlink rm
+TOOLS = """awk cat chmod cmp cp date dirname find flock getconf grep head ls mkdir mkfifo mktemp mv nproc readlink rm
     sed sh sha256sum sleep sort tail touch tr uname wc xargs xz""".split()
 
 
@@ -175,6 +175,20 @@ class Launcher(unittest.TestCase):
     def edit(self, file, text="second"):
         write(f"{self.clone}/crates/{file}", text)
 
+    def put(self, text):
+        """Puts a program of this text in its place, as another command than the launcher would."""
+        new = self.clone + "/crates/sf/out/new"
+        write(new, PROGRAM.replace("{text}", text))
+        os.chmod(new, 0o755)
+        os.rename(new, self.clone + "/crates/sf/out/sf")
+
+    def other_clone(self):
+        """Another clone, of other sources, of which nothing is built."""
+        other = self.room + "/another clone"
+        shutil.copytree(self.clone, other, ignore=shutil.ignore_patterns("out"))
+        write(other + "/crates/low/src/lib.rt", "second")
+        return other
+
     def wait_for(self, holds, why):
         for _ in range(SECONDS * 20):
             if holds():
@@ -213,7 +227,7 @@ class Launcher(unittest.TestCase):
 
     def expect_nothing_left(self):
         out = self.clone + "/crates/sf/out"
-        known = {"sf", "SUM", "build", "incremental", "rlib", "sf.stamp", "sf.began", "sf.begins"}
+        known = {"sf", "SUM", "build", "incremental", "rlib", "sf.stamp", "sf.began", "sf.begins", "sf.noted"}
         self.assertLessEqual(set(os.listdir(out) if os.path.exists(out) else ()), known)
         self.assertEqual(os.listdir(self.temporary), [])
 
@@ -344,14 +358,53 @@ class Builds(Launcher):
         self.edit("low/src/lib.rt", "first")
         self.expect("first", builds=1)
 
-    def test_it_runs_what_another_command_has_built(self):
-        """As the merge gate does, which makes the folder anew."""
+    def test_it_builds_anew_where_the_program_is_gone(self):
         self.expect("first", builds=1)
-        kept = self.clone + "/crates/sf/out/sf"
-        shutil.copy(kept, self.bin + "/sf")
-        shutil.rmtree(self.clone + "/crates/sf/out")
-        write(kept, "")
-        shutil.copy(self.bin + "/sf", kept)
+        os.remove(self.clone + "/crates/sf/out/sf")
+        self.expect("first", builds=2)
+        os.chmod(self.clone + "/crates/sf/out/sf", 0o644)
+        self.expect("first", builds=3)
+
+    def test_it_builds_anew_where_a_folder_can_not_be_looked_through(self):
+        self.expect("first", builds=1)
+        self.command("find", f"#!/bin/sh\n[ \"$2\" = -inum ] || exit 1\nexec {shutil.which('find')} \"$@\"\n")
+        self.expect("first", builds=2)
+
+    def test_a_program_that_was_put_there_is_not_run_unasked(self):
+        self.put("another")
+        self.expect("first", builds=1)
+        self.put("another")
+        self.expect("first", builds=2)
+        write(self.clone + "/crates/sf/out/sf", PROGRAM.replace("{text}", "another"))
+        self.expect("first", builds=3)
+        self.expect("first", builds=3)
+
+    def test_what_was_built_in_another_clone_is_not_run_unasked(self):
+        """However its folder was copied, and whatever times the copies have."""
+        other = self.other_clone()
+        self.expect("first", builds=1)
+        for option in ("-r", "-a"):
+            with self.subTest(option):
+                subprocess.run(["cp", option, self.clone + "/crates/sf/out", other + "/crates/sf"], check=True)
+                self.assertEqual(self.call(file=other + "/sf")[:2], (3, answer("second")))
+                shutil.rmtree(other + "/crates/sf/out")
+
+    def test_what_was_built_in_another_clone_of_these_sources_is_run(self):
+        self.edit("low/src/lib.rt")
+        other = self.other_clone()
+        self.expect("second", builds=1)
+        for option in ("-r", "-a"):
+            with self.subTest(option):
+                subprocess.run(["cp", option, self.clone + "/crates/sf/out", other + "/crates/sf"], check=True)
+                self.assertEqual(self.call(file=other + "/sf"), (3, answer("second"), "an error text\n"))
+                shutil.rmtree(other + "/crates/sf/out")
+        self.assertEqual(self.builds(), 1)
+
+    def test_it_runs_what_another_command_has_built_where_the_sum_has_it(self):
+        self.expect("first", builds=1)
+        self.put("first")
+        self.expect("first", builds=1)
+        os.remove(self.clone + "/crates/sf/out/sf.began")
         self.expect("first", builds=1)
         self.edit("low/src/lib.rt")
         self.expect("second", builds=2)
@@ -435,6 +488,10 @@ class WithoutWriting(Launcher):
         said = self.expect("first", "a", builds=1, **self.closed())
         self.assertRegex(said, r"\Asf: [^\n]*older than its source[^\n]*\n\Z")
 
+    def test_what_was_put_there_does_not_run(self):
+        self.put("another")
+        self.expect_fault("not built[^\n]*can't be written", **self.closed())
+
     def test_what_is_built_is_not_older_where_only_times_are_new(self):
         self.expect("first", builds=1)
         os.utime(self.clone + "/crates/low/src/lib.rt")
@@ -462,6 +519,11 @@ class Together(Launcher):
         self.assertEqual(self.ended(first)[:2], (3, answer("first", "a")))
         self.assertEqual(self.ended(second)[:2], (3, answer("first", "b")))
         self.assertEqual(self.builds(), 1)
+
+    def test_where_there_are_no_locks_it_works_too(self):
+        self.only_tools("flock")
+        self.expect("first", builds=1)
+        self.expect("first", builds=1)
 
     def test_an_interrupted_call_waits_no_longer(self):
         self.say("endless", "low")
@@ -544,13 +606,13 @@ class Interrupts(Launcher):
 
 class Shown(Launcher):
     def test_a_terminal_is_shown_which_of_how_many_crates_are_proved(self):
-        self.say("slow", "1.2")
+        self.say("slow", "2.5")
         out, shown = self.shown("a")
         self.assertEqual(out, "made of first, called with: a\n")
         first, _, rest = shown.partition("\r\n")
         self.assertEqual(first, "sf: proving and building the program here: about 12 minutes on 2 cores")
-        self.assertRegex(rest, r"\A\r\x1b\[Ksf: 0 of 4 crates done, proving (other, low|low, other) \(0:0\d\)\r")
-        self.assertRegex(rest, r"sf: 3 of 4 crates done, proving sf \(0:0\d\)\r")
+        self.assertRegex(rest, r"\A\r\x1b\[Ksf: 0 of 4 crates done, proving (other, low|low, other) \(0:\d\d\)\r")
+        self.assertRegex(rest, r"sf: 3 of 4 crates done, proving sf \(0:\d\d\)\r")
         self.assertTrue(rest.endswith("\r\x1b[Kan error text\r\n"), rest)
         self.assertEqual(rest.count("\n"), 1)
 

@@ -516,6 +516,13 @@ class Mistakes(unittest.TestCase):
                 self.assertTrue(said.endswith("\nFor more information, try '--help'.\n"))
                 self.assertEqual(in_pipe(words, b""), (status, said))
 
+    def test_a_number_that_is_too_small_is_blamed_whatever_its_first_digit(self):
+        for digit in range(1, 10):
+            for option, most in (("--limit <N>", "=2147483647"), ("--skip <N>", "9223372036854775807")):
+                said = f"error: invalid value '-{digit}' for '{option}': -{digit} is not in 0..{most}\n"
+                status, err = in_pipe(["scan", "--lines", option.split()[0], f"-{digit}", "%d"], b"")
+                self.assertEqual((status, err[: len(said)]), (2, said))
+
     def test_no_explain_on_a_terminal(self):
         for typed, *text, shown in RECORDS:
             words = shlex.split(typed)

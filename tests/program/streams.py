@@ -56,14 +56,14 @@ class Streams(unittest.TestCase):
         self.feed = lambda data: (running.stdin.write(data), running.stdin.flush())
         return running
 
-    def writes(self, *words, stdin):
+    def writes(self, *words, stdin, **how):
         """What each single write held. A pipe of packets keeps them apart."""
         ours, theirs = os.pipe2(os.O_DIRECT)
         try:
             fcntl.fcntl(theirs, fcntl.F_SETPIPE_SZ, 1 << 20)
-            status, _, err = program.run(*words, stdin=stdin, stdout=theirs)
+            status, _, err = program.run(*words, stdin=stdin, stdout=theirs, **how)
             os.close(theirs)
-            self.assertEqual((status, err), (0, b""))
+            self.assertEqual((status, err or b""), (0, b""))
             return list(iter(lambda: os.read(ours, 65536), b""))
         finally:
             os.close(ours)
@@ -264,6 +264,26 @@ class WhenItIsDue(Streams):
         written = self.writes("scan", "%d", stdin=b"7\n" * 20000)
         self.assertEqual(b"".join(written), b"7\n" * 20000)
         self.assertLess(len(written), 40)
+
+    def terminal(self):
+        """The two ends of a terminal; the second one is for a call."""
+        ends = pty.openpty()
+        for end in ends:
+            self.addCleanup(os.close, end)
+        return ends
+
+    def test_a_pipe_is_written_in_blocks_where_errors_go_to_a_terminal(self):
+        _, theirs = self.terminal()
+        self.assertEqual(self.writes("scan", "%d", stdin=b"7\n" * 100, stderr=theirs), [b"7\n" * 100])
+
+    def test_errors_in_a_pipe_have_no_notes_where_the_output_is_a_terminal(self):
+        ours, theirs = self.terminal()
+        for words in (("scan", "%d"), ("scan", "--lines", "%d,%d"), ("scan", "%q"), ("copy", "%d;", "%d;")):
+            with self.subTest(words):
+                status, _, err = program.run(*words, stdin=b"x\n", stdout=theirs)
+                self.assertEqual((status, err.count(b"\n")), (1 if words[1] in ("%d", "--lines") else 2, 1))
+        self.expect(1, None, FAILED, "scan", "%d", stdin=b"1\nx\n", stdout=theirs)
+        self.assertEqual(read_within(ours, program.SECONDS), b"1\r\n")
 
 
 class Input(Streams):
