@@ -85,13 +85,24 @@ def answers(lines, edit, names):
     return found, gone
 
 
+def joined(lines):
+    """The lines, each with those that go on with it."""
+    made = []
+    for line in lines:
+        if line.startswith("  ") and made:
+            made[-1] += f" {line.strip()}"
+        else:
+            made.append(line)
+    return made
+
+
 class Judged:
     """What a check says of an edit. `refused` is the line that refuses its function for what it means; `bad` says why its refusal shows
     nothing, and `said` what else the check says of it."""
 
     def __init__(self, said, edit, texts):
         self.refused = self.bad = None
-        names = edit.names()
+        said, names = joined(said), edit.names()
         hows = [(it[0][3:], it[2]) for it in map(FUNCTION.fullmatch, said) if it and names.fullmatch(it[1])]
         self.said = "; ".join(line for line, _ in hows)
         # (of a function whose name is not known: that of the type that is refused)

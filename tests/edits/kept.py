@@ -57,7 +57,8 @@ class Crate:
         if any("#[cycle(" in text for name, text in self.texts.items() if name.startswith("src/")):
             self.seen = self.whole
             return
-        self.seen = sum_of(line, *(it for name, text in self.texts.items() if not self.is_hidden(name) for it in (name, self.shown(name, text))))
+        seen = {name: self.shown(name, text) for name, text in self.texts.items() if not self.is_hidden(name)}
+        self.seen = sum_of(line, *(it for both in seen.items() for it in both))
 
     @staticmethod
     def is_hidden(name):
