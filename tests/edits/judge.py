@@ -23,6 +23,7 @@ FUNCTION = re.compile(r"fn (\S+): (.*)")
 DECLARATION = re.compile(r"`Rattle\.(\w+)\.proofs\.([^`]+)`")
 CALLED = re.compile(r"(?:calls|passes|a call of|the block|and) `([^`]+)`")
 ANSWER = re.compile(r"(?:\./)?(?:proofs|specs)/(\S+?)\.antt:\d+:\d+: error: (?:`([^`]+)`: )?(.*)")
+SPEC = re.compile(r"(?:\./)?(specs/\S+?):(\d+):\d+: error: ")
 GOAL = re.compile(r"note: (?:\./)?(src/\S+?):(\d+):\d+: .*\(`([^`]+)`\)")
 # Errors that say of a name that it isn't there, and errors that follow from others.
 GONE = re.compile(r"has no (?:field )?`|is not in scope|can be named from here")
@@ -85,6 +86,14 @@ def answers(lines, edit, names):
     return found, gone
 
 
+def written_wrong(lines, edit):
+    """The error by which the prover refuses the very lines of a definition that an edit writes, if there is one."""
+    file, at, _, new = edit.spans[0]
+    first = edit.texts[file][0].count("\n", 0, at) + 1
+    found = ((it, line) for line in lines for it in [SPEC.match(line)] if it)
+    return next((line for it, line in found if it[1] == file and first <= int(it[2]) <= first + new.count("\n")), None)
+
+
 def joined(lines):
     """The lines, each with those that go on with it."""
     made = []
@@ -118,9 +127,12 @@ class Judged:
         wanted = [it for it in signs if edit.asks_for(it.goal)]
         if gone and edit.place:
             # A goal that had no answer counts all the same, unless goals have other names than before, or what loops keep is not known.
-            wanted = [] if any(LOST.search(it) for it in gone) else [it for it in wanted if it in goals]
+            is_lost = any(LOST.search(it) for it in gone)
+            wanted = [it for it in wanted if it in goals and not is_lost and not any(f"`{it.goal}`" in line for line in gone)]
             signs, own = wanted, None
             self.bad = None if wanted else f"its proof cites what the edit renamed: {gone[0]}"
+        elif written_wrong(said, edit):
+            self.bad = f"it is no definition: {written_wrong(said, edit)}"
         elif gone and not refused:
             self.bad = f"its proof cites what the edit renamed: {gone[0]}"
         if self.bad:

@@ -194,9 +194,11 @@ def numbers(tree):
 
 
 def is_truth(tree, found):
-    if not isinstance(tree, tuple):
+    if not isinstance(tree, tuple) or tree[0] == "number":
         return False
-    return tree[0] in ("truth", "&&", "||", *COMPARES) or tree[0] == "!" and is_truth(tree[1], found) or tree[0] == "part" and tree[1] in found
+    if tree[0] in ("!", "part"):
+        return is_truth(tree[1], found) if tree[0] == "!" else tree[1] in found
+    return tree[0] in ("truth", "&&", "||", *COMPARES)
 
 
 def truths(tree, wanted, found):
