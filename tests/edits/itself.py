@@ -4,10 +4,12 @@ The crate is taken as `rt ci` leaves one: proved, with nothing kept of its proof
 """
 import os
 
+import itself_kept
 import kit
 from edit import edits_in
 from judge import is_own
 from rounds import Tries
+from same import is_same
 
 SOURCE = """//! Numbers that follow one another.
 #![tactic(auto)]
@@ -44,7 +46,7 @@ pub fn third(n: u8) -> u8
 """
 
 STEPS = """//! Steps of a width.
-ghost use Rattle.std.specs.Prelude.{◌≡◌};
+ghost use Rattle.std.specs.Prelude.{◌≡◌, ◌≤◌};
 
 /// The widest step.
 pub const WIDEST: u8 = 9;
@@ -93,6 +95,17 @@ impl Wide for u8 {
     }
 }
 
+/// The number, or the greatest that is let through.
+pub fn bounded(n: u8) -> u8
+    ensures within { result ≤ 10 }
+    ensures own { result ≤ n }
+{
+    if n > 10 {
+        return 10;
+    }
+    n
+}
+
 /// The widths of what is not shown.
 pub mod hidden {
     /// The width of a hidden step.
@@ -102,6 +115,20 @@ pub mod hidden {
         1 + 2
     }
 }
+"""
+
+# A proof file whose answers cite names that the kit makes of the source text.
+ANSWERS = """use Rattle.std.proofs.Common.{◌≤◌, arith}
+use Rattle.low.proofs.steps.bounded.Goals as goal
+
+pub returns-then-n-gt10-clause-own : goal.returns-then-n-gt10-clause-own
+returns-then-n-gt10-clause-own c = omega (arith, c.if-n-gt10.true)
+
+pub returns-then-n-gt10-clause-within : goal.returns-then-n-gt10-clause-within
+returns-then-n-gt10-clause-within c = omega (arith, c.if-n-gt10.true)
+
+pub returns-clause-within : goal.returns-clause-within
+returns-clause-within c = omega (arith, c.if-n-gt10.false)
 """
 
 # Each edit, and how what is said of it must begin. `same` is harmless, in a caller of what `twice` makes wrong. Of the three functions
@@ -124,6 +151,37 @@ EDITS = {
     "steps.widest.judged_by_another": ("old: u8 = 9;\nnew: u8 = 8;\nby: steps::Step::size", "NOT REFUSED by"),
     "steps.widest.judged_by_none": ("old: u8 = 9;\nnew: u8 = 8;\nby: steps::narrowest", "NOT REFUSED by"),
 }
+
+# Of a function whose proof cites names of the source text. A harmless edit must not count as refused.
+EDITS |= {
+    f"steps.bounded.{name}": (f"in: bounded\n{lines}", wanted)
+    for name, lines, wanted in (
+        ("eleven", "old: return 10;\nnew: return 11;\nopen: within", "low::steps::bounded: "),
+        ("eleven_for_another", "old: return 10;\nnew: return 11;\nopen: own", "NOT REFUSED for own"),
+        ("eleven_for_a_misspelled", "old: return 10;\nnew: return 11;\nopne: within", "BAD EDIT: it has a line of no known kind"),
+        ("ten_by_name", "old: return 10;\nnew: let ten = 10; return ten;", "NOT REFUSED"),
+        ("test_by_name", "old: if n > 10 {\nnew: let is_more = n > 10; if is_more {", "BAD EDIT: its proof cites what the edit renamed"),
+        ("eleven_passes", "old: if n > 10 {\nnew: if n > 11 {", "BAD EDIT: its proof cites what the edit renamed"),
+        ("same_value", "old: if n > 10 {\nnew: if !(n < 11) {", "BAD EDIT: it changes no value"),
+    )
+}
+
+# Two expressions, and whether they are the same whatever their parts are.
+SAME = (
+    ("x & 1 == 1", "x & 1 != 0", True),
+    ("x & 1 == 1", "x & 1 == 0", False),
+    ("!found(b)", "found(b) == false", True),
+    ("a.min(64)", "a.min(64).min(64)", True),
+    ("a.min(64)", "a.min(63)", False),
+    ("lanes.simd_lt(u8x16::splat(5))", "lanes.simd_le(u8x16::splat(4))", True),
+    ("9 <= b && b <= 13", "(9..=13).contains(&b)", True),
+    ("9 <= b && b <= 13", "(9..13).contains(&b)", False),
+    ("words | (upto & !below)", "(upto & !below) | words", True),
+    ("x + 993 >= 100000", "x + 994 >= 100000", False),
+    ("a - b >= c", "a >= b + c", False),
+    ("first(a) + second(b)", "second(b) + first(a)", True),
+    ("number.max(0)", "number", False),
+)
 
 # What is said of the function `low::next`, and whether it is refused by that for its own proof.
 SAID = {
@@ -149,6 +207,7 @@ def made_up(root):
     written(f"{root}/crates.txt", "low:\n")
     written(f"{root}/crates/low/src/lib.rt", SOURCE)
     written(f"{root}/crates/low/src/steps.rt", STEPS)
+    written(f"{root}/crates/low/proofs/steps/bounded/Answers.antt", ANSWERS)
     for module in ("lib", "steps"):
         own = [f"\nedit: {name.partition('.')[2]}\n{lines}\n" for name, (lines, _) in EDITS.items() if name.startswith(f"{module}.")]
         written(f"{root}/{module}.edits", f"file: src/{module}.rt\n{''.join(own)}")
@@ -174,8 +233,13 @@ def tried(room, with_prover=True, by_command=False):
         if not found.startswith(wanted) or (edit in refused) != wanted.startswith(("low::", "alone: ")):
             failed += 1
             print(f"the runner itself: {name}: wanted {wanted}.., found: {found[:200]}")
+    for was, now, wanted in SAME:
+        if is_same(f"{{ if {was} {{ }} }}", f"{{ if {now} {{ }} }}") != wanted:
+            failed += 1
+            print(f"the runner itself: wanted {wanted} of {was} and {now}")
+    passed, more = itself_kept.tried(f"{root}/kept", SOURCE, STEPS, ANSWERS)
     for how, wanted in SAID.items():
         if is_own(how, edits["lib.next.twice"].names()) != wanted:
             failed += 1
             print(f"the runner itself: wanted {wanted} of what is said: {how}")
-    return len(judged) + len(SAID) - failed, failed
+    return len(judged) + len(SAID) + len(SAME) - failed + passed, failed + more

@@ -23,6 +23,7 @@ FUNCTION = re.compile(r"fn (\S+): (.*)")
 DECLARATION = re.compile(r"`Rattle\.(\w+)\.proofs\.([^`]+)`")
 CALLED = re.compile(r"(?:calls|passes|a call of|the block|and) `([^`]+)`")
 ANSWER = re.compile(r"(?:\./)?(?:proofs|specs)/(\S+?)\.antt:\d+:\d+: error: (?:`([^`]+)`: )?(.*)")
+SPEC = re.compile(r"(?:\./)?(specs/\S+?):(\d+):\d+: error: ")
 GOAL = re.compile(r"note: (?:\./)?(src/\S+?):(\d+):\d+: .*\(`([^`]+)`\)")
 # Errors that say of a name that it isn't there, and errors that follow from others.
 GONE = re.compile(r"has no (?:field )?`|is not in scope|can be named from here")
@@ -85,13 +86,32 @@ def answers(lines, edit, names):
     return found, gone
 
 
+def written_wrong(lines, edit):
+    """The error by which the prover refuses the very lines of a definition that an edit writes, if there is one."""
+    file, at, _, new = edit.spans[0]
+    first = edit.texts[file][0].count("\n", 0, at) + 1
+    found = ((it, line) for line in lines for it in [SPEC.match(line)] if it)
+    return next((line for it, line in found if it[1] == file and first <= int(it[2]) <= first + new.count("\n")), None)
+
+
+def joined(lines):
+    """The lines, each with those that go on with it."""
+    made = []
+    for line in lines:
+        if line.startswith("  ") and made:
+            made[-1] += f" {line.strip()}"
+        else:
+            made.append(line)
+    return made
+
+
 class Judged:
     """What a check says of an edit. `refused` is the line that refuses its function for what it means; `bad` says why its refusal shows
     nothing, and `said` what else the check says of it."""
 
     def __init__(self, said, edit, texts):
         self.refused = self.bad = None
-        names = edit.names()
+        said, names = joined(said), edit.names()
         hows = [(it[0][3:], it[2]) for it in map(FUNCTION.fullmatch, said) if it and names.fullmatch(it[1])]
         self.said = "; ".join(line for line, _ in hows)
         # (of a function whose name is not known: that of the type that is refused)
@@ -107,9 +127,12 @@ class Judged:
         wanted = [it for it in signs if edit.asks_for(it.goal)]
         if gone and edit.place:
             # A goal that had no answer counts all the same, unless goals have other names than before, or what loops keep is not known.
-            wanted = [] if any(LOST.search(it) for it in gone) else [it for it in wanted if it in goals]
+            is_lost = any(LOST.search(it) for it in gone)
+            wanted = [it for it in wanted if it in goals and not is_lost and not any(f"`{it.goal}`" in line for line in gone)]
             signs, own = wanted, None
             self.bad = None if wanted else f"its proof cites what the edit renamed: {gone[0]}"
+        elif written_wrong(said, edit):
+            self.bad = f"it is no definition: {written_wrong(said, edit)}"
         elif gone and not refused:
             self.bad = f"its proof cites what the edit renamed: {gone[0]}"
         if self.bad:

@@ -22,6 +22,9 @@ from edit import NO_CODE, bodies, read
 
 # The files that judge; the others print, keep and try the runner.
 JUDGES = ("edit.py", "same.py", "judge.py", "rounds.py", "kit.py")
+# Those that try the runner, and keep.
+OWN = ("itself.py", "itself_kept.py", "kept.py")
+# One edit in so many is tried though its verdict is kept.
 SHARE = 10
 OF_A_FUNCTION = ("Answers.antt", "Invariants.antt")
 ITSELF = "itself"
@@ -57,7 +60,8 @@ class Crate:
         if any("#[cycle(" in text for name, text in self.texts.items() if name.startswith("src/")):
             self.seen = self.whole
             return
-        self.seen = sum_of(line, *(it for name, text in self.texts.items() if not self.is_hidden(name) for it in (name, self.shown(name, text))))
+        seen = {name: self.shown(name, text) for name, text in self.texts.items() if not self.is_hidden(name)}
+        self.seen = sum_of(line, *(it for both in seen.items() for it in both))
 
     @staticmethod
     def is_hidden(name):
@@ -76,14 +80,21 @@ class Crate:
         return [without_comments(body), *proof]
 
 
-def keys(root, below, found):
+HERE = os.path.dirname(os.path.abspath(__file__))
+
+
+def runner(files):
+    """The sum of some files of the runner."""
+    return sum_of(*(read(f"{HERE}/{it}") for it in files))
+
+
+def keys(root, below, found, judges=None):
     """The key of each edit that can be applied, by its name; `below` has the crates below each crate, and `found` its edits."""
-    here = os.path.dirname(os.path.abspath(__file__))
+    judges = judges or runner(JUDGES)
     listed = (it.partition("#")[0].strip() for it in read(f"{root}/crates.txt").split("\n"))
     lines = {re.split(r"[ :]", it)[0]: it for it in listed if it}
     crate = functools.lru_cache(maxsize=None)(lambda name: Crate(f"{root}/crates/{name}", lines[name]))
-    judges = sum_of(*(read(f"{here}/{it}") for it in JUDGES))
-    made = {ITSELF: sum_of(judges, *(read(f"{here}/{it}") for it in ("itself.py", "kept.py")))}
+    made = {ITSELF: sum_of(judges, runner(OWN))}
     for name, edits in found.items():
         lower = [it for one in sorted(below[name]) for it in (one, crate(one).seen)]
         for edit in edits:
@@ -119,8 +130,8 @@ class Kept:
         return chosen
 
     def write(self, refused, tried):
-        """Keeps what was refused, and what stands there of others with its current key."""
-        names = {it for it in self.current if it not in tried} | {*refused}
+        """Keeps what was refused, and what stands there by now of others with its current key."""
+        names = {it for it in Kept(self.path, self.kit, self.keys).current if it not in tried} | {*refused}
         with open(f"{self.path}.new", "w", encoding="utf-8") as file:
             file.write(f"{self.kit}\n" + "".join(f"{self.keys[it]} {it}\n" for it in sorted(names)))
         os.replace(f"{self.path}.new", self.path)

@@ -123,7 +123,7 @@ class ByCommand:
 
 
 def remembered(method):
-    """A method of a crate that answers at once what it answered before: the sources of a clone stay as they are while its edits are tried."""
+    """A method of a crate that answers at once what it answered before: a clone's sources stay as they are while its edits are tried."""
     answers = {}
 
     def call(crate):

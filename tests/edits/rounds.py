@@ -77,7 +77,7 @@ class Tries:
 
     @contextlib.contextmanager
     def over(self):
-        """A copy of the kept work, so that it stays as it is; where there was none, the work itself, to which a check adds what it proves."""
+        """A copy of the kept work, so that it stays as it is. Where there was none: the work itself, to which a check adds its proofs."""
         if not self.is_whole and not self.has_kept:
             yield self.kept
             return

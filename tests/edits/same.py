@@ -18,6 +18,10 @@ LEVELS = [("..", "..="), ("||",), ("&&",), ("==", "!=", "<", ">", "<=", ">="), (
           ("*", "/", "%")]
 NUMBER = re.compile(r"(0x[0-9a-fA-F_]+|0b[01_]+|\d[\d_]*)(?:[iu](?:8|16|32|64|128|size))?")
 WIDTHS = {"u8": 8, "u16": 16, "u32": 32, "u64": 64, "usize": 64, "u128": 128}
+LANES = {"simd_lt": "<", "simd_le": "<=", "simd_gt": ">", "simd_ge": ">=", "simd_eq": "==", "simd_ne": "!="}
+# What has the same value as another call of the same thing: `x.is_none()` as `!x.is_some()`.
+TURNED = {"is_none": "is_some", "is_err": "is_ok"}
+MOST = 2**64 - 1
 COMPARES = {"==": "__eq__", "!=": "__ne__", "<": "__lt__", ">": "__gt__", "<=": "__le__", ">=": "__ge__"}
 
 
@@ -29,9 +33,10 @@ class Fault(Exception):
     """A value that there is not."""
 
 
-def edge(tokens, at, step):
-    """Where the expression ends that a place stands in, to the left (-1) or the right (1): the place beyond its last token."""
-    depth, opens, closes = 0, *((OPENS, CLOSES) if step > 0 else (CLOSES, OPENS))
+def edge(tokens, at, step, depth):
+    """Where the expression ends that a place stands in, so many brackets deep: the place beyond its last token to the left (-1) or the
+    right (1)."""
+    opens, closes = (OPENS, CLOSES) if step > 0 else (CLOSES, OPENS)
     while 0 <= at < len(tokens):
         it = tokens[at]
         if not depth and (it in EDGES or it in ASSIGNS and step < 0 or it in closes):
@@ -47,8 +52,11 @@ def changed(was, now):
     first = next((at for at, both in enumerate(zip(old, new)) if both[0] != both[1]), min(len(old), len(new)))
     rest = old[first:], new[first:]
     last = next((at for at, both in enumerate(zip(*map(reversed, rest))) if both[0] != both[1]), min(map(len, rest)))
-    left = edge(old, first - 1, -1) + 1
-    right = edge(old, len(old) - last, 1) - len(old)
+    deep = {sum((it in OPENS) - (it in CLOSES) for it in text[first : len(text) - last]) for text in (old, new)}
+    if len(deep) > 1:
+        raise Unread
+    left = edge(old, first - 1, -1, max(0, -min(deep))) + 1
+    right = edge(old, len(old) - last, 1, max(0, min(deep))) - len(old)
     if old[len(old) + right :][:1] == ["=>"] and old[left - 1] != "if":
         raise Unread
     return old[left : len(old) + right], new[left : len(new) + right], old[left - 1] if left else ""
@@ -136,11 +144,40 @@ class Reader:
             else:
                 raise Unread
         while self.here() in (".", "::", "?", "(", "["):
+            known = self.known(found)
+            if known:
+                found = known
+                continue
             text = found[1] if found[0] == "part" else repr(found)
             it = self.here()
             more = self.group() if it in "([" else self.next() + (self.next() if it != "?" else "")
             found = ("part", f"{text}{more}")
         return found
+
+
+    def known(self, found):
+        """The call of a function of which it is known what it computes, where one begins here: of `found`, or with it as its name."""
+        start, name = self.at, found[1] if self.here() == "(" and found[0] == "part" else ""
+        if self.here() == "." and self.tokens[self.at + 2 : self.at + 3] == ["("]:
+            name = f".{self.tokens[self.at + 1]}"
+            self.at += 2
+        if name.endswith("::splat") or name in (".min", ".max", ".saturating_sub", ".contains") or name[1:] in LANES:
+            inside = self.group().split(" ")[1:-1]
+            if name == ".contains" and found[0] in ("..", "..=") and inside[:1] == ["&"]:
+                value = Reader(inside[1:]).whole()
+                return ("&&", (">=", value, found[1]), ("<" if found[0] == ".." else "<=", value, found[2]))
+            if name != ".contains":
+                value = Reader(inside).whole()
+                if value == ("number", 0):
+                    # (numbers are at least 0 here: whoever asks for that has others)
+                    raise Unread
+                return (LANES.get(name[1:], name), found, value) if name.startswith(".") else value
+        elif name[1:] in TURNED and self.group() == "( )":
+            return ("!", ("part", f"{found[1] if found[0] == 'part' else repr(found)}.{TURNED[name[1:]]}( )"))
+        elif name == ".is_empty" and self.group() == "( )":
+            return ("==", ("part", f"{found[1] if found[0] == 'part' else repr(found)}.len( )"), ("number", 0))
+        self.at = start
+        return None
 
 
 def parts(tree):
@@ -156,18 +193,22 @@ def numbers(tree):
     return [number for it in tree[1:] if isinstance(it, tuple) for number in numbers(it)]
 
 
-def is_truth(tree, truths):
-    return tree[0] in ("truth", "!", "&&", "||", *COMPARES) or tree[0] == "part" and tree[1] in truths
+def is_truth(tree, found):
+    if not isinstance(tree, tuple) or tree[0] == "number":
+        return False
+    if tree[0] in ("!", "part"):
+        return is_truth(tree[1], found) if tree[0] == "!" else tree[1] in found
+    return tree[0] in ("truth", "&&", "||", *COMPARES)
 
 
 def truths(tree, wanted, found):
     """Adds to what is found the parts that are true or false, of an expression that is one, or not."""
-    if tree[0] == "part" and wanted:
+    if tree[0] == "part" and (wanted or re.search(r"\.is_(?:some|ok)\( \)$", tree[1])):
         found.add(tree[1])
     for it in tree[1:]:
         if isinstance(it, tuple):
             beside = tree[0] in ("==", "!=", "&", "|", "^") and any(is_truth(other, found) for other in tree[1:])
-            truths(it, tree[0] in ("&&", "||", "!") or beside or wanted and tree[0] in ("&", "|", "^"), found)
+            truths(it, tree[0] in ("&&", "||") or beside or wanted and tree[0] in ("&", "|", "^", "!"), found)
 
 
 def value(tree, given):
@@ -183,9 +224,9 @@ def value(tree, given):
     if kind in ("&&", "||"):
         return value(tree[2], given) if first == (kind == "&&") else first
     if kind == "!":
-        if not isinstance(first, bool):
-            raise Unread
-        return not first
+        if not isinstance(first, bool) and first > MOST:
+            raise Fault
+        return not first if isinstance(first, bool) else MOST - first
     if kind == "as":
         if tree[2] not in WIDTHS:
             raise Unread
@@ -198,6 +239,8 @@ def computed(kind, first, second):
         return getattr(int(first), COMPARES[kind])(int(second))
     if kind in ("..", "..="):
         return first, second + (kind == "..=")
+    if kind.startswith("."):
+        return {".min": min(first, second), ".max": max(first, second), ".saturating_sub": max(0, first - second)}[kind]
     if kind in ("&", "|", "^"):
         return {"&": first & second, "|": first | second, "^": first ^ second}[kind]
     if kind in "/%" and not second or kind == "-" and first < second or kind in ("<<", ">>") and second > 127:
@@ -237,6 +280,18 @@ def result(tree, given):
         return None
 
 
+def is_equal(trees, flags):
+    """Whether two expressions have the same value at all samples. Of three parts these are few, so that they must be all that differs."""
+    names = sorted({name for it in trees for name in parts(it)})
+    if len(names) > 2 and apart(*trees) != tuple(trees):
+        return False
+    for values in samples(names, flags, {number for it in trees for number in numbers(it)}):
+        given = dict(zip(names, values, strict=True))
+        if result(trees[0], given) != result(trees[1], given):
+            return False
+    return True
+
+
 def is_same(was, now):
     """Whether the expression that differs between two texts has the same value in both."""
     try:
@@ -248,13 +303,6 @@ def is_same(was, now):
             return False
         for it in trees * 2:
             truths(it, before in ("if", "while"), flags)
-        trees = apart(*trees)
-        names = sorted({name for it in trees for name in parts(it)})
-        found = {number for it in trees for number in numbers(it)}
-        for values in samples(names, flags, found):
-            given = dict(zip(names, values, strict=True))
-            if result(trees[0], given) != result(trees[1], given):
-                return False
-        return True
+        return any(is_equal(both, flags) for both in {apart(*trees), tuple(trees)})
     except (Unread, TypeError, IndexError, RecursionError, OverflowError):
         return False
