@@ -33,7 +33,7 @@ def tests_of(suite):
 
 def name_of(test):
     """The name of a test method, of whichever of its lines."""
-    return str(test).split(" [")[0].split(": ")[0]
+    return getattr(test, "test_case", test).id()
 
 
 def of_modules(names, is_chosen=lambda name: True):

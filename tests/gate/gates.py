@@ -42,6 +42,15 @@ class Gate(Clone):
                 self.assertRegex(lines[-1], r"^\d+ passed, 1 failed, 0 skipped$")
                 self.says(name, "3 passed, 0 failed")
 
+    def test_texts_that_fail_end_it_before_the_program_is_tested(self):
+        self.says("library", "not so: a page", "2 passed, 1 failed", status=1)
+        self.assertEqual((self.ran("--prove")[0], self.calls("program"), self.calls("edits")), (1, [], ["--list"]))
+
+    def test_a_row_that_may_not_be_passed_over_ends_it_too(self):
+        self.says("program", "passed over: a row: it is late", "2 passed, 0 failed, 1 skipped")
+        status, lines = self.ran("--prove")
+        self.assertEqual((status, self.calls("rt"), lines[-1].split(", ")[1:]), (1, [], ["1 failed", "1 skipped"]))
+
     def test_it_goes_on_where_that_is_asked_for_and_forgets_no_failure(self):
         self.says("library", "2 passed, 1 failed", status=1)
         self.expect(1, "41 passed, 1 failed, 0 skipped", "--prove", "--keep-going")
@@ -53,6 +62,17 @@ class Gate(Clone):
         self.assertEqual((status, self.calls("rt"), self.calls("program")), (1, [], []))
         self.assertEqual(self.ran("--prove", "--keep-going")[0], 1)
         self.assertEqual((self.calls("rt"), self.calls("program")), (["ci"], ["--sf crates/sf/out/sf"]))
+
+    def test_a_prebuilt_program_that_is_damaged_or_gone_ends_it_too(self):
+        self.write("prebuilt/sf-x86_64-linux.xz", b"no archive")
+        self.assertEqual((self.ran("--prove")[0], self.calls("rt")), (1, []))
+        for name in ("sf-x86_64-linux.xz", "SUM"):
+            os.remove(f"{self.clone}/prebuilt/{name}")
+            self.assertEqual((self.ran("--prove")[0], self.calls("rt")), (1, []))
+
+    def test_a_test_that_is_gone_has_failed(self):
+        os.remove(self.clone + "/tests/library/run")
+        self.assertEqual((self.ran("--prove")[0], self.calls("rt")), (1, []))
 
     def test_a_sum_that_can_not_be_made_is_of_no_sources(self):
         written(self.clone + "/prebuilt/sum", "exit 1")

@@ -18,7 +18,10 @@ LACKING = re.compile(r"\bno ([\w-]+)")
 SECONDS = 600
 
 # What no package brings, and the gate passes over where it is so. Else nothing may be passed over there.
-ALLOWED = re.compile(r"the prebuilt program was built with (?P<theirs>.+), and the kit here is (?!none\b|(?P=theirs)$).+|no disk may be mounted here")
+ALLOWED = re.compile(
+    r"the prebuilt program was built with (?P<theirs>.+), and the kit here is (?!none\b|(?P=theirs)$).+|"
+    r"no disk may be mounted here"
+)
 
 
 def packages_of(tools):
@@ -27,8 +30,9 @@ def packages_of(tools):
 
 
 def lacking_in(why):
-    """The tools that a reason names as missing: "there is no make or no xz"."""
-    return [it for it in LACKING.findall(why) if it in PACKAGES or it == "rt"]
+    """The tools that a reason names as missing: "there is no make or no xz", "the kit here is none"."""
+    named = LACKING.findall(why.replace("the kit here is none", "there is no rt"))
+    return [it for it in named if it in PACKAGES or it == "rt"]
 
 
 def remedy(why):

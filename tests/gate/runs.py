@@ -184,10 +184,11 @@ class Run:
                 yield name, count, rows[0][1] if len(rows) == 1 else f"{count} rows", why
 
     def forbid(self):
-        """What the gate passed over, and may not, has failed."""
+        """What the gate passed over, and may not, has failed. It may be called as often as is wanted."""
         for name, count, what, why in list(self.over()):
-            if not needs.is_allowed(why):
-                self.outcomes[name].insert(0, Outcome(failed=count, complaints=[f"the gate may not pass over {what}: {why}"]))
+            complaint = f"the gate may not pass over {what}: {why}"
+            if not needs.is_allowed(why) and all(complaint not in it.complaints for it in self.outcomes[name]):
+                self.outcomes[name].insert(0, Outcome(failed=count, complaints=[complaint]))
 
     def print(self, ending):
         """The report. Its last line has the counts; answers the exit status."""
