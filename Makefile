@@ -2,6 +2,7 @@
 # make install [PREFIX=/usr/local] [DESTDIR=]    the program, its man page and its completions
 # make uninstall                                 takes them away again
 # make dist                                      dist/sf-VERSION-x86_64-linux.tar.xz, which holds all of that
+# make check                                     tests the program and the pages (./test)
 # make prebuilt                                  proves and builds the program here, and packs it in prebuilt/
 #
 # The program is the one that ./sf runs: the prebuilt one, or one that is proved and built first, by the kit's rt.
@@ -55,7 +56,10 @@ dist:
 	xz -9e -T1 -f "$(STAGE).tar"
 	rm -rf "$(STAGE)"
 
+check:
+	./test
+
 prebuilt:
 	prebuilt/pack
 
-.PHONY: all install uninstall dist prebuilt
+.PHONY: all install uninstall dist check prebuilt

@@ -1,6 +1,12 @@
 # Completions of sf for fish.
 
-# Whether the line has a command yet, and whether it is one of these.
+# Whether the word before is one of these options, after which a value stands.
+function __sf_is_after
+    set -l words (commandline -opc)
+    contains -- "$words[-1]" $argv
+end
+
+# Whether the line has a command yet, and whether it is one of these. After an option that takes a value no option stands.
 function __sf_has_no_command
     test (count (commandline -opc)) -eq 1
 end
@@ -8,6 +14,7 @@ end
 function __sf_has_command
     set -l words (commandline -opc)
     contains -- "$words[2]" $argv
+    and not __sf_is_after --limit -p --profile -o --output --print --names -e -s --skip --ignore --width
 end
 
 function __sf_is_after_help
@@ -45,3 +52,5 @@ complete -c sf -n '__sf_has_command print' -l raw -d 'Take the values without es
 complete -c sf -n '__sf_has_command check' -l width -x -d 'The width of texts'
 complete -c sf -n '__sf_has_command show scan print check copy' -l explain -d 'Say more of what is at fault'
 complete -c sf -n '__sf_has_command show scan print check copy' -l no-explain -d 'Say no more than the first line'
+complete -c sf -n '__sf_is_after -p --profile' -a '1 2 3'
+complete -c sf -n '__sf_is_after -o --output' -a 'plain tsv json csv'

@@ -8,6 +8,7 @@ import os
 import shutil
 import subprocess
 import tempfile
+from unittest import SkipTest
 
 import program
 from answers import WRITE_FAULT, difference, shown
@@ -125,7 +126,7 @@ def on_small_disk():
     """The output on a disk that takes some 16 KiB: what is there is a front, and if it isn't all, the status tells it."""
     with small_disk(16) as folder:
         if folder is None:
-            return ""
+            raise SkipTest("no disk may be mounted here")
         for name, words, text, want in CALLS:
             path = os.path.join(folder, "output")
             with open(path, "wb") as file:

@@ -8,9 +8,11 @@ import errno
 import os
 import pty
 import shlex
+import shutil
 import subprocess
 import tempfile
 import unittest
+import unittest.mock
 
 import program
 
@@ -452,6 +454,8 @@ error: invalid value 'xml' for '--output <FORM>'
 )
 
 
+NOBODY = 65534
+
 # What the system says, in the C library's own words.
 FULL, FOLDER, GONE, DENIED, LONG = (
     f"  {os.strerror(number)}\n" for number in (errno.ENOSPC, errno.EISDIR, errno.ENOENT, errno.EACCES, errno.ENAMETOOLONG)
@@ -565,11 +569,14 @@ class Mistakes(unittest.TestCase):
         both = f"sf: /gone: can't be opened\n{GONE}sf: /lost: can't be opened\n{GONE}"
         self.assertEqual(on_terminal(["scan", "%d", "/gone", "-", "/lost"], b"1\n"), (3, both))
 
-    @unittest.skipUnless(os.getuid(), "root may read each file")
     def test_a_file_that_may_not_be_read(self):
-        with tempfile.NamedTemporaryFile() as secret:
+        """Root may read each file, and so a copy of the program runs as nobody in place of root."""
+        how = {} if os.getuid() else {"user": NOBODY}
+        with tempfile.NamedTemporaryFile() as secret, tempfile.TemporaryDirectory() as room:
             os.chmod(secret.name, 0)
-            self.reasons(["scan", "%d", secret.name], f"sf: {secret.name}: can't be opened\n", DENIED)
+            os.chmod(room, 0o755)
+            with unittest.mock.patch.object(program, "path", shutil.copy(program.path, room)):
+                self.reasons(["scan", "%d", secret.name], f"sf: {secret.name}: can't be opened\n", DENIED, **how)
 
     def closed(self, call, words, text):
         """The status and the error text of a call whose output nobody reads."""

@@ -1,0 +1,112 @@
+"""./test --prove, over clones that are made up: what is cheap comes first, and nothing may be passed over."""
+import os
+import subprocess
+
+from made import ROOT, SECONDS, Clone, written
+
+ALL = "42 passed, 0 failed, 0 skipped"
+SAME = "The program that was proved and built here is the prebuilt one, byte for byte: its tests have run, and count once."
+
+
+class Gate(Clone):
+    def test_all_is_run_and_proved(self):
+        lines = self.expect(0, ALL, "--prove")
+        self.assertIn(SAME, lines)
+        self.assertEqual((self.calls("rt"), self.calls("sf"), self.calls("refusals")), (["ci"], [], [""]))
+        self.assertEqual(self.calls("edits"), ["--list", "--after-ci --kept"])
+        self.assertEqual([it.split(" --sf")[0] for it in self.calls("bench")], ["--rows sf", "--rows libraries"])
+
+    def test_each_wrong_body_is_tried_where_that_is_asked_for(self):
+        self.expect(0, ALL, "--prove", "--all")
+        self.assertEqual(self.calls("edits"), ["--list", "--after-ci"])
+
+    def test_what_ran_over_the_same_program_runs_once(self):
+        self.expect(0, ALL, "--prove")
+        self.assertEqual(len(self.calls("program")), 1)
+
+    def test_what_ran_over_another_program_runs_again_and_counts_once(self):
+        self.rt("another program")
+        lines = self.expect(0, ALL, "--prove")
+        self.assertNotIn(SAME, lines)
+        first, second = self.calls("program")
+        self.assertNotEqual(first, second)
+        self.assertEqual(second, "--sf crates/sf/out/sf")
+
+    def test_a_failure_that_is_cheap_to_see_ends_it_before_the_proofs(self):
+        for name in ("layout", "library", "gate", "prebuilt", "program", "cookbook", "bench", "edits"):
+            with self.subTest(name):
+                self.says(name, "not so: a page", "2 passed, 1 failed", status=1)
+                status, lines = self.ran("--prove")
+                self.assertEqual((status, self.calls("rt")), (1, []))
+                self.assertIn("Nothing was proved, since something failed that is cheap to see (--keep-going goes on).", lines)
+                self.assertRegex(lines[-1], r"^\d+ passed, 1 failed, 0 skipped$")
+                self.says(name, "3 passed, 0 failed")
+
+    def test_texts_that_fail_end_it_before_the_program_is_tested(self):
+        self.says("library", "not so: a page", "2 passed, 1 failed", status=1)
+        self.assertEqual((self.ran("--prove")[0], self.calls("program"), self.calls("edits")), (1, [], ["--list"]))
+
+    def test_a_row_that_may_not_be_passed_over_ends_it_too(self):
+        self.says("program", "passed over: a row: it is late", "2 passed, 0 failed, 1 skipped")
+        status, lines = self.ran("--prove")
+        self.assertEqual((status, self.calls("rt"), lines[-1].split(", ")[1:]), (1, [], ["1 failed", "1 skipped"]))
+
+    def test_it_goes_on_where_that_is_asked_for_and_forgets_no_failure(self):
+        self.says("library", "2 passed, 1 failed", status=1)
+        self.expect(1, "41 passed, 1 failed, 0 skipped", "--prove", "--keep-going")
+        self.assertEqual(self.calls("rt"), ["ci"])
+
+    def test_a_prebuilt_program_of_other_sources_ends_it_before_the_proofs(self):
+        written(self.clone + "/prebuilt/sum", "echo 34cd")
+        status, _ = self.ran("--prove")
+        self.assertEqual((status, self.calls("rt"), self.calls("program")), (1, [], []))
+        self.assertEqual(self.ran("--prove", "--keep-going")[0], 1)
+        self.assertEqual((self.calls("rt"), self.calls("program")), (["ci"], ["--sf crates/sf/out/sf"]))
+
+    def test_a_prebuilt_program_that_is_damaged_or_gone_ends_it_too(self):
+        self.write("prebuilt/sf-x86_64-linux.xz", b"no archive")
+        self.assertEqual((self.ran("--prove")[0], self.calls("rt")), (1, []))
+        for name in ("sf-x86_64-linux.xz", "SUM"):
+            os.remove(f"{self.clone}/prebuilt/{name}")
+            self.assertEqual((self.ran("--prove")[0], self.calls("rt")), (1, []))
+
+    def test_a_test_that_is_gone_has_failed(self):
+        os.remove(self.clone + "/tests/library/run")
+        self.assertEqual((self.ran("--prove")[0], self.calls("rt")), (1, []))
+
+    def test_a_sum_that_can_not_be_made_is_of_no_sources(self):
+        written(self.clone + "/prebuilt/sum", "exit 1")
+        self.write("prebuilt/SUM", b"sources \n")
+        self.assertEqual((self.ran("--prove")[0], self.calls("rt")), (1, []))
+
+    def test_proofs_that_fail_are_a_failure(self):
+        self.rt("another program", last="4 passed, 1 failed")
+        self.expect(1, "41 passed, 1 failed, 0 skipped", "--prove")
+
+    def test_a_program_that_is_not_built_is_a_failure(self):
+        written(self.bin + "/rt", "echo '5 passed, 0 failed'")
+        self.assertEqual(self.ran("--prove")[0], 1)
+
+    def test_nothing_may_be_passed_over(self):
+        for why in ("there is no valgrind", "there is no rt", "it is late", "there is no fish, no valgrind",
+                    "the prebuilt program was built with a kit, and the kit here is none"):
+            with self.subTest(why):
+                self.says("program", f"passed over: a row: {why}", "2 passed, 0 failed, 1 skipped")
+                lines = self.expect(1, "41 passed, 1 failed, 1 skipped", "--prove", "--keep-going")
+                self.assertIn(f"  tests/program: the gate may not pass over a row: {why}", lines)
+
+    def test_what_no_base_has_and_what_the_machine_forbids_may_be_and_is_counted(self):
+        for why in ("there is no fish", "there is no mlr, no parallel", "no disk may be mounted here",
+                    "the prebuilt program was built with kit-1 logic 12ab, and the kit here is kit-2 logic 34cd"):
+            with self.subTest(why):
+                self.says("refusals", f"passed over: a row: {why}", "2 passed, 0 failed, 1 skipped")
+                lines = self.expect(0, "41 passed, 0 failed, 1 skipped", "--prove")
+                self.assertTrue(any(line.startswith(f"  tests/refusals, a row: {why}") for line in lines))
+
+    def test_ci_runs_the_gate(self):
+        os.mkdir(self.clone + "/.ci")
+        with open(ROOT + "/.ci/run", encoding="utf-8") as file:
+            written(self.clone + "/.ci/run", file.read())
+        written(self.clone + "/test", f"{self.noting('test')}\nexit 7")
+        done = subprocess.run(["/bin/sh", self.clone + "/.ci/run"], cwd="/", timeout=SECONDS, check=False)
+        self.assertEqual((done.returncode, self.calls("test")), (7, ["--prove"]))
