@@ -1,4 +1,5 @@
 """./test --prove, over clones that are made up: what is cheap comes first, and nothing may be passed over."""
+import hashlib
 import os
 import subprocess
 
@@ -9,12 +10,22 @@ SAME = "The program that was proved and built here is the prebuilt one, byte for
 
 
 class Gate(Clone):
+    def proofs(self):
+        """The calls of rt that prove."""
+        return [it for it in self.calls("rt") if it != "version"]
+
     def test_all_is_run_and_proved(self):
         lines = self.expect(0, ALL, "--prove")
         self.assertIn(SAME, lines)
-        self.assertEqual((self.calls("rt"), self.calls("sf"), self.calls("refusals")), (["ci"], [], [""]))
+        self.assertEqual((self.proofs(), self.calls("sf"), self.calls("refusals")), (["ci"], [], [""]))
         self.assertEqual(self.calls("edits"), ["--list", "--after-ci --kept"])
         self.assertEqual([it.split(" --sf")[0] for it in self.calls("bench")], ["--rows sf", "--rows libraries"])
+
+    def test_the_program_that_was_built_is_the_one_that_the_launcher_runs(self):
+        self.rt("another program")
+        self.expect(0, ALL, "--prove")
+        with open(self.clone + "/crates/sf/out/SUM", encoding="utf-8") as file:
+            self.assertEqual(file.read(), f"program {hashlib.sha256(b'another program').hexdigest()}\nsources 12ab\nkit kit-1\n")
 
     def test_each_wrong_body_is_tried_where_that_is_asked_for(self):
         self.expect(0, ALL, "--prove", "--all")
@@ -37,7 +48,7 @@ class Gate(Clone):
             with self.subTest(name):
                 self.says(name, "not so: a page", "2 passed, 1 failed", status=1)
                 status, lines = self.ran("--prove")
-                self.assertEqual((status, self.calls("rt")), (1, []))
+                self.assertEqual((status, self.proofs()), (1, []))
                 self.assertIn("Nothing was proved, since something failed that is cheap to see (--keep-going goes on).", lines)
                 self.assertRegex(lines[-1], r"^\d+ passed, 1 failed, 0 skipped$")
                 self.says(name, "3 passed, 0 failed")
@@ -49,35 +60,35 @@ class Gate(Clone):
     def test_a_row_that_may_not_be_passed_over_ends_it_too(self):
         self.says("program", "passed over: a row: it is late", "2 passed, 0 failed, 1 skipped")
         status, lines = self.ran("--prove")
-        self.assertEqual((status, self.calls("rt"), lines[-1].split(", ")[1:]), (1, [], ["1 failed", "1 skipped"]))
+        self.assertEqual((status, self.proofs(), lines[-1].split(", ")[1:]), (1, [], ["1 failed", "1 skipped"]))
 
     def test_it_goes_on_where_that_is_asked_for_and_forgets_no_failure(self):
         self.says("library", "2 passed, 1 failed", status=1)
         self.expect(1, "41 passed, 1 failed, 0 skipped", "--prove", "--keep-going")
-        self.assertEqual(self.calls("rt"), ["ci"])
+        self.assertEqual(self.proofs(), ["ci"])
 
     def test_a_prebuilt_program_of_other_sources_ends_it_before_the_proofs(self):
         written(self.clone + "/prebuilt/sum", "echo 34cd")
         status, _ = self.ran("--prove")
-        self.assertEqual((status, self.calls("rt"), self.calls("program")), (1, [], []))
+        self.assertEqual((status, self.proofs(), self.calls("program")), (1, [], []))
         self.assertEqual(self.ran("--prove", "--keep-going")[0], 1)
-        self.assertEqual((self.calls("rt"), self.calls("program")), (["ci"], ["--sf crates/sf/out/sf"]))
+        self.assertEqual((self.proofs(), self.calls("program")), (["ci"], ["--sf crates/sf/out/sf"]))
 
     def test_a_prebuilt_program_that_is_damaged_or_gone_ends_it_too(self):
         self.write("prebuilt/sf-x86_64-linux.xz", b"no archive")
-        self.assertEqual((self.ran("--prove")[0], self.calls("rt")), (1, []))
+        self.assertEqual((self.ran("--prove")[0], self.proofs()), (1, []))
         for name in ("sf-x86_64-linux.xz", "SUM"):
             os.remove(f"{self.clone}/prebuilt/{name}")
-            self.assertEqual((self.ran("--prove")[0], self.calls("rt")), (1, []))
+            self.assertEqual((self.ran("--prove")[0], self.proofs()), (1, []))
 
     def test_a_test_that_is_gone_has_failed(self):
         os.remove(self.clone + "/tests/library/run")
-        self.assertEqual((self.ran("--prove")[0], self.calls("rt")), (1, []))
+        self.assertEqual((self.ran("--prove")[0], self.proofs()), (1, []))
 
     def test_a_sum_that_can_not_be_made_is_of_no_sources(self):
         written(self.clone + "/prebuilt/sum", "exit 1")
         self.write("prebuilt/SUM", b"sources \n")
-        self.assertEqual((self.ran("--prove")[0], self.calls("rt")), (1, []))
+        self.assertEqual((self.ran("--prove")[0], self.proofs()), (1, []))
 
     def test_proofs_that_fail_are_a_failure(self):
         self.rt("another program", last="4 passed, 1 failed")

@@ -69,7 +69,7 @@ class Clone(unittest.TestCase):
         """An rt whose gate builds this program."""
         out = f"'{self.clone}/crates/sf/out'"
         made = f"mkdir -p {out}; printf '{program}' >{out}/sf; chmod +x {out}/sf"
-        written(self.bin + "/rt", f"{self.noting('rt')}\n[ \"$1\" != ci ] || {{ {made}; echo '{last}'; }}")
+        written(self.bin + "/rt", f"{self.noting('rt')}\n[ \"$1\" != ci ] || {{ {made}; echo '{last}'; }}\n[ \"$1\" != version ] || echo kit-1")
 
     def without(self, *tools):
         for tool in tools:
