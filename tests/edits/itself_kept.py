@@ -109,13 +109,19 @@ def of_file(path, made):
     cases = {"there is no file": again().counts(NAMES) == (0, 0, 4)}
     again().write([NEXT, THIRD, ITSELF], {NEXT, THIRD, ITSELF})
     cases["two verdicts are kept"] = again().counts(NAMES) == (2, 0, 2) and ITSELF in again().current
-    cases["another kit"] = again("kit 2").counts(NAMES) == (0, 2, 2) and not again("kit 2").current
+    cases["another kit"] = again("kit 2").counts(NAMES) == (0, 0, 4) and not again("kit 2").current
     written(path, read(path).replace(made[THIRD], made[NEXT]))
     cases["a line with another's key"] = again().counts(NAMES) == (1, 1, 2)
     again().write([BOUNDED], {BOUNDED, WIDEST})
     cases["what was not tried stays, and a stale line goes"] = again().current == {NEXT, BOUNDED, ITSELF} == {*again().lines}
     again().write([], {NEXT})
     cases["what is no longer refused goes"] = again().current == {BOUNDED, ITSELF}
+    again("kit 2").write([NEXT], {NEXT})
+    cases["each kit has its own lines"] = (again().current, again("kit 2").current) == ({BOUNDED, ITSELF}, {NEXT})
+    again("kit 3").write([], {NEXT})
+    cases["what another kit has stays"] = (again().current, again("kit 2").current) == ({BOUNDED, ITSELF}, {NEXT})
+    Kept(path, "kit 3", {**made, NEXT: made[THIRD]}).write([], set())
+    cases["a stale line of another kit goes"] = not again("kit 2").lines and again().current == {BOUNDED, ITSELF}
     crates = {f"crate{it}": ["an edit"] * it for it in range(1, 12)}
     shares = [Kept(path, "kit 1", {**made, "more": str(it)}).share(crates) for it in range(40)]
     cases["a tenth is tried again"] = all(sum(map(len, map(crates.get, it))) >= 6.6 for it in shares)

@@ -1,7 +1,7 @@
 """Verdicts that are kept: of which wrong bodies it is known that the prover refuses them.
 
-KEPT has the kit in its first line, and then a line `KEY CRATE/MODULE.FUNCTION.WHAT` for each wrong body that was refused with it. The key
-is a sum of all that the verdict rests on:
+KEPT has a part for each kit: a line with its name, and then a line `KEY CRATE/MODULE.FUNCTION.WHAT` for each wrong body that was refused
+with it. Of the parts of other kits nothing is taken. The key is a sum of all that the verdict rests on:
 
 - the edit, and the function that it changes with the files of its proof;
 - of its crate and of each crate below it, what a proof of another function can see: src/ without the bodies of functions and without
@@ -28,6 +28,7 @@ OWN = ("itself.py", "itself_kept.py", "kept.py")
 SHARE = 10
 OF_A_FUNCTION = ("Answers.antt", "Invariants.antt")
 ITSELF = "itself"
+LINE = re.compile(r"[0-9a-f]{32} \S+")
 
 
 def sum_of(*parts):
@@ -104,15 +105,30 @@ def keys(root, below, found, judges=None):
     return made
 
 
+def by_kits(text):
+    """The keys that a file KEPT has, by the kits and the names of edits."""
+    found, kit = {}, ""
+    for line in filter(None, text.split("\n")):
+        if LINE.fullmatch(line):
+            key, name = line.split(" ")
+            found.setdefault(kit, {})[name] = key
+        else:
+            kit = line
+    return found
+
+
 class Kept:
-    """The verdicts of a file KEPT, beside the keys that they must have."""
+    """The verdicts of a file KEPT that are this kit's, beside the keys that they must have."""
 
     def __init__(self, path, kit, keys):
         self.path, self.kit, self.keys = path, kit, keys
-        first, *lines = (read(path) if os.path.isfile(path) else "").split("\n")
-        self.of_other_kit = bool(first) and first != kit
-        self.lines = dict(it.split(" ", 1)[::-1] for it in lines if it)
-        self.current = {it for it, key in self.lines.items() if not self.of_other_kit and keys.get(it) == key}
+        self.of_kits = by_kits(read(path)) if os.path.isfile(path) else {}
+        self.lines = self.of_kits.get(kit, {})
+        self.current = self.current_of(kit)
+
+    def current_of(self, kit):
+        """The edits whose lines of a kit have their current key."""
+        return {it for it, key in self.of_kits.get(kit, {}).items() if self.keys.get(it) == key}
 
     def counts(self, names):
         """How many lines of these edits are current, how many are not, and how many edits have none."""
@@ -130,8 +146,11 @@ class Kept:
         return chosen
 
     def write(self, refused, tried):
-        """Keeps what was refused, and what stands there by now of others with its current key."""
-        names = {it for it in Kept(self.path, self.kit, self.keys).current if it not in tried} | {*refused}
+        """Keeps what was refused, and what stands there by now with its current key: of this kit what was not tried, and of others all."""
+        there = Kept(self.path, self.kit, self.keys)
+        kits = {kit: there.current_of(kit) for kit in {*there.of_kits, self.kit}}
+        kits[self.kit] = {it for it in kits[self.kit] if it not in tried} | {*refused}
         with open(f"{self.path}.new", "w", encoding="utf-8") as file:
-            file.write(f"{self.kit}\n" + "".join(f"{self.keys[it]} {it}\n" for it in sorted(names)))
+            for kit, names in sorted(kits.items()):
+                file.write(f"{kit}\n" + "".join(f"{self.keys[it]} {it}\n" for it in sorted(names)))
         os.replace(f"{self.path}.new", self.path)
