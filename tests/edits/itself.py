@@ -181,6 +181,21 @@ SAME = (
     ("a - b >= c", "a >= b + c", False),
     ("first(a) + second(b)", "second(b) + first(a)", True),
     ("number.max(0)", "number", False),
+    ("10 * value + (*b - 48) as u32", "value * 10 + (*b - b'0') as u32", True),
+)
+
+# So of assignments.
+ASSIGNED = (
+    ("at += 3;", "at += 1; at += 2;", True),
+    ("at += 3;", "at += 1; at += 1;", False),
+    ("at = at + 3;", "let next = at + 3; at = next;", True),
+    ("at = at + 3;", "let next = at + 3; left = next;", False),
+    ("at = from; from = at;", "from = at; at = from;", False),
+    ("at += 3;", "at += 3; left = 0;", False),
+    ("self.at = at + self.len;", "self.at = self.len + at;", True),
+    ("at = 0; left = count(at);", "at = 0; left = count(at) + 0;", True),
+    ("left = from;", "let _ = count(at); left = from;", False),
+    ("left = twice(at);", "let one = twice(at); left = one;", True),
 )
 
 # What is said of the function `low::next`, and whether it is refused by that for its own proof.
@@ -233,8 +248,9 @@ def tried(room, with_prover=True, by_command=False):
         if not found.startswith(wanted) or (edit in refused) != wanted.startswith(("low::", "alone: ")):
             failed += 1
             print(f"the runner itself: {name}: wanted {wanted}.., found: {found[:200]}")
-    for was, now, wanted in SAME:
-        if is_same(f"{{ if {was} {{ }} }}", f"{{ if {now} {{ }} }}") != wanted:
+    pairs = [(f"if {was} {{ }}", f"if {now} {{ }}", wanted) for was, now, wanted in SAME] + [*ASSIGNED]
+    for was, now, wanted in pairs:
+        if is_same(f"{{ {was} }}", f"{{ {now} }}") != wanted:
             failed += 1
             print(f"the runner itself: wanted {wanted} of {was} and {now}")
     passed, more = itself_kept.tried(f"{root}/kept", SOURCE, STEPS, ANSWERS)
@@ -242,4 +258,4 @@ def tried(room, with_prover=True, by_command=False):
         if is_own(how, edits["lib.next.twice"].names()) != wanted:
             failed += 1
             print(f"the runner itself: wanted {wanted} of what is said: {how}")
-    return len(judged) + len(SAID) + len(SAME) - failed + passed, failed + more
+    return len(judged) + len(SAID) + len(pairs) - failed + passed, failed + more

@@ -20,10 +20,10 @@ import re
 
 from edit import NO_CODE, bodies, read
 
-# The files that judge; the others print, keep and try the runner.
-JUDGES = ("edit.py", "same.py", "judge.py", "rounds.py", "kit.py")
+# The files that judge; the others print, keep and try the runner. (What same.py says is asked anew in each run.)
+JUDGES = ("edit.py", "judge.py", "rounds.py", "kit.py")
 # Those that try the runner, and keep.
-OWN = ("itself.py", "itself_kept.py", "kept.py")
+OWN = ("same.py", "itself.py", "itself_kept.py", "kept.py")
 # One edit in so many is tried though its verdict is kept.
 SHARE = 10
 OF_A_FUNCTION = ("Answers.antt", "Invariants.antt")

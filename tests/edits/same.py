@@ -1,6 +1,7 @@
 """Whether an edit changes no value: `x & 1 == 1` and `x & 1 != 0` are the same whatever `x` is, and so are `!found` and `found == false`.
 
-The smallest expression that the edit changes is read as it was and as it is then. What is no operator and no number (a name, a field, a
+The smallest expression that the edit changes is read as it was and as it is then, or the assignments: `at += 3;` and `at += 1; at += 2;`
+are the same, and so is a value that gets a name by `let`. What is no operator and no number (a name, a field, a
 call) is a part of it that may have any value: both are computed at many values of these parts. A result below zero, and a division by
 zero, are faults. What can't be read so is taken for a change.
 """
@@ -12,7 +13,7 @@ TOKEN = re.compile(r"""b?"(?:[^"\\]|\\.)*"|b?'(?:\\[^']{1,8}|[^'\\])'|\d\w*(?:\.
     |<<=|>>=|\.\.=|\.\.\.|::|->|=>|==|!=|<=|>=|&&|\|\||<<|>>|\.\.|[-+*/%&|^]=|[^\s\w]""", re.X)
 OPENS, CLOSES = "([{", ")]}"
 # What an expression stands beside.
-EDGES = {";", ",", "=>", "=", "->", "let", "if", "while", "match", "return", "in", "else", "break", "{", "}"}
+EDGES = {";", ",", ":", "=>", "->", "let", "if", "while", "match", "return", "in", "else", "break", "{", "}"}
 ASSIGNS = {f"{it}=": it for it in ("+", "-", "*", "/", "%", "&", "|", "^", "<<", ">>")}
 LEVELS = [("..", "..="), ("||",), ("&&",), ("==", "!=", "<", ">", "<=", ">="), ("|",), ("^",), ("&",), ("<<", ">>"), ("+", "-"),
           ("*", "/", "%")]
@@ -39,7 +40,7 @@ def edge(tokens, at, step, depth):
     opens, closes = (OPENS, CLOSES) if step > 0 else (CLOSES, OPENS)
     while 0 <= at < len(tokens):
         it = tokens[at]
-        if not depth and (it in EDGES or it in ASSIGNS and step < 0 or it in closes):
+        if not depth and (it in EDGES or it in closes):
             break
         depth += (it in opens) - (it in closes)
         at += step
@@ -76,10 +77,6 @@ class Reader:
         return self.tokens[self.at - 1] if self.at <= len(self.tokens) else ""
 
     def whole(self):
-        for at, it in enumerate(self.tokens):
-            if it == "=" or it in ASSIGNS:
-                place, value = self.tokens[:at], Reader(self.tokens[at + 1 :]).whole()
-                return ("=", " ".join(place), (ASSIGNS[it], Reader(place).whole(), value) if it in ASSIGNS else value)
         found = self.level(0)
         if self.at != len(self.tokens):
             raise Unread
@@ -108,8 +105,11 @@ class Reader:
         if it == "!":
             self.next()
             return ("!", self.unary())
-        if it in ("-", "*", "&"):
+        if it == "-":
             raise Unread
+        if it in ("*", "&"):
+            found = (self.next(), self.unary())[1]
+            return ("part", it + (found[1] if found[0] == "part" else repr(found)))
         return self.postfix()
 
     def group(self):
@@ -180,6 +180,54 @@ class Reader:
         return None
 
 
+def split(tokens, by):
+    """The tokens between those that stand by themselves."""
+    found, depth = [[]], 0
+    for it in tokens:
+        depth += (it in OPENS) - (it in CLOSES)
+        if it in by and not depth:
+            found.append([])
+        else:
+            found[-1].append(it)
+    return found
+
+
+def put(tree, state):
+    """An expression after some assignments."""
+    if tree[0] != "part":
+        return tuple(put(it, state) if isinstance(it, tuple) else it for it in tree)
+    for place in state:
+        base = re.match(r"\W*(\w+)", place)[1]
+        if tree[1] != place and (place in tree[1] or tree[1] in place or "(" in tree[1] and re.search(rf"\b{base}\b", tree[1])):
+            raise Unread
+    return state.get(tree[1], tree)
+
+
+def read(tokens):
+    """What statements come to: each place that they assign, with its value, and the value of the last one if that is an expression; and
+    what they call."""
+    state, names, calls, statements = {}, set(), [], split(tokens, ";")
+    for at, it in enumerate(statements):
+        if not it and at:
+            continue
+        sign = next((one for one in it if one == "=" or one in ASSIGNS), None)
+        if not sign and at < len(statements) - 1:
+            raise Unread
+        first, *more = split(it, (sign,)) if sign else ([], it)
+        if len(more) != 1:
+            raise Unread
+        if first[:1] == ["let"]:
+            first = split(first, (":",))[0][1:]
+            first = first[first[0] == "mut" :]
+            names.add(" ".join(first))
+        tree, place = Reader(more[0]).whole(), Reader(first).whole() if sign else ("part", "")
+        calls += [name for name in parts(tree) if "(" in name]
+        if place[0] != "part":
+            raise Unread
+        state[place[1]] = (ASSIGNS[sign], put(place, state), put(tree, state)) if sign in ASSIGNS else put(tree, state)
+    return {place: tree for place, tree in state.items() if place not in names}, sorted(calls)
+
+
 def parts(tree):
     """The parts of an expression that may have any value, as often as they stand there."""
     if tree[0] == "part":
@@ -218,8 +266,6 @@ def value(tree, given):
         return tree[1]
     if kind == "part":
         return given[tree[1]]
-    if kind == "=":
-        return tree[1], value(tree[2], given)
     first = value(tree[1], given)
     if kind in ("&&", "||"):
         return value(tree[2], given) if first == (kind == "&&") else first
@@ -266,7 +312,7 @@ def samples(names, flags, found):
 
 def apart(one, other):
     """The smallest parts of two expressions in which they differ."""
-    if len(one) == len(other) == 3 and one[0] == other[0] and one[0] != "=":
+    if len(one) == len(other) == 3 and one[0] == other[0]:
         for at, beside in ((1, 2), (2, 1)):
             if one[beside] == other[beside] and isinstance(one[at], tuple):
                 return apart(one[at], other[at])
@@ -293,16 +339,19 @@ def is_equal(trees, flags):
 
 
 def is_same(was, now):
-    """Whether the expression that differs between two texts has the same value in both."""
+    """Whether what differs between two texts, an expression or some assignments, comes to the same in both."""
     try:
         *tokens, before = changed(was, now)
-        trees = [Reader(it).whole() for it in tokens]
-        flags = set()
-        calls = [sorted(name for name in parts(it) if "(" in name) for it in trees]
-        if calls[0] != calls[1]:
+        (old, calls), (new, others) = map(read, tokens)
+        if not old or old.keys() != new.keys() or calls != others:
             return False
-        for it in trees * 2:
-            truths(it, before in ("if", "while"), flags)
-        return any(is_equal(both, flags) for both in {apart(*trees), tuple(trees)})
+        return all(are_same((old[it], new[it]), before in ("if", "while")) for it in old)
     except (Unread, TypeError, IndexError, RecursionError, OverflowError):
         return False
+
+
+def are_same(trees, is_test):
+    flags = set()
+    for it in trees * 2:
+        truths(it, is_test, flags)
+    return any(is_equal(both, flags) for both in {apart(*trees), trees})
