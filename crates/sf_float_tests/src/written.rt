@@ -1,6 +1,7 @@
 //! The shortest text of a float as the output forms write it.
 use sf_base::Real;
-use sf_float::{ROOM, write_shortest};
+use sf_float::fewest::ROOM;
+use sf_float::write_shortest;
 use std::test::Fail;
 
 /// Floats of both kinds, with the digits that Python's `repr` gives the doubles, and numpy's the others.
