@@ -3,4 +3,4 @@ mod NoteLemmas
 mod ReasonLemmas
 mod ConsoleLemmas
 mod LineJobLemmas
-mod ToolLemmas
+mod EntryLemmas

@@ -3,4 +3,4 @@ pub mod notes
 pub mod reasons
 pub mod console
 pub mod line_jobs
-pub mod tool
+pub mod entry

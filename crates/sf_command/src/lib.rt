@@ -2,13 +2,13 @@
 #![tactic(auto)]
 
 mod console;
+pub mod entry;
 mod jobs;
 mod line_jobs;
 mod notes;
 mod reasons;
-pub mod tool;
 
-pub use tool::{
+pub use entry::{
     ArgumentFault, CommandFault, FormatName, LastError, Opened, Opener, Terminals, ToolEnd,
     ToolFault, WordReading, print_values, print_words, run_program, run_scan, run_words, tool,
     tool_over,

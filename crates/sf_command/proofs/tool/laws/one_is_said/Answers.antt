@@ -1,5 +1,0 @@
-use Rattle.sf_command.proofs.ToolLemmas.OneSaid.{one_is_said_holds}
-use Rattle.sf_command.proofs.tool.laws.one_is_said.Goals as goal
-
-pub returns : goal.returns
-returns c = one_is_said_holds
