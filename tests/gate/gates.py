@@ -107,7 +107,7 @@ class Gate(Clone):
                 self.assertIn(f"  tests/program: the gate may not pass over a row: {why}", lines)
 
     def test_what_no_base_has_and_what_the_machine_forbids_may_be_and_is_counted(self):
-        for why in ("there is no fish", "there is no mlr, no parallel", "no disk may be mounted here",
+        for why in ("there is no fish", "there is no mlr, no parallel", "no disk may be mounted here", "their proofs cite what they rename",
                     "the prebuilt program was built with kit-1 logic 12ab, and the kit here is kit-2 logic 34cd"):
             with self.subTest(why):
                 self.says("refusals", f"passed over: a row: {why}", "2 passed, 0 failed, 1 skipped")
