@@ -139,10 +139,17 @@ wide_rest_fits rest x by R B X = omega arith
 pub bounded : (xs : List ℕ) (n : ℕ) → n ≤ 65 → AreZeroFrom xs n → AreNines xs → value_below xs n < limb_weight 65
 bounded xs n l z h = omega (arith, value_below-lt xs 65 h, value_below_zeros xs n 65 z l)
 
--- a number of two limbs at most
-pub two_limbs : (xs : List ℕ) (len : ℕ) → len ≤ 2 → AreZeroFrom xs len → get_or xs 1 0 * 1000000000 + get_or xs 0 0 ≡ value_below xs len
-unfolding value_below limb_weight
-two_limbs xs zero l z = omega (arith, z 0 (omega arith), z 1 (omega arith))
-two_limbs xs (suc zero) l z = omega (arith, z 1 (omega arith))
-two_limbs xs (suc (suc zero)) l z = omega arith
-two_limbs xs (suc (suc (suc n))) l z = absurd (omega (arith, l))
+-- the limb before i, taken into the number of those from i on
+pub limb_taken : (xs : List ℕ) (i number : ℕ) → 0 < i
+    → value_below xs i + number * limb_weight i
+    ≡ value_below xs (i - 1) + (number * 1000000000 + get_or xs (i - 1) 0) * limb_weight (i - 1)
+limb_taken xs i number p =
+    let e : i - 1 + 1 ≡ i = omega arith in
+    let below = rw e at (value_below-suc xs (i - 1)) in
+    let weight = rw e at (limb_weight-suc (i - 1)) in
+    omega (arith, below, ap (λ w. number * w) weight)
+
+-- what the upper limbs hold is no more than the number
+pub upper_within : (whole low number i : ℕ) → whole ≡ low + number * limb_weight i → number ≤ whole
+unfolding limb_weight
+upper_within whole low number i e = omega (arith, e, mul-le-mul_left number (power_pos 1000000000 i (lit≤ tt)))

@@ -1,6 +1,6 @@
 //! A natural number in a room of fixed size: limbs of nine decimal digits, the lowest first.
 ghost use Rattle.std.specs.Prelude.{◌≡◌, ℕ, ◌+◌, ◌-◌, ◌*◌, ◌/◌, ◌%◌, ◌^◌, ◌<◌, ◌≤◌, slice_index, IsTrue, IsFalse};
-ghost use Rattle.std.specs.Prelude.{IfSome};
+ghost use Rattle.std.specs.Prelude.{IfSome, IsSome};
 ghost use Rattle.sf_float.specs.Limbs.{value_below, limb_weight, AreZeroFrom, AreNines};
 ghost use Rattle.sf_float.specs.Quotient.{IsQuotient};
 
@@ -240,14 +240,18 @@ impl Natural {
         self.digit(0) % 2 == 1
     }
 
-    /// The number, where that is seen to fit.
+    /// The number, where it is below 2^64.
     pub fn as_u64(&self) -> Option<u64>
-        ensures { IfSome result (λ n. n ≡ self.now) }
+        ensures value { IfSome result (λ n. n ≡ self.now) }
+        ensures answers { self.now < 2 ^ 64 → IsSome result }
     {
-        if self.len > 2 {
-            return None;
+        let mut number: u64 = 0;
+        let mut i = self.len;
+        while i > 0 {
+            i -= 1;
+            number = number.checked_mul(BASE)?.checked_add(self.limbs[i] as u64)?;
         }
-        Some(self.limbs[1] as u64 * BASE + self.limbs[0] as u64)
+        Some(number)
     }
 
     /// How many digits it has; 0 has none.
