@@ -98,7 +98,7 @@ start_read : (ds t : List ℕ) → 0 < length ds → AllDigits 10 ds → read (S
 start_read [] t some all = absurd (omega (arith, some))
 start_read (d ∷ ds) t some all = ap (λ o. read o (ds ++ 46 ∷ t)) (start_digit d all.0) ∙ signed_read (d ∷ ds) t some all
 
-numeral_read : (negative : Bool) (ds es : List ℕ) → 0 < length ds → AllDigits 10 ds → AllDigits 10 es
+pub numeral_read : (negative : Bool) (ds es : List ℕ) → 0 < length ds → AllDigits 10 ds → AllDigits 10 es
     → read (Some at.Start) (sign_text negative ++ (ds ++ 46 ∷ es)) ≡ Some (at.Fraction Ten)
 numeral_read true ds es some all more = signed_read ds es some all ∙ fraction_read es more
 numeral_read false ds es some all more = start_read ds es some all ∙ fraction_read es more

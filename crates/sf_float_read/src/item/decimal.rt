@@ -1,6 +1,6 @@
 //! Decimal numerals of few digits that end within a piece of the input, read in one go.
-ghost use Rattle.std.specs.Prelude.{◌≡◌, ◌≢◌, ◌+◌, ◌++◌, ◌-◌, ◌<◌, ◌≤◌, ◌^◌, IfSome, IsTrue, false, get_or, length};
-ghost use Rattle.std.specs.Prelude.{take};
+ghost use Rattle.std.specs.Prelude.{◌≡◌, ◌≢◌, ◌+◌, ◌++◌, ◌-◌, ◌<◌, ◌≤◌, ◌^◌, ◌⊎◌, IfSome, IsTrue, IsFalse};
+ghost use Rattle.std.specs.Prelude.{IsSome, true, false, get_or, length, take};
 ghost use Rattle.std.specs.Char.{is_ascii_digit};
 ghost use Rattle.std.specs.Fmt.{sign_text};
 ghost use Rattle.std.specs.Str.Parse.{AllDigits, digits_value_after};
@@ -32,6 +32,8 @@ fn digits_after(before: u64, bytes: &[u8], most: usize) -> (u64, usize)
     ensures all { AllDigits 10 (take result.1 bytes.now) }
     ensures number { result.0 ≡ digits_value_after 10 before (take result.1 bytes.now) }
     ensures small { result.0 < 10 ^ (19 - most + result.1) }
+    ensures stops { result.1 < most → result.1 < length bytes.now
+        → is_ascii_digit (get_or bytes.now result.1 0) ≡ false }
 {
     let end = bytes.len().min(most);
     let mut number = before;
@@ -52,6 +54,8 @@ fn ends_at(bytes: &[u8], at: usize) -> bool
     ensures digit { IsTrue result → is_ascii_digit (get_or bytes.now at 0) ≡ false }
     ensures letter { IsTrue result → get_or bytes.now at 0 ≢ 101 }
     ensures capital { IsTrue result → get_or bytes.now at 0 ≢ 69 }
+    ensures goes_on { IsFalse result → at < length bytes.now → (is_ascii_digit (get_or bytes.now at 0) ≡ true)
+        ⊎ (get_or bytes.now at 0 ≡ 101) ⊎ (get_or bytes.now at 0 ≡ 69) }
 {
     match bytes.get(at) {
         Some(b) => !b.is_ascii_digit() && *b != b'e' && *b != b'E',
@@ -64,6 +68,7 @@ fn ends_at(bytes: &[u8], at: usize) -> bool
 fn is_point_at(bytes: &[u8], at: usize) -> bool
     ensures within { IsTrue result → at < length bytes.now }
     ensures point { IsTrue result → get_or bytes.now at 0 ≡ 46 }
+    ensures another { IsFalse result → get_or bytes.now at 0 ≢ 46 }
 {
     match bytes.get(at) {
         Some(b) => *b == b'.',
@@ -74,7 +79,8 @@ fn is_point_at(bytes: &[u8], at: usize) -> bool
 /// Whether the piece begins with a minus, and what follows that.
 #[inline(always)]
 fn signed(piece: &[u8]) -> (bool, &[u8])
-    ensures { piece.now ≡ sign_text result.0 ++ result.1.now }
+    ensures joined { piece.now ≡ sign_text result.0 ++ result.1.now }
+    ensures unsigned { IsFalse result.0 → get_or piece.now 0 0 ≢ 45 }
 {
     match piece.split_first() {
         Some((b, rest)) if *b == b'-' => (true, rest),
@@ -82,11 +88,13 @@ fn signed(piece: &[u8]) -> (bool, &[u8])
     }
 }
 
-/// The numeral that the piece begins with, where it is a decimal one with a point and nineteen digits at most, which
-/// no exponent follows, and ends before a byte of the piece.
+/// The numeral that the piece begins with, where it is a decimal one with a point and nineteen digits at most, zeros in
+/// front among them, which no exponent follows, and ends before a byte of the piece.
 #[inline(always)]
 pub fn numeral_within(piece: &[u8]) -> Option<Decimal>
-    ensures { IfSome result (DecimalWithin piece.now) }
+    ensures numeral { IfSome result (DecimalWithin piece.now) }
+    ensures answers { (d : Decimal) (is : DecimalWithin piece.now d)
+        → length is.numeral.whole + length is.numeral.fraction ≤ 19 → IsSome result }
 {
     let (negative, body) = signed(piece);
     let (whole, point) = digits_after(0, body, SURE);
