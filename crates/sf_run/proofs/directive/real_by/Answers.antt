@@ -6,7 +6,7 @@ pub returns-clause-answers : goal.returns-clause-answers
 returns-clause-answers c proper ink n =
     let own = c.in_ok-slot.ensures in
     let d = c.in_ok-decimal.decimal in
-    let is = c.in_ok-decimal.ensures in
+    let is = c.in_ok-decimal.ensures.numeral in
     let below = is.behind in
     float_read c.args.conversion.now c.args.piece.now d own.shape own.width is n c.in_ok-slot.slot proper own.slot
     (ink (omega (arith, below)))
