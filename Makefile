@@ -1,11 +1,12 @@
-# make                                           the program, where it isn't there or is older than an edit
+# make                                           the program, made current where it isn't there or is older than an edit
 # make install [PREFIX=/usr/local] [DESTDIR=]    the program, its man page and its completions
 # make uninstall                                 takes them away again
-# make dist                                      dist/sf-VERSION-x86_64-linux.tar.xz, which holds all of that
+# make dist                                      dist/sf-VERSION-x86_64-linux.tar.gz, which holds all of that
 # make check                                     tests the program and the pages (./test)
 # make prebuilt                                  proves and builds the program here, and packs it in prebuilt/
 #
-# The program is the one that ./sf runs: the prebuilt one, or one that is proved and built first, by the kit's rt.
+# The program is the prebuilt one where that is of the sources that stand here. Else it is proved and built first, by the
+# kit's rt.
 
 PREFIX ?= /usr/local
 BINDIR ?= $(PREFIX)/bin
@@ -31,7 +32,7 @@ SOURCE_DATE_EPOCH ?= 1767225600
 AS_NOBODY = --owner=0 --group=0 --numeric-owner --mode=u=rwX,go=rX
 
 all:
-	./sf --version
+	./sf --build
 
 install: all
 	$(INSTALL) -d "$(DESTDIR)$(BINDIR)" "$(DESTDIR)$(MANDIR)/man1" "$(DESTDIR)$(BASHDIR)" "$(DESTDIR)$(ZSHDIR)" "$(DESTDIR)$(FISHDIR)"
@@ -44,7 +45,7 @@ install: all
 uninstall:
 	rm -f "$(DESTDIR)$(BINDIR)/sf" "$(DESTDIR)$(MANDIR)/man1/sf.1" "$(DESTDIR)$(BASHDIR)/sf" "$(DESTDIR)$(ZSHDIR)/_sf" "$(DESTDIR)$(FISHDIR)/sf.fish"
 
-dist:
+dist: all
 	test "$$(./sf --version)" = "sf $(VERSION)"
 	rm -rf "$(STAGE)"
 	$(MAKE) --no-print-directory install DESTDIR= PREFIX="$(STAGE)" BINDIR="$(STAGE)/bin" MANDIR="$(STAGE)/share/man" \
@@ -53,7 +54,7 @@ dist:
 	$(INSTALL) -m 644 LICENSE NOTICE "$(STAGE)"
 	$(INSTALL) -m 644 prebuilt/README.dist "$(STAGE)/README"
 	tar -C dist --format=ustar --sort=name --mtime="@$(SOURCE_DATE_EPOCH)" $(AS_NOBODY) -cf "$(STAGE).tar" "$(DIST)"
-	xz -9e -T1 -f "$(STAGE).tar"
+	gzip -9nf "$(STAGE).tar"
 	rm -rf "$(STAGE)"
 
 check:

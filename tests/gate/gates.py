@@ -1,5 +1,4 @@
 """./test --prove, over clones that are made up: what is cheap comes first, and nothing may be passed over."""
-import hashlib
 import os
 import subprocess
 
@@ -21,11 +20,14 @@ class Gate(Clone):
         self.assertEqual(self.calls("edits"), ["--list", "--after-ci --kept"])
         self.assertEqual([it.split(" --sf")[0] for it in self.calls("bench")], ["--rows sf", "--rows libraries"])
 
-    def test_the_program_that_was_built_is_the_one_that_the_launcher_runs(self):
-        self.rt("another program")
+    def test_the_program_that_was_built_is_linked_and_noted_as_the_launcher_does(self):
         self.expect(0, ALL, "--prove")
-        with open(self.clone + "/crates/sf/out/SUM", encoding="utf-8") as file:
-            self.assertEqual(file.read(), f"program {hashlib.sha256(b'another program').hexdigest()}\nsources 12ab\nkit kit-1\n")
+        self.assertEqual(self.calls("finish"), ["12ab"])
+
+    def test_a_program_that_can_not_be_linked_is_a_failure(self):
+        written(self.clone + "/prebuilt/finish", "exit 1")
+        lines = self.expect(1, "42 passed, 1 failed, 0 skipped", "--prove")
+        self.assertIn("  prebuilt/finish: crates/sf/out/sf could not be linked", lines)
 
     def test_each_wrong_body_is_tried_where_that_is_asked_for(self):
         self.expect(0, ALL, "--prove", "--all")
@@ -75,9 +77,9 @@ class Gate(Clone):
         self.assertEqual((self.proofs(), self.calls("program")), (["ci"], ["--sf crates/sf/out/sf"]))
 
     def test_a_prebuilt_program_that_is_damaged_or_gone_ends_it_too(self):
-        self.write("prebuilt/sf-x86_64-linux.xz", b"no archive")
+        self.write("prebuilt/sf-x86_64-linux.gz", b"no archive")
         self.assertEqual((self.ran("--prove")[0], self.proofs()), (1, []))
-        for name in ("sf-x86_64-linux.xz", "SUM"):
+        for name in ("sf-x86_64-linux.gz", "SUM"):
             os.remove(f"{self.clone}/prebuilt/{name}")
             self.assertEqual((self.ran("--prove")[0], self.proofs()), (1, []))
 
@@ -108,7 +110,8 @@ class Gate(Clone):
 
     def test_what_no_base_has_and_what_the_machine_forbids_may_be_and_is_counted(self):
         for why in ("there is no fish", "there is no mlr, no parallel", "no disk may be mounted here", "their proofs cite what they rename",
-                    "the prebuilt program was built with kit-1 logic 12ab, and the kit here is kit-2 logic 34cd"):
+                    "the prebuilt program was built with kit-1 logic 12ab, and the kit here is kit-2 logic 34cd",
+                    "the prebuilt program was linked with gcc 1, libc.a 12ab, and the linker here is rt"):
             with self.subTest(why):
                 self.says("refusals", f"passed over: a row: {why}", "2 passed, 0 failed, 1 skipped")
                 lines = self.expect(0, "41 passed, 0 failed, 1 skipped", "--prove")

@@ -63,9 +63,9 @@ class Machine(Clone):
         self.assertTrue(self.provided(is_root=True)[0])
 
     def test_who_is_not_root_is_told_the_packages(self):
-        self.without("valgrind", "xz")
+        self.without("valgrind", "gzip")
         self.apt("exit 0")
-        said = "The gate needs valgrind, xz: apt-get install valgrind xz-utils\n"
+        said = "The gate needs valgrind, gzip: apt-get install valgrind gzip\n"
         self.assertEqual((self.provided(is_root=False), self.asked()), ((False, said), []))
 
     def test_root_is_told_them_where_apt_get_brings_nothing(self):

@@ -1,5 +1,5 @@
 """Clones that are made up, with scripts for the tests, the launcher and rt, each of which notes how it was called."""
-import lzma
+import gzip
 import os
 import shutil
 import subprocess
@@ -15,7 +15,7 @@ SECONDS = 60
 
 SUM = "sources 12ab\n"
 PROGRAM = "the program"
-TOOLS = ("rt", "gcc", "cc", "git", "make", "valgrind", "xz", "fish", "zsh", "groff", "mandoc", "mlr", "parallel", "xxd")
+TOOLS = ("rt", "gcc", "cc", "git", "make", "valgrind", "gzip", "fish", "zsh", "groff", "mandoc", "mlr", "parallel", "xxd")
 TESTS = ("bench", "cookbook", "edits", "gate", "layout", "library", "prebuilt", "program", "refusals")
 
 
@@ -46,8 +46,9 @@ class Clone(unittest.TestCase):
         self.launcher(f"mkdir -p crates/sf/out; printf '{PROGRAM}' >crates/sf/out/sf; chmod +x crates/sf/out/sf")
         self.rt(PROGRAM)
         written(self.clone + "/prebuilt/sum", "echo 12ab")
+        written(self.clone + "/prebuilt/finish", self.noting("finish"))
         self.write("prebuilt/SUM", SUM.encode())
-        self.write("prebuilt/sf-x86_64-linux.xz", lzma.compress(PROGRAM.encode()))
+        self.write("prebuilt/sf-x86_64-linux.gz", gzip.compress(PROGRAM.encode()))
 
     def write(self, name, data):
         with open(f"{self.clone}/{name}", "wb") as file:

@@ -5,7 +5,7 @@ import shutil
 import subprocess
 
 # Without these the gate would pass over what it has to test. (gcc only recommends the headers of the C library.)
-NEEDED = {"gcc": "gcc libc6-dev", "cc": "gcc libc6-dev", "git": "git", "make": "make", "valgrind": "valgrind", "xz": "xz-utils"}
+NEEDED = {"gcc": "gcc libc6-dev", "cc": "gcc libc6-dev", "git": "git", "make": "make", "valgrind": "valgrind", "gzip": "gzip"}
 # Some rows of pages, of the manual and of completions are tried with these, which no Debian has from the start: the gate
 # installs them where it may, and else passes over their rows.
 WANTED = {"fish": "fish", "zsh": "zsh", "groff": "groff-base", "mandoc": "mandoc", "mlr": "miller", "parallel": "parallel", "xxd": "xxd"}
@@ -20,7 +20,8 @@ SECONDS = 600
 # What no package brings, and the gate passes over where it is so. Else nothing may be passed over there.
 ALLOWED = re.compile(
     r"the prebuilt program was built with (?P<theirs>.+), and the kit here is (?!none\b|(?P=theirs)$).+|"
-    r"no disk may be mounted here|"
+    r"the prebuilt program was linked with (?P<linker>.+), and the linker here is (?!(?P=linker)$).+|"
+    r"no disk may be mounted here|no root may be changed here|"
     # (edits that show nothing yet: each is to be written anew, with its names kept)
     r"their proofs cite what they rename"
 )
@@ -32,7 +33,7 @@ def packages_of(tools):
 
 
 def lacking_in(why):
-    """The tools that a reason names as missing: "there is no make or no xz", "the kit here is none"."""
+    """The tools that a reason names as missing: "there is no make or no gzip", "the kit here is none"."""
     named = LACKING.findall(why.replace("the kit here is none", "there is no rt"))
     return [it for it in named if it in PACKAGES or it == "rt"]
 

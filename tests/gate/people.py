@@ -15,7 +15,7 @@ class People(Clone):
         self.assertEqual(self.calls("program"), ["--sf crates/sf/out/sf"])
 
     def test_it_needs_none_of_the_tools(self):
-        self.without("rt", "gcc", "cc", "git", "make", "valgrind", "xz")
+        self.without("rt", "gcc", "cc", "git", "make", "valgrind", "gzip")
         self.expect(0, ALL)
 
     def test_what_only_the_gate_builds_is_skipped(self):
@@ -34,10 +34,10 @@ class People(Clone):
         self.assertIn("  tests/layout, 9 crates, by rt fmt: there is no rt (the Rattle kit, with its rt in the path)", lines)
 
     def test_rows_of_one_reason_are_said_once(self):
-        rows = [f"passed over: row {it}: there is no make or no xz" for it in "abc"]
+        rows = [f"passed over: row {it}: there is no make or no gzip" for it in "abc"]
         self.says("program", *rows, "2 passed, 0 failed, 3 skipped")
         lines = self.expect(0, "23 passed, 0 failed, 5 skipped")
-        self.assertIn("  tests/program, 3 rows: there is no make or no xz (Debian: make xz-utils)", lines)
+        self.assertIn("  tests/program, 3 rows: there is no make or no gzip (Debian: make gzip)", lines)
 
     def test_a_test_of_which_all_is_passed_over_passes_nothing(self):
         self.says("program", "passed over: all: there is no valgrind", "0 passed, 0 failed, 1 skipped")

@@ -1,6 +1,6 @@
 """`make install`, `make uninstall` and `make dist`."""
+import gzip
 import io
-import lzma
 import os
 import shutil
 import subprocess
@@ -107,15 +107,15 @@ class Make(Clone):
         self.assertEqual(found(self.place), {})
 
 
-@unittest.skipUnless(shutil.which("make") and shutil.which("xz"), "there is no make or no xz")
+@unittest.skipUnless(shutil.which("make") and shutil.which("gzip"), "there is no make or no gzip")
 class Dist(Clone):
     NAME = "sf-1.2.3-x86_64-linux"
 
     def archive(self):
         self.make("dist")
-        self.assertEqual(os.listdir(self.clone + "/dist"), [self.NAME + ".tar.xz"])
-        with open(f"{self.clone}/dist/{self.NAME}.tar.xz", "rb") as file:
-            return lzma.decompress(file.read())
+        self.assertEqual(os.listdir(self.clone + "/dist"), [self.NAME + ".tar.gz"])
+        with open(f"{self.clone}/dist/{self.NAME}.tar.gz", "rb") as file:
+            return gzip.decompress(file.read())
 
     def members(self):
         with tarfile.open(fileobj=io.BytesIO(self.archive())) as archive:
@@ -145,7 +145,7 @@ class Dist(Clone):
 
     def test_its_time_can_be_given(self):
         self.make("dist", "SOURCE_DATE_EPOCH=86400")
-        with tarfile.open(f"{self.clone}/dist/{self.NAME}.tar.xz") as archive:
+        with tarfile.open(f"{self.clone}/dist/{self.NAME}.tar.gz") as archive:
             self.assertEqual({it.mtime for it in archive.getmembers()}, {86400})
 
     def test_the_program_in_it_is_the_one_that_is_built(self):
@@ -160,7 +160,7 @@ class Dist(Clone):
         os.mkdir(self.place)
         self.make("dist")
         folder = f"{self.clone}/dist/{self.NAME}"
-        program.output("tar", "-C", self.clone + "/dist", "-xJf", folder + ".tar.xz")
+        program.output("tar", "-C", self.clone + "/dist", "-xzf", folder + ".tar.gz")
         with open(folder + "/README", encoding="ascii") as page:
             lines = [line.split() for line in page]
         named = {line[0] for line in lines if line and line[0].startswith(("bin/", "share/"))}
@@ -182,4 +182,4 @@ class Dist(Clone):
         self.write("sf", LAUNCHER.replace("sf 1.2.3", program.version()))
         self.make("dist")
         name = program.version().replace(" ", "-")
-        self.assertEqual(os.listdir(self.clone + "/dist"), [name + "-x86_64-linux.tar.xz"])
+        self.assertEqual(os.listdir(self.clone + "/dist"), [name + "-x86_64-linux.tar.gz"])

@@ -1,5 +1,5 @@
 """What `comparison` finds, in clones made up for it."""
-import lzma
+import gzip
 import os
 import shutil
 import tempfile
@@ -8,7 +8,8 @@ import unittest
 import packed
 
 KIT = "kit-1 logic 12ab"
-PROGRAM = b"a program"
+LINKER = "gcc 1, ld 2, libc.a 34cd"
+PROGRAM, DYNAMIC = b"a program", b"what rt made"
 
 
 def write(path, data):
@@ -23,13 +24,18 @@ class Comparison(unittest.TestCase):
         self.root = tempfile.mkdtemp(prefix="sf prebuilt ")
         self.addCleanup(shutil.rmtree, self.root)
         self.built = self.root + "/crates/sf/out/sf"
-        write(self.root + "/prebuilt/sf-x86_64-linux.xz", lzma.compress(PROGRAM))
-        write(self.root + "/prebuilt/SUM", f"program {packed.sha256(PROGRAM)}\nsources 0\nkit {KIT}\n".encode())
+        write(self.root + "/prebuilt/sf-x86_64-linux.gz", gzip.compress(PROGRAM))
+        write(self.root + "/prebuilt/SUM", self.lines(PROGRAM))
+        write(self.root + "/crates/sf/out/sf.dynamic", DYNAMIC)
 
-    def found(self, data, kit=KIT):
+    def lines(self, program, sources=0):
+        sums = f"program {packed.sha256(program)}\ndynamic {packed.sha256(DYNAMIC)}\nsources {sources}\n"
+        return f"{sums}kit {KIT}\nlinker {LINKER}\n".encode()
+
+    def found(self, data, kit=KIT, linker=LINKER):
         if data is not None:
             write(self.built, data)
-        return packed.comparison(self.root, self.built, kit)
+        return packed.comparison(self.root, self.built, kit, linker)
 
     def test_the_same_bytes_are_the_same(self):
         self.assertIsNone(self.found(PROGRAM))
@@ -45,6 +51,15 @@ class Comparison(unittest.TestCase):
     def test_programs_of_two_kits_are_not_compared(self):
         for kit in ("kit-2 logic 12ab", None):
             self.assertFalse(self.found(b"another", kit)[0])
+
+    def test_by_another_linker_what_rt_made_has_to_be_the_same(self):
+        self.assertIsNone(self.found(PROGRAM, linker="rt"))
+        self.assertEqual(self.found(b"another", linker="rt"),
+                         (False, f"the prebuilt program was linked with {LINKER}, and the linker here is rt"))
+        write(self.root + "/crates/sf/out/sf.dynamic", b"what another rt made")
+        self.assertTrue(self.found(b"another", linker="rt")[0])
+        os.remove(self.root + "/crates/sf/out/sf.dynamic")
+        self.assertTrue(self.found(b"another", linker="rt")[0])
 
     def test_without_a_program_nothing_is_compared(self):
         self.assertFalse(self.found(None)[0])
@@ -64,11 +79,10 @@ class Comparison(unittest.TestCase):
         self.assertFalse(self.found(b"another")[0])
 
     def note(self, program, sources=0):
-        text = f"program {packed.sha256(program)}\nsources {sources}\nkit {KIT}\n"
-        write(self.root + "/crates/sf/out/SUM", text.encode())
+        write(self.root + "/crates/sf/out/SUM", self.lines(program, sources))
 
     def test_a_clone_without_a_prebuilt_program_is_a_fault(self):
-        for name in ("SUM", "sf-x86_64-linux.xz"):
+        for name in ("SUM", "sf-x86_64-linux.gz"):
             os.remove(f"{self.root}/prebuilt/{name}")
             with self.assertRaises(OSError):
                 self.found(PROGRAM)

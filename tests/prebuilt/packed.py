@@ -1,7 +1,7 @@
 """The prebuilt program of a clone, what it was made of by prebuilt/SUM, and what the clone holds. Nothing here calls a
 script of prebuilt/: each sum is computed a second time."""
+import gzip
 import hashlib
-import lzma
 import os
 import subprocess
 
@@ -24,10 +24,17 @@ def sha256(data):
     return hashlib.sha256(data).hexdigest()
 
 
+def lines_of_crates(root):
+    """The lines of crates.txt that name a crate: the crate, what it stands on, and the line."""
+    for line in read(root + "/crates.txt").decode().split("\n"):
+        name, _, uses = line.partition("#")[0].partition(":")
+        if name.strip():
+            yield name.strip(), uses.split(), line
+
+
 def crates(root):
     """The crates that sf stands on, and sf."""
-    rows = [line.partition("#")[0].partition(":") for line in read(root + "/crates.txt").decode().split("\n")]
-    below = {name.strip(): uses.split() for name, _, uses in rows if name.strip()}
+    below = {name: uses for name, uses, _ in lines_of_crates(root)}
     found, new = set(), {"sf"}
     while new:
         found |= new
@@ -37,12 +44,13 @@ def crates(root):
 
 def sources(root):
     """The sum of all that the program is made of."""
-    paths = ["crates.txt"]
-    for crate in crates(root):
+    ours, paths = crates(root), []
+    for crate in ours:
         for part in ("src", "specs", "proofs"):
             for at, _, names in os.walk(f"{root}/crates/{crate}/{part}"):
                 paths += [os.path.relpath(os.path.join(at, name), root) for name in names]
-    rows = (f"{sha256(read(f'{root}/{path}'))}  {path}\n".encode() for path in sorted(paths, key=os.fsencode))
+    rows = [f"{line}\n".encode() for name, _, line in lines_of_crates(root) if name in ours]
+    rows += [f"{sha256(read(f'{root}/{path}'))}  {path}\n".encode() for path in sorted(paths, key=os.fsencode)]
     return sha256(b"".join(rows))
 
 
@@ -57,7 +65,7 @@ def sums(root):
 
 def program(root):
     """The prebuilt program."""
-    return lzma.decompress(read(root + "/prebuilt/sf-x86_64-linux.xz"))
+    return gzip.decompress(read(root + "/prebuilt/sf-x86_64-linux.gz"))
 
 
 def kit():
@@ -69,7 +77,13 @@ def kit():
         return None
 
 
-def comparison(root, path, kit_here):
+def linker():
+    """What a program is linked with here: as prebuilt/link says, or rt alone."""
+    how = {"check": False, "capture_output": True, "text": True, "timeout": SECONDS}
+    return subprocess.run([ROOT + "/prebuilt/link"], **how).stdout.strip() or "rt"
+
+
+def comparison(root, path, kit_here, linker_here):
     """Compares the prebuilt program with the one that was built here: None where they are the same byte for byte, what
     is wrong (True, ..), or why they are not compared (False, ..)."""
     why = hindrance(root, path, kit_here)
@@ -78,6 +92,9 @@ def comparison(root, path, kit_here):
     ours, packed = read(path), program(root)
     if ours == packed:
         return None
+    theirs, made = sums(root), os.path.dirname(path) + "/sf.dynamic"
+    if theirs["linker"] != linker_here and os.path.exists(made) and sha256(read(made)) == theirs["dynamic"]:
+        return False, f"the prebuilt program was linked with {theirs['linker']}, and the linker here is {linker_here}"
     at = next((at for at, (one, other) in enumerate(zip(ours, packed)) if one != other), min(len(ours), len(packed)))
     sizes = f"the prebuilt program has {len(packed)} bytes, the one that was built here {len(ours)}"
     return True, f"{sizes}: they differ at byte {at}"

@@ -1,11 +1,11 @@
 """prebuilt/pack, which `make prebuilt` calls, in clones made up for it."""
-import lzma
+import gzip
 import os
 import re
 import shutil
 import subprocess
 
-from launcher import PROGRAM, RT, SECONDS, read, write
+from launcher import LINKED, PROGRAM, SECONDS, read
 from launching import Packed
 
 
@@ -13,34 +13,34 @@ class Packing(Packed):
     def packs(self):
         how = {"env": {"PATH": self.path, "TMPDIR": self.temporary}, "capture_output": True, "timeout": SECONDS}
         done = subprocess.run([self.clone + "/prebuilt/pack"], check=False, **how)
-        names = {"build", "pack", "plan.awk", "sum", "SECONDS", "SUM", "sf-x86_64-linux.xz"}
+        names = {"build", "finish", "link", "pack", "plan.awk", "sum", "SUM", "sf-x86_64-linux.gz"}
         self.assertLessEqual(set(os.listdir(self.clone + "/prebuilt")), names)
         return done.returncode
 
     def packed(self):
-        with open(self.clone + "/prebuilt/sf-x86_64-linux.xz", "rb") as file:
-            return lzma.decompress(file.read()).decode()
+        with open(self.clone + "/prebuilt/sf-x86_64-linux.gz", "rb") as file:
+            return gzip.decompress(file.read()).decode()
 
     def test_it_packs_what_is_built_here_and_the_launcher_takes_it(self):
         self.assertEqual(self.packs(), 0)
         self.assertEqual(self.builds(), 1)
-        self.assertEqual(self.packed(), PROGRAM.replace("{text}", "first"))
+        self.assertEqual(self.packed(), PROGRAM.replace("{text}", "first") + LINKED)
         names = re.findall(r"(?m)^([a-z]+) ", read(self.clone + "/prebuilt/SUM"))
-        self.assertEqual(names, ["program", "sources", "kit"])
+        self.assertEqual(names, ["program", "dynamic", "sources", "kit", "linker"])
         shutil.rmtree(self.clone + "/crates/sf/out")
         self.without_rt()
         self.expect("first", builds=1)
 
     def test_it_only_packs_what_is_current(self):
-        self.expect("first", builds=1)
+        self.build(1)
         self.assertEqual((self.packs(), self.builds()), (0, 1))
-        first = os.stat(self.clone + "/prebuilt/sf-x86_64-linux.xz").st_ino
-        with open(self.clone + "/prebuilt/sf-x86_64-linux.xz", "rb") as file:
+        first = os.stat(self.clone + "/prebuilt/sf-x86_64-linux.gz").st_ino
+        with open(self.clone + "/prebuilt/sf-x86_64-linux.gz", "rb") as file:
             before = file.read()
         self.assertEqual((self.packs(), self.builds()), (0, 1))
-        with open(self.clone + "/prebuilt/sf-x86_64-linux.xz", "rb") as file:
+        with open(self.clone + "/prebuilt/sf-x86_64-linux.gz", "rb") as file:
             self.assertEqual(file.read(), before)
-        self.assertNotEqual(os.stat(self.clone + "/prebuilt/sf-x86_64-linux.xz").st_ino, first)
+        self.assertNotEqual(os.stat(self.clone + "/prebuilt/sf-x86_64-linux.gz").st_ino, first)
 
     def test_what_was_unpacked_or_is_older_than_an_edit_is_built_first(self):
         self.pack("another")
@@ -52,7 +52,7 @@ class Packing(Packed):
         self.assertIn("made of second,", self.packed())
 
     def test_what_another_kit_built_is_built_anew(self):
-        self.expect("first", builds=1)
+        self.build(1)
         self.say("kit", "kit-2 logic 34cd\n")
         self.assertEqual((self.packs(), self.builds()), (0, 2))
         self.assertIn("kit kit-2 logic 34cd\n", read(self.clone + "/prebuilt/SUM"))
@@ -68,23 +68,21 @@ class Packing(Packed):
     def test_where_the_build_after_an_edit_fails_nothing_old_is_packed(self):
         self.assertEqual(self.packs(), 0)
         before = read(self.clone + "/prebuilt/SUM")
-        os.remove(self.clone + "/prebuilt/sf-x86_64-linux.xz")
+        os.remove(self.clone + "/prebuilt/sf-x86_64-linux.gz")
         self.edit("low/src/lib.rt")
         self.say("fails", "low")
         self.assertEqual(self.packs(), 1)
         self.assertEqual(read(self.clone + "/prebuilt/SUM"), before)
-        self.assertFalse(os.path.exists(self.clone + "/prebuilt/sf-x86_64-linux.xz"))
+        self.assertFalse(os.path.exists(self.clone + "/prebuilt/sf-x86_64-linux.gz"))
 
-    def test_the_figures_are_those_of_a_build_from_nothing(self):
-        works = "[ $crate = low ] && sh -c 'ulimit -t 1; while :; do :; done'"
-        self.command("rt", RT.replace("is fails", works + "\nis fails"))
-        os.makedirs(self.clone + "/crates/middle/out/incremental")
-        self.packs()
-        self.assertEqual(read(self.clone + "/prebuilt/SECONDS"), "# some figures\nother 0\nlow 1\nmiddle 300\nsf 0\n")
+    def test_what_is_not_linked_statically_is_not_packed(self):
+        self.pack("another")
+        self.only_tools()
+        self.take_back("libc.a")
+        self.assertEqual(self.packs(), 1)
+        self.assertIn("made of another,", self.packed())
 
-    def test_a_figure_is_of_the_program_and_of_the_system(self):
-        """Both of its times, minutes and seconds, whatever the shell itself took."""
-        self.packs()
-        write(self.clone + "/crates/sf/out/build/low.times", "0m1.00s 0m2.00s\n1m2.34s 2m5.67s\n")
-        self.assertEqual((self.packs(), self.builds()), (0, 1))
-        self.assertIn("\nlow 188\n", read(self.clone + "/prebuilt/SECONDS"))
+    def test_what_another_linker_linked_is_built_anew(self):
+        self.build(1)
+        self.say("libc.a", "another library")
+        self.assertEqual((self.packs(), self.builds()), (0, 2))

@@ -83,7 +83,7 @@ class OfAClone(unittest.TestCase):
         self.assertFalse(self.differs())
 
     def test_each_file_of_the_program_makes_a_difference(self):
-        for file in [*FILES[:8], "../crates.txt"]:
+        for file in FILES[:8]:
             with self.subTest(file):
                 text = packed.read(f"{self.root}/crates/{file}").decode()
                 self.write(file, text + "#")
@@ -95,6 +95,14 @@ class OfAClone(unittest.TestCase):
         for file in [*FILES[8:], "low/README.md", "../README.md", "../prebuilt/SUM", "new/src/lib.rt"]:
             self.write(file, "another text")
         self.assertFalse(self.differs())
+
+    def test_the_lines_of_the_programs_crates_make_a_difference_and_no_others(self):
+        for text in (CRATES.replace("and more", "and less"), CRATES.replace("low: num_traits", "low:")):
+            self.write("../crates.txt", text)
+            self.assertTrue(self.differs())
+        for text in ("# other crates\n" + CRATES, CRATES + "another: low\n", CRATES.replace("apart: low", "apart: middle")):
+            self.write("../crates.txt", text)
+            self.assertFalse(self.differs())
 
     def test_a_file_that_is_added_removed_or_renamed_makes_a_difference(self):
         new, folder = self.root + "/crates/sf/specs/Lib.antt", self.root + "/crates/low/src/"

@@ -1,5 +1,6 @@
-"""The launcher `sf` in clones made up for it, with a stand-in for `rt` that notes its calls and builds at once."""
+"""The launcher `sf` in clones made up for it, with stand-ins for `rt`, which notes its calls and builds at once, and for gcc."""
 import contextlib
+import hashlib
 import os
 import pty
 import re
@@ -24,11 +25,15 @@ echo "an error text" >&2
 exit 3
 """
 
+# What the linker adds to such a program.
+LINKED = "# linked\n"
+
 # Notes the crate that it is called in, and what with. It builds a program of the text of the lowest crate. Files beside
 # it say what else it does, and name the crate in which.
 RT = """#!/bin/sh
 room=$(dirname -- "$0")
 [ "$1" = version ] && exec cat "$room/kit"
+[ "$1" = doc ] && echo "$room/the kit/START-HERE.md" && exit
 crate=${PWD##*/}
 is() { [ "$(cat "$room/$1" 2>/dev/null)" = "$crate" ]; }
 echo "begins $crate: $*" >>"$room/calls"
@@ -46,8 +51,23 @@ else
     sed "s/{text}/$(cat ../low/src/lib.rt)/" "$room/program" >out/new
     chmod +x out/new
     mv out/new out/sf
+    { cat out/sf; echo "# linked"; } >out/sf.o
 fi
 echo "ends $crate" >>"$room/calls"
+"""
+
+# Links an object by copying it, and notes its words.
+GCC = """#!/bin/sh
+room=$(dirname -- "$0")
+case $1 in
+    --version) echo "gcc 1" ;;
+    -print-file-name=libc.a) echo "$room/libc.a" ;;
+    -print-prog-name=ld) echo "$room/ld" ;;
+    *)
+        echo "$*" >>"$room/links"
+        [ "$4" = -o ] && cp "$6" "$5" && chmod +x "$5"
+        ;;
+esac
 """
 
 CRATES = """# some crates
@@ -61,8 +81,10 @@ apart: low
 KIT = "kit-1 logic 12ab\n"
 
 # The commands of the system that the launcher uses.
-TOOLS = """awk cat chmod cmp cp date dirname find flock getconf grep head ls mkdir mkfifo mktemp mv nproc readlink rm
-    sed sh sha256sum sleep sort tail touch tr uname wc xargs xz""".split()
+TOOLS = """awk cat chmod cmp cp cut date dirname find flock grep gzip head ls mkdir mkfifo mktemp mv readlink rm sed sh sha256sum
+    sleep sort tail touch tr uname wc xargs""".split()
+
+OLDER = r"\Asf: this program is older than its source: make builds it, or \./sf --prove\n\Z"
 
 
 def write(path, text):
@@ -96,12 +118,14 @@ class Launcher(unittest.TestCase):
         write(self.clone + "/crates/low/specs/Lib.antt", "specs")
         write(self.clone + "/crates/low/proofs/part/Lib.antt", "proofs")
         write(self.clone + "/crates/low/must-fail/some.edit", "edit")
-        write(self.clone + "/prebuilt/SECONDS", "# some figures\nother 60\nlow 600\nmiddle 300\nsf 100\n")
         shutil.copy(ROOT + "/sf", self.clone + "/sf")
-        for name in ("build", "pack", "plan.awk", "sum"):
+        os.mkdir(self.clone + "/prebuilt")
+        for name in ("build", "finish", "link", "pack", "plan.awk", "sum"):
             shutil.copy(f"{ROOT}/prebuilt/{name}", self.clone + "/prebuilt")
         self.command("rt", RT)
-        self.command("nproc", "#!/bin/sh\necho 2\n")
+        self.command("gcc", GCC)
+        self.command("ld", "#!/bin/sh\necho ld 2\n")
+        self.say("libc.a", "a library")
         self.say("kit", KIT)
         self.say("program", PROGRAM)
         self.age()
@@ -175,10 +199,10 @@ class Launcher(unittest.TestCase):
     def edit(self, file, text="second"):
         write(f"{self.clone}/crates/{file}", text)
 
-    def put(self, text):
+    def put(self, text, more=""):
         """Puts a program of this text in its place, as another command than the launcher would."""
         new = self.clone + "/crates/sf/out/new"
-        write(new, PROGRAM.replace("{text}", text))
+        write(new, PROGRAM.replace("{text}", text) + more)
         os.chmod(new, 0o755)
         os.rename(new, self.clone + "/crates/sf/out/sf")
 
@@ -208,6 +232,23 @@ class Launcher(unittest.TestCase):
             return False
         return True
 
+    def build(self, builds, **how):
+        """`./sf --build`, after which there were that many builds in all: what it says."""
+        status, out, err = self.call("--build", **how)
+        self.assertEqual((status, out, self.builds()), (0, "", builds), err)
+        self.expect_nothing_left()
+        return err
+
+    def expect_built(self, text, *words, builds=0, **how):
+        """A call after `./sf --build`, which runs the program made of this text and says nothing more."""
+        said = self.build(builds)
+        self.assertEqual(self.expect(text, *words, builds=builds, **how), "")
+        return said
+
+    def expect_older(self, text, *words, builds=0, **how):
+        """A call that runs the program made of this text, and says that it is older than its source."""
+        self.assertRegex(self.expect(text, *words, builds=builds, **how), OLDER)
+
     def expect(self, text, *words, builds=0, **how):
         """A call that runs the program made of this text, after that many builds in all."""
         status, out, err = self.call(*words, **how)
@@ -227,7 +268,7 @@ class Launcher(unittest.TestCase):
 
     def expect_nothing_left(self):
         out = self.clone + "/crates/sf/out"
-        known = {"sf", "SUM", "build", "incremental", "rlib", "sf.stamp", "sf.began", "sf.begins", "sf.noted"}
+        known = {"sf", "sf.dynamic", "sf.o", "SUM", "build", "incremental", "rlib", "sf.stamp", "sf.began", "sf.noted"}
         self.assertLessEqual(set(os.listdir(out) if os.path.exists(out) else ()), known)
         self.assertEqual(os.listdir(self.temporary), [])
 
@@ -260,14 +301,23 @@ class Launcher(unittest.TestCase):
 
 class Builds(Launcher):
     def test_it_builds_once_and_hands_its_words_on(self):
-        status, out, err = self.call("scan", "%d  %d")
-        self.assertEqual((status, out), (3, answer("first", "scan", "%d  %d")))
+        self.build(1)
+        self.assertEqual(self.call("scan", "%d  %d"), (3, answer("first", "scan", "%d  %d"), "an error text\n"))
         self.assertEqual(self.call("x"), (3, answer("first", "x"), "an error text\n"))
-        self.assertEqual(self.builds(), 1)
+        self.assertEqual(self.build(1), "")
+
+    def test_it_builds_nothing_unasked(self):
+        err = self.expect_fault(r"the program is not built: make builds it, or \./sf --prove", "a")
+        self.assertEqual((err.count("\n"), self.calls()), (1, []))
+        self.expect_built("first", builds=1)
+        self.edit("low/src/lib.rt")
+        for _ in range(2):
+            self.expect_older("first", "a", builds=1)
+        self.expect_built("second", "a", builds=2)
 
     def test_low_crates_come_first_and_those_that_share_none_side_by_side(self):
         self.say("slow", "0.4")
-        self.expect("first", builds=1)
+        self.build(1)
         calls = self.calls()
         self.assertEqual(set(calls[:2]), {"begins other: lib", "begins low: lib"})
         self.assertEqual(set(calls[2:5]), {"ends other", "ends low", "begins middle: lib"})
@@ -277,7 +327,7 @@ class Builds(Launcher):
     def test_the_order_of_the_list_of_crates_is_free(self):
         self.say("slow", "0.4")
         write(self.clone + "/crates.txt", "sf: middle other\nmiddle: low\nother:\nlow:\n")
-        self.expect("first", builds=1)
+        self.expect_built("first", builds=1)
         begun = [it.split(" ")[1] for it in self.calls() if it.startswith("begins ")]
         self.assertEqual((begun[-2:], set(begun[:2])), (["middle:", "sf:"], {"low:", "other:"}))
 
@@ -285,114 +335,125 @@ class Builds(Launcher):
         """rt would have it wait too, and one that only waits would be said to be proved."""
         write(self.clone + "/crates.txt", "low:\nmiddle: low\nother: low\nsf: middle other\n")
         self.say("slow", "0.4")
-        self.expect("first", builds=1)
+        self.expect_built("first", builds=1)
         self.assertEqual([it.split(" ")[0] for it in self.calls()], ["begins", "ends"] * 4)
 
-    def test_it_says_how_long_it_takes_and_each_crate(self):
-        """On two cores a crate takes seven tenths of its processor time, and low, middle and sf are a chain: 700 s."""
-        lines = self.expect("first", builds=1).splitlines()
-        self.assertEqual(lines[0], "sf: proving and building the program here: about 12 minutes on 2 cores")
+    def test_it_says_how_many_crates_it_builds_and_each_that_is_built(self):
+        lines = self.build(1).splitlines()
+        self.assertEqual(lines[0], "sf: proving and building the program here: 4 crates")
         said = [re.sub(r"\d+:\d\d", "TIME", it) for it in lines[1:]]
         self.assertEqual([it.split(" ", 4)[4] for it in said], [f"{it} of 4 crates (TIME)" for it in range(1, 5)])
         self.assertEqual({it.split(" ")[1] for it in said[:2]} | {"middle"}, {"other", "low", "middle"})
         self.assertEqual(said[3], "sf: sf is built, 4 of 4 crates (TIME)")
 
-    def test_cores_help_as_far_as_crates_share_none(self):
-        for cores, said in ((1, "18 minutes on 1 core"), (2, "12 minutes on 2 cores"), (8, "9 minutes on 8 cores")):
-            with self.subTest(cores):
-                self.command("nproc", f"#!/bin/sh\necho {cores}\n")
-                for crate in ("other", "low", "middle", "sf"):
-                    shutil.rmtree(f"{self.clone}/crates/{crate}/out", ignore_errors=True)
-                self.assertIn(f": about {said}\n", self.call()[2])
-
-    def test_it_says_that_less_is_to_be_done_where_work_is_kept(self):
-        """A fifth of what the edited crate and those above it take, 700 s and 112 s."""
-        self.expect("first", builds=1)
-        self.edit("low/src/lib.rt")
-        self.assertIn(": about 2 minutes on 2 cores\n", self.expect("second", builds=2))
-        self.edit("other/src/lib.rt")
-        self.assertIn(": about 1 minute on 2 cores\n", self.expect("second", builds=3))
-
-    def test_it_builds_anew_after_an_edit_of_what_the_program_is_made_of(self):
-        self.expect("first", builds=1)
+    def test_it_is_older_after_an_edit_of_what_the_program_is_made_of(self):
+        self.build(1)
         edits = ["low/src/lib.rt", "low/specs/Lib.antt", "low/proofs/part/Lib.antt", "low/proofs/New.antt"]
-        edits += ["middle/src/lib.rt", "other/src/lib.rt", "sf/src/lib.rt", "../crates.txt"]
+        edits += ["middle/src/lib.rt", "middle/specs/New.antt", "other/src/lib.rt", "sf/src/lib.rt", "../crates.txt"]
         for builds, file in enumerate(edits, 2):
             with self.subTest(file):
-                self.edit(file, CRATES + "# more" if "crates.txt" in file else "second")
-                self.expect("second", builds=builds)
-                self.expect("second", builds=builds)
+                self.edit(file, CRATES.replace("middle other", "other middle") if "crates.txt" in file else "second")
+                self.expect_older("first" if builds == 2 else "second", builds=builds - 1)
+                self.expect_built("second", builds=builds)
 
-    def test_it_builds_anew_after_an_edit_that_keeps_an_old_time(self):
-        self.expect("first", builds=1)
-        self.edit("low/src/lib.rt")
-        os.utime(self.clone + "/crates/low/src/lib.rt", (1e9, 1e9))
-        self.expect("second", builds=2)
-        self.edit("low/src/lib.rt", "first")
-        os.utime(self.clone + "/crates/low/src/lib.rt", (1e9, 1e9))
-        self.expect("first", builds=3)
+    def test_it_is_older_after_an_edit_that_keeps_an_old_time(self):
+        self.build(1)
+        for builds, (before, text) in enumerate((("first", "second"), ("second", "first")), 2):
+            self.edit("low/src/lib.rt", text)
+            os.utime(self.clone + "/crates/low/src/lib.rt", (1e9, 1e9))
+            self.expect_older(before, builds=builds - 1)
+            self.expect_built(text, builds=builds)
 
-    def test_it_builds_anew_where_a_file_is_gone(self):
-        self.expect("first", builds=1)
+    def test_it_is_older_where_a_file_or_a_folder_is_gone(self):
+        self.build(1)
         os.remove(self.clone + "/crates/low/proofs/part/Lib.antt")
-        self.expect("first", builds=2)
+        self.expect_older("first", builds=1)
+        self.expect_built("first", builds=2)
+        shutil.rmtree(self.clone + "/crates/low/specs")
+        self.expect_older("first", builds=2)
+        self.expect_built("first", builds=3)
 
-    def test_it_builds_anew_after_an_edit_during_the_build(self):
+    def test_it_is_older_after_an_edit_during_the_build(self):
         self.say("slow", "0.4")
-        running = self.started()
+        running = self.started("--build")
         self.wait_for(self.calls, "no build began")
         self.edit("low/specs/Lib.antt")
         self.ended(running)
-        self.expect("first", builds=2)
-        self.expect("first", builds=2)
+        self.expect_older("first", builds=1)
+        self.expect_built("first", builds=2)
+        self.expect_built("first", builds=2)
 
-    def test_it_does_not_build_for_what_the_program_is_not_made_of(self):
-        self.expect("first", builds=1)
+    def test_what_the_program_is_not_made_of_makes_it_no_older(self):
+        self.build(1)
         for file in ("apart/src/lib.rt", "low/must-fail/some.edit", "../README.md", "../docs/FORMATS.md"):
             self.edit(file)
-        self.expect("first", builds=1)
+        self.expect_built("first", builds=1)
 
-    def test_it_does_not_build_where_only_times_are_new(self):
-        self.expect("first", builds=1)
+    def test_a_line_of_crates_for_another_program_makes_it_no_older(self):
+        self.build(1)
+        for text in (CRATES + "new: low\n", "# another text\n" + CRATES.replace("apart: low", "apart: middle")):
+            self.edit("../crates.txt", text)
+            self.assertEqual(self.expect("first", builds=1), "")
+
+    def test_new_times_make_it_no_older(self):
+        self.build(1)
         os.utime(self.clone + "/crates/low/src/lib.rt")
         self.edit("low/src/lib.rt", "first")
-        self.expect("first", builds=1)
+        self.assertEqual(self.expect("first", builds=1), "")
 
-    def test_it_builds_anew_where_the_program_is_gone(self):
-        self.expect("first", builds=1)
+    def test_a_program_that_is_gone_is_not_run(self):
+        self.build(1)
         os.remove(self.clone + "/crates/sf/out/sf")
-        self.expect("first", builds=2)
+        self.expect_fault("the program is not built")
+        self.expect_built("first", builds=2)
         os.chmod(self.clone + "/crates/sf/out/sf", 0o644)
-        self.expect("first", builds=3)
+        self.expect_fault("the program is not built")
+        self.expect_built("first", builds=3)
 
-    def test_it_builds_anew_where_a_folder_can_not_be_looked_through(self):
-        self.expect("first", builds=1)
-        self.command("find", f"#!/bin/sh\n[ \"$2\" = -inum ] || exit 1\nexec {shutil.which('find')} \"$@\"\n")
-        self.expect("first", builds=2)
+    def test_where_a_folder_can_not_be_looked_through_the_sum_is_made(self):
+        self.build(1)
+        find = shutil.which("find")
+        self.command("find", f"#!/bin/sh\ncase \"$*\" in *-newer*-path*|*-path*-newer*) exit 1 ;; esac\nexec {find} \"$@\"\n")
+        self.edit("low/src/lib.rt")
+        self.expect_older("first", builds=1)
+        self.command("find", "#!/bin/sh\nexit 1\n")
+        self.expect_older("first", builds=1)
 
-    def test_a_program_that_was_put_there_is_not_run_unasked(self):
-        self.put("another")
+    def test_a_current_program_is_found_by_one_find(self):
+        self.build(1)
         self.expect("first", builds=1)
+        self.command("find", f"#!/bin/sh\necho >>'{self.bin}/finds'\nexec {shutil.which('find')} \"$@\"\n")
+        for name in ("awk", "sha256sum", "ls", "sed", "flock"):
+            self.command(name, f"#!/bin/sh\necho {name} >>'{self.bin}/finds'\nexit 1\n")
+        self.assertEqual((self.expect("first", builds=1), read(self.bin + "/finds")), ("", "\n"))
+
+    def test_a_program_that_was_put_there_is_not_run(self):
         self.put("another")
-        self.expect("first", builds=2)
+        self.expect_fault("the program is not built")
+        self.expect_built("first", builds=1)
+        self.put("another")
+        self.expect_fault("the program is not built")
+        self.expect_built("first", builds=2)
         write(self.clone + "/crates/sf/out/sf", PROGRAM.replace("{text}", "another"))
-        self.expect("first", builds=3)
-        self.expect("first", builds=3)
+        self.expect_fault("the program is not built")
+        self.expect_built("first", builds=3)
 
-    def test_what_was_built_in_another_clone_is_not_run_unasked(self):
+    def test_what_was_built_in_another_clone_is_older_here(self):
         """However its folder was copied, and whatever times the copies have."""
         other = self.other_clone()
-        self.expect("first", builds=1)
+        self.build(1)
         for option in ("-r", "-a"):
             with self.subTest(option):
                 subprocess.run(["cp", option, self.clone + "/crates/sf/out", other + "/crates/sf"], check=True)
-                self.assertEqual(self.call(file=other + "/sf")[:2], (3, answer("second")))
+                status, out, err = self.call(file=other + "/sf")
+                self.assertEqual((status, out), (3, answer("first")))
+                self.assertRegex(err.removesuffix("an error text\n"), OLDER)
                 shutil.rmtree(other + "/crates/sf/out")
 
     def test_what_was_built_in_another_clone_of_these_sources_is_run(self):
         self.edit("low/src/lib.rt")
         other = self.other_clone()
-        self.expect("second", builds=1)
+        self.expect_built("second", builds=1)
         for option in ("-r", "-a"):
             with self.subTest(option):
                 subprocess.run(["cp", option, self.clone + "/crates/sf/out", other + "/crates/sf"], check=True)
@@ -401,47 +462,111 @@ class Builds(Launcher):
         self.assertEqual(self.builds(), 1)
 
     def test_it_runs_what_another_command_has_built_where_the_sum_has_it(self):
-        self.expect("first", builds=1)
+        """As it was linked, or as rt made it."""
+        self.build(1)
         self.put("first")
-        self.expect("first", builds=1)
+        self.assertEqual(self.expect("first", builds=1), "")
+        self.put("first", LINKED)
+        self.assertEqual(self.expect("first", builds=1), "")
         os.remove(self.clone + "/crates/sf/out/sf.began")
-        self.expect("first", builds=1)
+        self.assertEqual(self.expect("first", builds=1), "")
         self.edit("low/src/lib.rt")
-        self.expect("second", builds=2)
+        self.expect_older("first", builds=1)
 
     def test_a_crate_that_fails_is_shown_with_its_log(self):
         self.say("fails", "middle")
-        err = self.expect_fault("could not be built: middle failed")
+        err = self.expect_fault("could not be built: middle failed", "--build")
         self.assertIn("\nfn middle::one: proved\nerror: something is not proved\n", err)
         self.assertNotIn("fn low::one", err)
         self.assertEqual(self.builds(), 0)
         self.take_back("fails")
-        self.expect("first", builds=1)
+        self.expect_built("first", builds=1)
 
     def test_a_crate_that_is_not_there_fails(self):
         shutil.rmtree(self.clone + "/crates/middle")
-        self.expect_fault("could not be built: middle failed")
+        self.expect_fault("could not be built: middle failed", "--build")
 
-    def test_nothing_old_runs_where_the_build_after_an_edit_fails(self):
+    def test_what_is_there_is_older_where_the_build_after_an_edit_fails(self):
         for crate in ("low", "sf"):
             with self.subTest(crate):
-                self.call()
+                self.build(1 if crate == "low" else 2)
+                text = read(self.clone + "/crates/low/src/lib.rt")
                 self.edit("low/src/lib.rt", f"an edit that {crate} doesn't bear")
                 self.say("fails", crate)
-                for _ in range(3):
-                    self.expect_fault(f"could not be built: {crate} failed")
+                for _ in range(2):
+                    self.expect_fault(f"could not be built: {crate} failed", "--build")
+                    self.assertRegex(self.call()[2].removesuffix("an error text\n"), OLDER)
+                self.assertEqual(self.call()[1], answer(text))
                 self.take_back("fails")
 
     def test_a_build_that_makes_no_program_is_a_failure(self):
         self.command("rt", RT.replace("mv out/new out/sf", "rm out/new"))
-        self.expect_fault("could not be built")
+        self.expect_fault("could not be built", "--build")
 
     def test_without_rt_it_says_so(self):
         self.without_rt()
-        self.assertEqual(self.expect_fault(r"\brt\b").count("\n"), 1)
+        self.assertEqual(self.expect_fault(r"\brt\b", "--build").count("\n"), 1)
+
+    def test_it_is_a_word_of_the_launcher_only_alone(self):
+        self.build(1)
+        for words in (("--build", "a"), ("a", "--build"), ("--built",), ("--prove", "a"), ("a", "--prove"), ("--proved",), ()):
+            self.expect("first", *words, builds=1)
+
+
+class Links(Launcher):
+    """The program is linked statically where that can be done, and what rt made stays beside it."""
+
+    def made(self, name):
+        return read(f"{self.clone}/crates/sf/out/{name}")
+
+    def test_the_program_is_the_linked_one_and_what_rt_made_stays(self):
+        self.build(1)
+        self.assertEqual(self.made("sf"), PROGRAM.replace("{text}", "first") + LINKED)
+        self.assertEqual(self.made("sf.dynamic"), PROGRAM.replace("{text}", "first"))
+        kit = self.bin + "/the kit/c"
+        words = f"-static -s -Wl,--build-id=none -o sf.linked sf.o {kit}/liblibc_c.a {kit}/libos_c.a\n"
+        self.assertEqual(read(self.bin + "/links"), words)
+
+    def test_the_sum_has_both_and_what_linked_it(self):
+        self.build(1)
+        lines = dict(line.split(" ", 1) for line in self.made("SUM").splitlines())
+        self.assertEqual(list(lines), ["program", "dynamic", "sources", "kit", "linker"])
+        for name, file in (("program", "sf"), ("dynamic", "sf.dynamic")):
+            self.assertEqual(lines[name], hashlib.sha256(self.made(file).encode()).hexdigest())
+        library = hashlib.sha256(b"a library").hexdigest()[:16]
+        self.assertEqual((lines["kit"], lines["linker"]), (KIT.strip(), f"gcc 1, ld 2, libc.a {library}"))
+
+    def test_rt_finds_its_own_program_again(self):
+        """So it need not build it anew."""
+        self.build(1)
+        own = 'grep -q linked out/sf && echo linked >>"$room/met"'
+        self.command("rt", RT.replace("    touch out/sf.stamp", f"    {own}\n    touch out/sf.stamp"))
+        self.edit("other/src/lib.rt")
+        self.expect_built("first", builds=2)
+        self.assertFalse(os.path.exists(self.bin + "/met"))
+
+    def test_without_gcc_or_libc_it_is_what_rt_made(self):
+        self.only_tools()
+        for builds, name in enumerate(("libc.a", "gcc"), 1):
+            with self.subTest(name):
+                self.take_back(name)
+                said = self.build(builds)
+                self.assertRegex(said, r"\nsf: without gcc and libc\.a the program is linked for the C library of this system alone\n\Z")
+                self.assertEqual(self.made("sf"), PROGRAM.replace("{text}", "first"))
+                self.assertIn("\nlinker rt\n", self.made("SUM"))
+                self.assertEqual(self.expect("first", builds=builds), "")
+                self.edit("other/src/lib.rt", name)
+
+    def test_a_link_that_fails_is_a_failure(self):
+        self.command("gcc", GCC.replace("cp ", "false "))
+        self.expect_fault("the program could not be linked", "--build")
 
 
 class Places(Launcher):
+    def setUp(self):
+        super().setUp()
+        self.build(1)
+
     def test_it_works_from_any_folder(self):
         self.expect("first", "a", cwd="/", builds=1)
         self.expect("first", "a", cwd=self.clone + "/crates", file="../sf", builds=1)
@@ -456,7 +581,7 @@ class Places(Launcher):
         for file in (self.bin + "/absolute", self.bin + "/relative", self.bin + "/twice", self.room + "/folder/sf"):
             self.expect("first", "a", cwd="/", file=file, builds=1)
         self.expect("first", "a", cwd=self.room, file="bin/relative", builds=1)
-        self.assertEqual(set(os.listdir(self.bin)), there | {"calls"})
+        self.assertEqual(set(os.listdir(self.bin)), there)
 
     def test_it_works_through_the_path(self):
         os.symlink("../a clone/sf", self.bin + "/sf")
@@ -475,25 +600,26 @@ class WithoutWriting(Launcher):
     def test_where_nothing_is_built_it_says_so_in_one_line(self):
         how = self.closed()
         self.assertEqual(self.expect_fault("not built[^\n]*can't be written", **how).count("\n"), 1)
-        self.assertEqual(self.expect_fault("can't be written", "--prove", **how).count("\n"), 1)
+        for word in ("--prove", "--build"):
+            self.assertEqual(self.expect_fault("can't be written", word, **how).count("\n"), 1)
         self.assertEqual(self.calls(), [])
 
     def test_what_is_built_runs(self):
-        self.expect("first", builds=1)
+        self.build(1)
         self.assertEqual(self.expect("first", "a", builds=1, **self.closed()), "")
 
     def test_what_is_built_runs_after_an_edit_too_and_that_is_said(self):
-        self.expect("first", builds=1)
+        self.build(1)
         self.edit("low/src/lib.rt")
         said = self.expect("first", "a", builds=1, **self.closed())
-        self.assertRegex(said, r"\Asf: [^\n]*older than its source[^\n]*\n\Z")
+        self.assertRegex(said, r"\Asf: [^\n]*older than its source[^\n]*can't be written\n\Z")
 
     def test_what_was_put_there_does_not_run(self):
         self.put("another")
         self.expect_fault("not built[^\n]*can't be written", **self.closed())
 
     def test_what_is_built_is_not_older_where_only_times_are_new(self):
-        self.expect("first", builds=1)
+        self.build(1)
         os.utime(self.clone + "/crates/low/src/lib.rt")
         self.assertEqual(self.expect("first", "a", builds=1, **self.closed()), "")
 
@@ -501,60 +627,80 @@ class WithoutWriting(Launcher):
 class Together(Launcher):
     def test_one_of_two_calls_builds_and_the_other_waits(self):
         self.say("slow", "0.4")
-        first = self.started("a")
-        self.wait_for(self.builds, "no build began")
-        second = self.started("b")
-        self.assertEqual(self.ended(first)[:2], (3, answer("first", "a")))
+        first = self.started("--build")
+        self.wait_for(self.calls, "no build began")
+        second = self.started("--build")
+        self.assertEqual(self.ended(first)[:2], (0, ""))
         status, out, err = self.ended(second)
-        self.assertEqual((status, out), (3, answer("first", "b")))
-        self.assertRegex(err, r"\Asf: waiting [^\n]*\nan error text\n\Z")
+        self.assertEqual((status, out), (0, ""))
+        self.assertRegex(err, r"\Asf: waiting [^\n]*\n\Z")
         self.assertEqual(self.builds(), 1)
 
     def test_one_of_two_calls_builds_also_where_no_sum_can_be_made(self):
         self.only_tools("sha256sum")
         self.say("slow", "0.4")
-        first = self.started("a")
+        first = self.started("--build")
         self.wait_for(self.calls, "no build began")
-        second = self.started("b")
-        self.assertEqual(self.ended(first)[:2], (3, answer("first", "a")))
-        self.assertEqual(self.ended(second)[:2], (3, answer("first", "b")))
-        self.assertEqual(self.builds(), 1)
+        second = self.started("--build")
+        self.assertEqual(self.ended(first)[:2], (0, ""))
+        self.assertEqual(self.ended(second)[:2], (0, ""))
+        self.assertEqual(self.expect("first", builds=1), "")
+
+    def test_a_call_does_not_wait_for_a_build(self):
+        """It runs what there is, and writes nothing."""
+        self.build(1)
+        self.edit("low/src/lib.rt")
+        self.say("endless", "middle")
+        self.started("--build")
+        self.endless("middle")
+        status, out, err = self.call("a")
+        self.assertEqual((status, out), (3, answer("first", "a")))
+        self.assertRegex(err, r"\Asf: this program is older than its source, and another call builds it\nan error text\n\Z")
+
+    def test_where_nothing_is_built_a_call_says_that_another_builds_it(self):
+        self.say("endless", "low")
+        self.started("--build")
+        self.endless("low")
+        status, out, err = self.call("a")
+        self.assertEqual((status, out), (1, ""))
+        self.assertEqual(err, "sf: the program is not built, and another call builds it\n")
 
     def test_where_there_are_no_locks_it_works_too(self):
         self.only_tools("flock")
-        self.expect("first", builds=1)
-        self.expect("first", builds=1)
+        self.expect_built("first", builds=1)
+        self.edit("low/src/lib.rt")
+        self.expect_older("first", builds=1)
 
     def test_an_interrupted_call_waits_no_longer(self):
         self.say("endless", "low")
-        first = self.started()
+        first = self.started("--build")
         self.endless("low")
-        second = self.started()
+        second = self.started("--build")
         self.assertRegex(self.piece(second.stderr.fileno()), rb"\Asf: waiting ")
         second.terminate()
         second.wait(timeout=SECONDS)
         self.assertEqual((second.returncode, first.poll(), self.calls().count("begins low: lib")), (143, None, 1))
 
-    def test_a_call_does_not_wait_for_a_program_that_runs(self):
+    def test_a_build_does_not_wait_for_a_program_that_runs(self):
+        self.build(1)
         self.started("long")
-        self.wait_for(lambda: os.path.exists(self.clone + "/crates/sf/out/sf.began"), "it was not built")
         self.edit("low/src/lib.rt")
-        self.expect("second", builds=2)
+        self.expect_built("second", builds=2)
 
     def test_a_build_that_was_killed_is_waited_for_no_longer(self):
         self.say("endless", "middle")
-        first = self.started()
+        first = self.started("--build")
         build = self.endless("middle")
         first.kill()
         first.wait(timeout=SECONDS)
         os.kill(build, signal.SIGKILL)
         self.take_back("endless")
-        status, out, _ = self.call()
-        self.assertEqual((status, out, self.builds()), (3, answer("first"), 1))
+        self.assertEqual(self.call("--build")[:2], (0, ""))
+        self.assertEqual((self.call()[:2], self.builds()), ((3, answer("first")), 1))
 
     def test_what_an_old_lock_left_is_not_waited_for(self):
         write(self.clone + "/crates/sf/out/building/owner", str(os.getpid()))
-        self.assertEqual(self.call()[:2], (3, answer("first")))
+        self.assertEqual(self.call("--build")[:2], (0, ""))
 
 
 class Interrupts(Launcher):
@@ -562,21 +708,21 @@ class Interrupts(Launcher):
         for number, status in ((signal.SIGHUP, 129), (signal.SIGINT, 130), (signal.SIGTERM, 143)):
             with self.subTest(number):
                 self.say("endless", "middle")
-                running = self.started()
+                running = self.started("--build")
                 build = self.endless("middle")
                 running.send_signal(number)
                 self.assertEqual(self.ended(running)[:2], (status, ""))
                 self.assertTrue(self.is_gone(build))
                 self.expect_nothing_left()
                 self.take_back("endless", "process of middle", "calls")
-                self.expect("first", builds=1)
+                self.expect_built("first", builds=1)
                 self.take_back("calls")
                 shutil.rmtree(self.clone + "/crates/sf/out")
 
     def test_an_interrupt_stops_all_crates_that_are_being_built(self):
         self.command("rt", RT.replace("is endless && {", '[ -e "$room/endless" ] && {'))
         self.say("endless")
-        running = self.started()
+        running = self.started("--build")
         processes = [self.endless(crate) for crate in ("low", "other")]
         running.terminate()
         self.assertEqual(self.ended(running)[0], 143)
@@ -587,14 +733,14 @@ class Interrupts(Launcher):
         self.command("rt", RT.replace("is fails &&", waits + "\nis fails &&"))
         self.say("endless", "low")
         self.say("fails", "other")
-        self.expect_fault("could not be built: other failed")
+        self.expect_fault("could not be built: other failed", "--build")
         self.assertTrue(self.is_gone(self.endless("low")))
 
     def test_each_moment_of_a_build_can_be_interrupted(self):
         self.say("endless", "middle")
         for at in range(25):
             with self.subTest(at):
-                running = self.started()
+                running = self.started("--build")
                 time.sleep(0.008 * at)
                 running.terminate()
                 # (before it has set its traps it ends by the signal itself)
@@ -607,15 +753,15 @@ class Interrupts(Launcher):
 class Shown(Launcher):
     def test_a_terminal_is_shown_which_of_how_many_crates_are_proved(self):
         self.say("slow", "2.5")
-        out, shown = self.shown("a")
-        self.assertEqual(out, "made of first, called with: a\n")
+        out, shown = self.shown("--build")
+        self.assertEqual(out, "")
         first, _, rest = shown.partition("\r\n")
-        self.assertEqual(first, "sf: proving and building the program here: about 12 minutes on 2 cores")
+        self.assertEqual(first, "sf: proving and building the program here: 4 crates")
         self.assertRegex(rest, r"\A\r\x1b\[Ksf: 0 of 4 crates done, proving (other, low|low, other) \(0:\d\d\)\r")
         self.assertRegex(rest, r"sf: 3 of 4 crates done, proving sf \(0:\d\d\)\r")
-        self.assertTrue(rest.endswith("\r\x1b[Kan error text\r\n"), rest)
-        self.assertEqual(rest.count("\n"), 1)
+        self.assertTrue(rest.endswith("\r\x1b[K"), rest)
+        self.assertEqual(rest.count("\n"), 0)
 
     def test_a_terminal_is_shown_that_another_rt_is_waited_for(self):
         self.say("waits", "low")
-        self.assertIn("\x1b[Ksf: waiting for another rt to finish in low (0:0", self.shown()[1])
+        self.assertIn("\x1b[Ksf: waiting for another rt to finish in low (0:0", self.shown("--build")[1])
