@@ -51,7 +51,7 @@ dist: all
 	$(MAKE) --no-print-directory install DESTDIR= PREFIX="$(STAGE)" BINDIR="$(STAGE)/bin" MANDIR="$(STAGE)/share/man" \
 		BASHDIR="$(STAGE)/share/bash-completion/completions" ZSHDIR="$(STAGE)/share/zsh/site-functions" \
 		FISHDIR="$(STAGE)/share/fish/vendor_completions.d"
-	$(INSTALL) -m 644 LICENSE NOTICE "$(STAGE)"
+	$(INSTALL) -m 644 LICENSE NOTICE prebuilt/COPYING.LIB "$(STAGE)"
 	$(INSTALL) -m 644 prebuilt/README.dist "$(STAGE)/README"
 	tar -C dist --format=ustar --sort=name --mtime="@$(SOURCE_DATE_EPOCH)" $(AS_NOBODY) -cf "$(STAGE).tar" "$(DIST)"
 	gzip -9nf "$(STAGE).tar"

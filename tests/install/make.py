@@ -52,7 +52,7 @@ class Clone(unittest.TestCase):
         for name in ("man", "completions"):
             shutil.copytree(f"{program.ROOT}/{name}", f"{self.clone}/{name}")
         os.makedirs(self.clone + "/prebuilt")
-        for name in ("Makefile", "LICENSE", "NOTICE", "prebuilt/README.dist"):
+        for name in ("Makefile", "LICENSE", "NOTICE", "prebuilt/COPYING.LIB", "prebuilt/README.dist"):
             shutil.copy(f"{program.ROOT}/{name}", f"{self.clone}/{name}")
         os.makedirs(self.clone + "/crates/sf_words/src")
         self.write("sf", LAUNCHER)
@@ -122,7 +122,7 @@ class Dist(Clone):
             return archive.getmembers()
 
     def test_it_holds_what_is_installed_and_the_terms(self):
-        files = {**FILES, "LICENSE": 0o644, "NOTICE": 0o644, "README": 0o644}
+        files = {**FILES, "COPYING.LIB": 0o644, "LICENSE": 0o644, "NOTICE": 0o644, "README": 0o644}
         found = {it.name: it.mode for it in self.members() if it.isfile()}
         self.assertEqual(found, {f"{self.NAME}/{name}": mode for name, mode in files.items()})
 

@@ -4,8 +4,8 @@
 //! POSIX's numbered conversions). Both are parsed once, and used as often as one likes:
 //!
 //! - `ScanFormat::parse(alloc, Profile::One, b"%d ,%d")?`, and `PrintFormat::parse` likewise. `Profile::One` is C's
-//!   grammar, `Profile::Two` has base 2 beside, and `Profile::Three` floats in print formats, too. A text that is no
-//!   format is a `FormatFault`: why (F1 to F19), and at which byte.
+//!   grammar, `Profile::Two` has base 2 beside, and `Profile::Three` also floats, and `?` in scan formats for what may
+//!   be missing. A text that is no format is a `FormatFault`: why (F1 to F19), and at which byte.
 //! - A scan has a limit, the most bytes that it may use, up to 2147483647.
 //!
 //! To scan
