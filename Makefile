@@ -2,6 +2,7 @@
 # make install [PREFIX=/usr/local] [DESTDIR=]    the program, its man page and its completions
 # make uninstall                                 takes them away again
 # make dist                                      dist/sf-VERSION-x86_64-linux.tar.gz, which holds all of that
+# make library                                   dist/sf-library-VERSION.tar.gz: the crates that a program of one's own needs
 # make check                                     tests the program and the pages (./test)
 # make prebuilt                                  proves and builds the program here, and packs it in prebuilt/
 #
@@ -27,9 +28,12 @@ PROGRAM = crates/sf/out/sf
 VERSION = $(shell sed -n 's/^const VERSION: &str = "\(.*\)";$$/\1/p' crates/sf_words/src/line.rt)
 DIST = sf-$(VERSION)-x86_64-linux
 STAGE = dist/$(DIST)
-# The time of each file in the archive, so that the same program makes the same archive: 2026-01-01, if none is given.
+LIBRARY = sf-library-$(VERSION)
+CRATES = dist/$(LIBRARY)
+# The time of each file in an archive, so that the same files make the same archive: 2026-01-01, if none is given.
 SOURCE_DATE_EPOCH ?= 1767225600
 AS_NOBODY = --owner=0 --group=0 --numeric-owner --mode=u=rwX,go=rX
+PACK = tar -C dist --format=ustar --sort=name --mtime="@$(SOURCE_DATE_EPOCH)" $(AS_NOBODY)
 
 all:
 	./sf --build
@@ -53,9 +57,21 @@ dist: all
 		FISHDIR="$(STAGE)/share/fish/vendor_completions.d"
 	$(INSTALL) -m 644 LICENSE NOTICE prebuilt/COPYING.LIB "$(STAGE)"
 	$(INSTALL) -m 644 prebuilt/README.dist "$(STAGE)/README"
-	tar -C dist --format=ustar --sort=name --mtime="@$(SOURCE_DATE_EPOCH)" $(AS_NOBODY) -cf "$(STAGE).tar" "$(DIST)"
+	$(PACK) -cf "$(STAGE).tar" "$(DIST)"
 	gzip -9nf "$(STAGE).tar"
 	rm -rf "$(STAGE)"
+
+library:
+	rm -rf "$(CRATES)"
+	tools/vendor "$(CRATES)" example_sum
+	mv "$(CRATES)/LICENSE.sf" "$(CRATES)/LICENSE"
+	rm -rf "$(CRATES)/.git"
+	mkdir "$(CRATES)/tools"
+	cp tools/vendor "$(CRATES)/tools"
+	$(INSTALL) -m 644 prebuilt/README.library "$(CRATES)/README"
+	$(PACK) -cf "$(CRATES).tar" "$(LIBRARY)"
+	gzip -9nf "$(CRATES).tar"
+	rm -rf "$(CRATES)"
 
 check:
 	./test
@@ -63,4 +79,4 @@ check:
 prebuilt:
 	prebuilt/pack
 
-.PHONY: all install uninstall dist check prebuilt
+.PHONY: all install uninstall dist library check prebuilt

@@ -62,5 +62,5 @@ class Prebuilt(unittest.TestCase):
             self.assertEqual(ended(change, room, "/sf", "print", "-p3", "%.3f", "2.5"), (0, b"2.500", b""))
 
     def test_no_other_file_lies_beside_it(self):
-        names = {"COPYING.LIB", "README.dist", "README.md", "SUM", "build", "finish", "link", "pack", "plan.awk", "sf-x86_64-linux.gz", "sum"}
+        names = {"COPYING.LIB", "README.dist", "README.library", "README.md", "SUM", "build", "finish", "link", "pack", "plan.awk", "sf-x86_64-linux.gz", "sum"}
         self.assertEqual(set(os.listdir(ROOT + "/prebuilt")), names)
