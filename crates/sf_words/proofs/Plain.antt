@@ -1,5 +1,5 @@
 -- Words that don't begin with `-`.
-use Rattle.std.proofs.Common.{◌≡◌, ◌∙◌, ◌<◌, ◌^◌, ℕ, Bool, true, false, true≢false, cond, List, [], ◌∷◌, ◌++◌, length, Option, Some, None}
+use Rattle.std.proofs.Common.{◌≡◌, ◌∙◌, ◌&&◌, ◌<◌, ◌^◌, ℕ, Bool, true, false, true≢false, cond, List, [], ◌∷◌, ◌++◌, length, Option, Some, None}
 use Rattle.std.proofs.Common.{is_some, refl, sym, ap, subst, arith, append-nil, codes}
 use Rattle.std.specs.Prelude.{fold}
 use Rattle.std.specs.List.{AllByRecursion}
@@ -17,7 +17,7 @@ use Rattle.clap.specs.Faults.{word_fault}
 use Rattle.clap.proofs.FaultLemmas.{stopped_fault}
 use Rattle.clap.proofs.OnLiterals.{clap_on_literals}
 use Rattle.clap.proofs.WalkLemmas.{walk_stopped}
-use Rattle.sf_words.specs.Hyphens.{asks_format, clap_words, joined}
+use Rattle.sf_words.specs.Hyphens.{asks_format, asks_number, clap_words, is_digit, is_negative, joined, valued}
 use Rattle.sf_words.specs.Laws.{IsPlain, IsTakenAs, TakesPlainTexts}
 use Rattle.sf_words.specs.Line.{check_app, copy_app, print_app, scan_app, sf_app, show_app}
 use Rattle.sf_words.specs.Orders.{own_faults, texts_by, verb_text}
@@ -205,6 +205,25 @@ one_word w = go (asks_format w) (bytes_eq w (codes "--"))
     go false true = refl
     go false false = refl
 
+-- and those of a print, where none is below zero
+plain_negative : (word : Text) → IsPlain word → is_negative word ≡ false
+plain_negative [] plain = refl
+plain_negative (b ∷ []) plain = refl
+plain_negative (b ∷ digit ∷ rest) plain = ap (λ minus. minus && is_digit digit) plain
+
+as_values : (asked : Bool) (words : List Text) → AllByRecursion IsPlain words → valued asked words ≡ words
+as_values true [] plain = refl
+as_values false [] plain = refl
+as_values true (word ∷ rest) plain = ap (λ ws. word ∷ ws) (as_values false rest plain.1)
+as_values false (word ∷ rest) plain =
+    ap (λ b. cond b (codes "--" ∷ word ∷ rest) (word ∷ cond (bytes_eq word (codes "--")) rest (valued (asks_number word) rest)))
+    (plain_negative word plain.0)
+    ∙ ap (λ ws. word ∷ ws) (after (bytes_eq word (codes "--")) (as_values (asks_number word) rest plain.1))
+  where
+    after : (dashes : Bool) → valued (asks_number word) rest ≡ rest → cond dashes rest (valued (asks_number word) rest) ≡ rest
+    after true same = refl
+    after false same = same
+
 -- ---- the five
 
 abbrev one_pending : Text → Text → List Row → ℕ → Walk
@@ -306,12 +325,13 @@ unfolding walk_fault
 print_fine w fact = nothing (turn_fault (level Print) [] (walk_from nothing_held) w) []
     (turn w fact nothing_held (level Print) idle 1 refl refl) refl
 
-format_plain : (w : Text) → NoFlag w → IsTakenAs (codes "print" ∷ w ∷ []) Print (w ∷ [])
+format_plain : (w : Text) → IsPlain w → NoFlag w → IsTakenAs (codes "print" ∷ w ∷ []) Print (w ∷ [])
 unfolding clap_on_literals
-format_plain w fact =
+format_plain w plain fact =
     taken_by Print (w ∷ []) (w ∷ []) (one_pending (codes "FORMAT") w [] 2)
     (finished (level Print).rules (one_pending (codes "FORMAT") w [] 2).held) (print_walk w fact)
-    (print_fine w fact) refl refl refl refl refl
+    (print_fine w fact) refl refl refl refl
+    (ap (λ ws. codes "print" ∷ ws) (as_values false (w ∷ []) (plain, tt)))
 
 abbrev values_held : Text → List Text → Held
 values_held format values = record { rows = row (codes "FORMAT") (format ∷ []) ∷ []; pending = Some (codes "VALUES", values); skip = 0 }
@@ -359,13 +379,14 @@ values_fine f v rest format first_value others =
     (level Print).rules idle 2 refl))
     (more_fine f (v ∷ []) rest others))))
 
-values_plain : (f v : Text) (rest : List Text) → NoFlag f → NoFlag v → AllByRecursion NoFlag rest → length (f ∷ v ∷ rest) < 2 ^ 64
-    → IsTakenAs (codes "print" ∷ f ∷ v ∷ rest) Print (f ∷ v ∷ rest)
-values_plain f v rest format first_value others few =
+values_plain : (f v : Text) (rest : List Text) → AllByRecursion IsPlain (f ∷ v ∷ rest) → NoFlag f → NoFlag v
+    → AllByRecursion NoFlag rest → length (f ∷ v ∷ rest) < 2 ^ 64 → IsTakenAs (codes "print" ∷ f ∷ v ∷ rest) Print (f ∷ v ∷ rest)
+values_plain f v rest plain format first_value others few =
     taken_by Print (f ∷ v ∷ rest) (f ∷ v ∷ rest) (state (values_held f (v ∷ rest)) positional 2)
     (finished (level Print).rules (values_held f (v ∷ rest))) (values_walk f v rest format first_value others)
     (values_fine f v rest format first_value others) (values_checks f v rest (omega (arith, few))) refl
-    (values_own f v rest) (texts_of_values f v rest) refl
+    (values_own f v rest) (texts_of_values f v rest)
+    (ap (λ ws. codes "print" ∷ ws) (as_values false (f ∷ v ∷ rest) plain))
 
 -- ---- all of them
 
@@ -381,9 +402,9 @@ plain_taken Scan [] has plain few = elim has [ ]
 plain_taken Scan (format ∷ []) has plain few = scan_plain format (no_flag format plain.0)
 plain_taken Scan (format ∷ next ∷ rest) has plain few = elim has [ ]
 plain_taken Print [] has plain few = elim has [ ]
-plain_taken Print (format ∷ []) has plain few = format_plain format (no_flag format plain.0)
+plain_taken Print (format ∷ []) has plain few = format_plain format plain.0 (no_flag format plain.0)
 plain_taken Print (format ∷ v ∷ rest) has plain few =
-    values_plain format v rest (no_flag format plain.0) (no_flag v plain.1.0) (no_flags rest plain.1.1) few
+    values_plain format v rest plain (no_flag format plain.0) (no_flag v plain.1.0) (no_flags rest plain.1.1) few
 plain_taken Check [] has plain few = elim has [ ]
 plain_taken Check (print ∷ []) has plain few = alone_plain print (no_flag print plain.0)
 plain_taken Check (print ∷ scan ∷ []) has plain few = check_plain print scan (no_flag print plain.0) (no_flag scan plain.1.0)

@@ -100,11 +100,11 @@ with_forms a = with_rule (with_rule (with_rule a output_rule) (text_rule (codes 
 abbrev pub lines_rule : Rule
 lines_rule = letter_flag_rule (codes "lines") 108
 
--- those of lines: --keep-going is -k (107), and --quiet is -q (113)
+-- those of lines: --whole is -w (119), --keep-going is -k (107), and --quiet is -q (113)
 abbrev pub with_line_options : App → App
 with_line_options a =
     with_rule
-    (with_rule (with_rule (with_rule a skip_rule) (flag_rule (codes "whole"))) (letter_flag_rule (codes "keep-going") 107))
+    (with_rule (with_rule (with_rule a skip_rule) (letter_flag_rule (codes "whole") 119)) (letter_flag_rule (codes "keep-going") 107))
     (letter_flag_rule (codes "quiet") 113)
 
 -- those of a copy of lines

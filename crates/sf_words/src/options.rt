@@ -192,10 +192,10 @@ static OPTIONS: [CommandOption; 19] = [
     CommandOption {
         name: "whole",
         has_long: true,
-        short: None,
+        short: Some('w'),
         value: OptionValue::Nothing,
         of: OptionOf::Lines,
-        help: "Fail lines with trailing text, with --lines",
+        help: "Fail a line of which the format leaves something, with --lines",
     },
     CommandOption {
         name: "keep-going",
