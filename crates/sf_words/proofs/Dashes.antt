@@ -1,5 +1,5 @@
 -- Words after `--`.
-use Rattle.std.proofs.Common.{◌≡◌, ◌∙◌, ◌<◌, ◌≤◌, ◌^◌, ℕ, Bool, true, false, nat_lt, List, [], ◌∷◌, ◌++◌, length, Some, None, is_some, refl}
+use Rattle.std.proofs.Common.{◌≡◌, ◌∙◌, cond, ◌<◌, ◌≤◌, ◌^◌, ℕ, Bool, true, false, nat_lt, List, [], ◌∷◌, ◌++◌, length, Some, None, is_some, refl}
 use Rattle.std.proofs.Common.{sym, ap, subst, arith, inl, inr, append-nil, codes}
 use Rattle.std.specs.Prelude.{fold}
 use Rattle.std.proofs.lemmas.Bool.{ltb-true}
@@ -17,7 +17,8 @@ use Rattle.clap.proofs.WalkLemmas.{walk_stopped}
 use Rattle.sf_words.specs.Hyphens.{clap_words}
 use Rattle.sf_words.specs.Laws.{IsTakenAs, TakesBehindDashes}
 use Rattle.sf_words.specs.Line.{print_app, sf_app, words_rule}
-use Rattle.sf_words.specs.Orders.{entered_faults, faults_of, own_faults, texts_by, verb_text}
+use Rattle.clap.specs.declared.error.kind.ErrorKind.TheVariants as kind
+use Rattle.sf_words.specs.Orders.{asks_formats, entered_faults, faults_of, order_faults, own_faults, texts_by, verb_text}
 use Rattle.sf_words.specs.declared.order.Verb.{Verb}
 use Rattle.sf_words.specs.declared.order.Verb.TheVariants.{Show, Scan, Print, Check, Copy}
 use Rattle.sf_words.proofs.Rows.{either, no_kind}
@@ -127,11 +128,24 @@ nothing [] b none_a none_b = none_b
 nothing (k ∷ ks) b none_a none_b = absurd (no_kind none_a)
 
 -- nothing is at fault where clap finds nothing, and the command nothing in the rows
-pub none_at_fault : (words : List Text) (verb : Verb) (rows : List Row) → fault_of sf_app (codes "sf" ∷ clap_words words) ≡ []
-    → subcommand_of sf_app (codes "sf" ∷ clap_words words) ≡ Some (verb_text verb, rows) → own_faults (verb_text verb) rows ≡ []
-    → faults_of words ≡ []
-none_at_fault words verb rows taken is own =
-    nothing (fault_of sf_app (codes "sf" ∷ clap_words words)) (entered_faults (subcommand_of sf_app (codes "sf" ∷ clap_words words))) taken
+-- no verb asks for the page on formats
+pub no_page : (verb : Verb) (words : List Text) → asks_formats (verb_text verb ∷ words) ≡ false
+no_page verb [] = refl
+no_page verb (word ∷ next ∷ rest) = refl
+no_page Show (word ∷ []) = refl
+no_page Scan (word ∷ []) = refl
+no_page Print (word ∷ []) = refl
+no_page Check (word ∷ []) = refl
+no_page Copy (word ∷ []) = refl
+
+pub none_at_fault : (verb : Verb) (words : List Text) (rows : List Row)
+    → fault_of sf_app (codes "sf" ∷ clap_words (verb_text verb ∷ words)) ≡ []
+    → subcommand_of sf_app (codes "sf" ∷ clap_words (verb_text verb ∷ words)) ≡ Some (verb_text verb, rows)
+    → own_faults (verb_text verb) rows ≡ [] → faults_of (verb_text verb ∷ words) ≡ []
+none_at_fault verb words rows taken is own =
+    ap (λ b. cond b (kind.DisplayHelp ∷ []) (order_faults (verb_text verb ∷ words))) (no_page verb words)
+    ∙ nothing (fault_of sf_app (codes "sf" ∷ clap_words (verb_text verb ∷ words)))
+    (entered_faults (subcommand_of sf_app (codes "sf" ∷ clap_words (verb_text verb ∷ words)))) taken
     (subst (λ e. entered_faults e ≡ []) (sym is) own)
 
 -- what is checked after a walk
@@ -183,7 +197,7 @@ values_own format value rest = refl
 print_taken : (format value : Text) (rest : List Text) → length (format ∷ value ∷ rest) < 2 ^ 64
     → IsTakenAs (codes "print" ∷ codes "--" ∷ format ∷ value ∷ rest) Print (format ∷ value ∷ rest)
 print_taken format value rest few = record {
-  taken = none_at_fault (codes "print" ∷ words) Print rows fine is (values_own format value rest);
+  taken = none_at_fault Print words rows fine is (values_own format value rest);
   given = rows;
   is_given = is;
   texts_are = texts_of_values format value rest;

@@ -191,7 +191,7 @@ pub formats_taken : TakesFormats
 formats_taken format more plain = (
   record {
     taken =
-        none_at_fault (codes "scan" ∷ words) Scan rows fine entered_is
+        none_at_fault Scan words rows fine entered_is
         (at_end (λ w. own_faults (verb_text Scan) (finished scan.rules w.held) ≡ []) own_fine [] format more);
     given = rows;
     is_given = entered_is;

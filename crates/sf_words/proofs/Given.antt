@@ -72,12 +72,12 @@ number_read bits low high other above below fits E G parses (Some t) r within no
 -- the width that was given, if one was
 pub width_read : (E : Type 0) (G : Text → Result ℕ E → Type 0)
     → ((t : Text) (r : Result ℕ E) → G t r → ParsesUnsigned 16 10 t r)
-    → (o : Option Text) (r : Option ℕ) → IsWithin 1 255 o → (o ≡ None → r ≡ None) → ((t : Text) → o ≡ Some t → ReadsOne G t r)
+    → (o : Option Text) (r : Option ℕ) → IsWithin 1 65535 o → (o ≡ None → r ≡ None) → ((t : Text) → o ≡ Some t → ReadsOne G t r)
     → (r ≡ option_map number_in o) × IsWidth r
 width_read E G parses None r within none value = rw (none refl) (refl, tt)
 width_read E G parses (Some t) r within none value =
     let read = value t refl in
-    let got = signed_reads E G 16 1 255 within.0 r (subst (λ u. ReadsOne G u r) within.1 read) parses (omega arith) within.2 in
+    let got = signed_reads E G 16 1 65535 within.0 r (subst (λ u. ReadsOne G u r) within.1 read) parses (omega arith) within.2 in
     let parsed = parses t (Ok got.0) (subst (ReadsOne G t) got.1 read) in
     rw got.1 (ap Some parsed.1, (got.2, got.3))
 
@@ -185,6 +185,11 @@ none_without true option off fine = absurd (true≢false off)
 none_without false true off fine = absurd (no_fault fine)
 none_without false false off fine = refl
 
+-- the second of two that are false together
+second_false : (a b : Bool) → (a || b) ≡ false → b ≡ false
+second_false true b none = absurd (true≢false none)
+second_false false b none = none
+
 first_false : (a b : Bool) → (a || b) ≡ false → a ≡ false
 first_false true b e = e
 first_false false b e = refl
@@ -211,7 +216,8 @@ enough_for Copy rows None allowed words has fine = words
 enough_for Copy rows (Some options) allowed words has fine = both_for (texts_by Copy rows) options words
 enough_for Scan rows None allowed words has fine =
     let lines = faults_apart rows fine in
-    let none = first_false _ _ (none_without (is_set (codes "lines") rows) (has_line_option rows) has lines.0) in
+    let none = first_false _ _ (second_false (is_set (codes "whole") rows) _
+    (none_without (is_set (codes "lines") rows) (has_line_option rows) has lines.0)) in
     one_format (values_at (codes "FORMAT") rows) (values_at (codes "formats") rows) words none lines.1
 enough_for Scan rows (Some options) allowed words has fine =
     formats_for (values_at (codes "FORMAT") rows) (values_at (codes "formats") rows) options (faults_apart rows fine).1

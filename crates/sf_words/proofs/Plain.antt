@@ -190,7 +190,7 @@ taken_by verb words texts end rows is walk_fine checks named own are same =
     (entered_by verb words end rows is named) in
     let fine = subst (λ ws. fault_of sf_app (codes "sf" ∷ ws) ≡ []) (sym same) (fine_by verb words end is walk_fine checks) in
     record {
-      taken = none_at_fault (verb_text verb ∷ words) verb rows fine entered own;
+      taken = none_at_fault verb words rows fine entered own;
       given = rows;
       is_given = entered;
       texts_are = are;

@@ -70,12 +70,12 @@ formats_rule = record (new_rule (codes "formats")) { short = Some 101; value_nam
 abbrev pub ignore_rule : Rule
 ignore_rule = record (new_rule (codes "ignore")) { long = Some (codes "ignore"); value_names = 1; action = Some Append }
 
--- --width N: a number from 1 to 255
+-- --width N: a number from 1 to 65535
 abbrev pub width_rule : Rule
 width_rule = record (new_rule (codes "width")) {
   long = Some (codes "width");
   value_names = 1;
-  parser = Some (Signed (pos 1) (pos 255));
+  parser = Some (Signed (pos 1) (pos 65535));
 }
 
 -- any number of words
@@ -84,49 +84,50 @@ words_rule name = record (new_rule name) { range = Some (record { start_inclusiv
 
 -- ---- commands
 
--- the options of each command
-abbrev pub with_options : App → App
-with_options a = with_rule (with_rule (with_rule a profile_rule) (flag_rule (codes "explain"))) (flag_rule (codes "no-explain"))
-
--- those of a command that scans records
-abbrev pub with_records : App → App
-with_records a = with_options (with_rule (with_rule a limit_rule) (flag_rule (codes "line-buffered")))
-
--- those of what a scan writes
-abbrev pub with_forms : App → App
-with_forms a = with_rule (with_rule (with_rule a output_rule) (text_rule (codes "print"))) (text_rule (codes "names"))
-
--- --lines is -l (108)
+-- --lines is -l (108), and --whole is -w (119)
 abbrev pub lines_rule : Rule
 lines_rule = letter_flag_rule (codes "lines") 108
 
--- those of lines: --whole is -w (119), --keep-going is -k (107), and --quiet is -q (113)
-abbrev pub with_line_options : App → App
-with_line_options a =
-    with_rule
-    (with_rule (with_rule (with_rule a skip_rule) (letter_flag_rule (codes "whole") 119)) (letter_flag_rule (codes "keep-going") 107))
-    (letter_flag_rule (codes "quiet") 113)
+abbrev pub whole_rule : Rule
+whole_rule = letter_flag_rule (codes "whole") 119
 
--- those of a copy of lines
-abbrev pub with_copied_lines : App → App
-with_copied_lines a = with_line_options (with_rule a lines_rule)
-
--- those of a scan of lines
+-- those of lines
 abbrev pub with_lines : App → App
-with_lines a =
-    with_rule
-    (with_rule
-    (with_line_options (with_rule (with_rule (with_rule a lines_rule) formats_rule) (flag_rule (codes "tag"))))
-    (flag_rule (codes "matching")))
-    ignore_rule
+with_lines a = with_rule (with_rule a lines_rule) whole_rule
+
+-- those of lines that fail: --keep-going is -k (107), and --quiet is -q (113)
+abbrev pub with_failures : App → App
+with_failures a = with_rule (with_rule a (letter_flag_rule (codes "keep-going") 107)) (letter_flag_rule (codes "quiet") 113)
+
+-- those of lines that are passed over
+abbrev pub with_passed : App → App
+with_passed a = with_rule (with_rule (with_rule a (flag_rule (codes "matching"))) ignore_rule) skip_rule
+
+-- those of what a scan writes
+abbrev pub with_forms : App → App
+with_forms a =
+    with_rule (with_rule (with_rule (with_rule a output_rule) (text_rule (codes "names"))) (text_rule (codes "print")))
+    (flag_rule (codes "tag"))
+
+-- those of what is said of faults
+abbrev pub with_notes : App → App
+with_notes a = with_rule (with_rule a (flag_rule (codes "explain"))) (flag_rule (codes "no-explain"))
+
+-- those of a command that scans records
+abbrev pub with_records : App → App
+with_records a = with_notes (with_rule (with_rule (with_rule a profile_rule) limit_rule) (flag_rule (codes "line-buffered")))
+
+-- those of any other command
+abbrev pub with_options : App → App
+with_options a = with_notes (with_rule a profile_rule)
 
 -- those of each verb
 abbrev pub options_of : Verb → App → App
 options_of Show a = with_options a
-options_of Scan a = with_lines (with_forms (with_records a))
-options_of Print a = with_rule (with_options a) (flag_rule (codes "raw"))
-options_of Check a = with_rule (with_options a) width_rule
-options_of Copy a = with_copied_lines (with_records a)
+options_of Scan a = with_records (with_forms (with_passed (with_failures (with_rule (with_lines a) formats_rule))))
+options_of Print a = with_options (with_rule a (flag_rule (codes "raw")))
+options_of Check a = with_options (with_rule a width_rule)
+options_of Copy a = with_records (with_rule (with_failures (with_lines a)) skip_rule)
 
 abbrev pub show_app : App
 show_app = with_rule (options_of Show (new_app (codes "show"))) (word_rule (codes "FORMAT"))

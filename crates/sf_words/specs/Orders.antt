@@ -138,10 +138,10 @@ abbrev pub HasLines : List Row → Option LineOptions → Type 0
 HasLines given None = is_set (codes "lines") given ≡ false
 HasLines given (Some options) = (is_set (codes "lines") given ≡ true) × AreLineOptions given options
 
--- a width, where there is one, is a number from 1 to 255
+-- a width, where there is one, is a number from 1 to 65535
 abbrev pub IsWidth : Option ℕ → Type 0
 IsWidth None = Unit {0}
-IsWidth (Some width) = (1 ≤ width) × (width ≤ 255)
+IsWidth (Some width) = (1 ≤ width) × (width ≤ 65535)
 
 -- The order is what a subcommand with these rows asks for.
 pub record IsOrderOf (entered : Option (Text × List Row)) (order : Order) : Type 0 where
@@ -186,13 +186,13 @@ form_faults rows = if is_form (form_given rows) then [] else kind.InvalidValue �
 abbrev pub has_line_option : List Row → Bool
 has_line_option rows =
     list_any (λ given. given)
-    (has_texts (codes "formats") rows
-    ∷ has_texts (codes "skip") rows
-    ∷ is_set (codes "whole") rows
+    (is_set (codes "whole") rows
+    ∷ has_texts (codes "formats") rows
     ∷ is_set (codes "keep-going") rows
     ∷ is_set (codes "quiet") rows
     ∷ is_set (codes "matching") rows
     ∷ has_texts (codes "ignore") rows
+    ∷ has_texts (codes "skip") rows
     ∷ [])
 
 -- such an option stands with --lines alone
@@ -253,13 +253,22 @@ own_faults name rows =
 abbrev pub entered_faults : Option (Text × List Row) → Kinds
 entered_faults entered = option_map_or (λ e. own_faults e.0 e.1) entered []
 
--- the kinds of fault in the words after the program's name: those that clap finds, and where it takes the words, those of the
--- subcommand that they name. There are none where the words are taken.
-abbrev pub faults_of : List Text → Kinds
-faults_of words =
+-- the kinds of fault in the words of an order: those that clap finds, and where it takes the words, those of the subcommand that they
+-- name
+abbrev pub order_faults : List Text → Kinds
+order_faults words =
     or_else (fault_of sf_app (codes "sf" ∷ clap_words words)) (entered_faults (subcommand_of sf_app (codes "sf" ∷ clap_words words)))
 
--- it is no fault, but asks for a text that clap has
+-- the words ask for the page on formats
+abbrev pub asks_formats : List Text → Bool
+asks_formats (first ∷ second ∷ []) = bytes_eq first (codes "help") && bytes_eq second (codes "formats")
+asks_formats _ = false
+
+-- the kinds of fault in the words after the program's name. There are none where the words are taken.
+abbrev pub faults_of : List Text → Kinds
+faults_of words = if asks_formats words then kind.DisplayHelp ∷ [] else order_faults words
+
+-- it is no fault, but asks for a text
 abbrev pub is_request : ErrorKind → Bool
 is_request kind.DisplayHelp = true
 is_request kind.DisplayVersion = true

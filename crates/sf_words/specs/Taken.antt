@@ -37,6 +37,6 @@ pub record IsTaken (entered : Option (Text × List Row)) : Type 0 where
   pub limit : IsWithin 0 2147483647 (one_of (codes "limit") given)
   pub profile : IsWithin 1 3 (one_of (codes "profile") given)
   pub skip : IsWithin 0 9223372036854775807 (one_of (codes "skip") given)
-  pub width : IsWithin 1 255 (one_of (codes "width") given)
+  pub width : IsWithin 1 65535 (one_of (codes "width") given)
   pub lines : AllowsLines verb given
   pub enough : HasWords verb given

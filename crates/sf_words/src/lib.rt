@@ -9,6 +9,7 @@ mod misuse;
 mod numbers;
 mod options;
 mod order;
+mod tips;
 mod words;
 
 pub use order::{LineOptions, Notes, Order, Output, Profile, Verb, WordsFault};

@@ -12,7 +12,7 @@ use clap::{Arg, Command};
 use std::alloc::{AllocError, Global};
 
 /// The version that `sf --version` writes.
-const VERSION: &str = "0.2.0";
+const VERSION: &str = "0.3.0";
 
 /// A word that may be left out.
 fn optional<'a>(alloc: Global, name: &'a str, help: &'a str) -> Arg<'a>
@@ -46,7 +46,7 @@ fn files<'a>(alloc: Global) -> Arg<'a>
     words(
         alloc,
         "FILE",
-        "The files to read, one after the other, - for standard input; without any, standard input is read",
+        "The files to read in turn; - is standard input, and so is none",
     )
 }
 
@@ -122,7 +122,7 @@ fn scan<'a>(alloc: Global) -> Result<Command<'a>, AllocError>
         alloc,
         Verb::Scan,
         "scan",
-        "Scan standard input, or files, by a format, and print a line of values for each record",
+        "Scan standard input or files by a format: a line of values for each record",
         help::SCAN,
     )?
     .override_usage(help::SCAN_USAGE)
@@ -148,7 +148,7 @@ fn print<'a>(alloc: Global) -> Result<Command<'a>, AllocError>
     .arg(words(
         alloc,
         "VALUES",
-        "The values of the slots, in their order; after -- they may begin with -",
+        "The values; one that begins with - and no digit stands after --",
     ))
 }
 
@@ -159,15 +159,11 @@ fn check<'a>(alloc: Global) -> Result<Command<'a>, AllocError>
         alloc,
         Verb::Check,
         "check",
-        "Say whether a scan format reads back what a print format writes, or write one that does",
+        "Say whether SCAN reads back what PRINT writes, or write a format that does",
         help::CHECK,
     )?
     .arg(word(alloc, "PRINT", "The print format"))?
-    .arg(optional(
-        alloc,
-        "SCAN",
-        "The scan format; without it, the one that reads PRINT back is written",
-    ))
+    .arg(optional(alloc, "SCAN", "The scan format; without it, one is written"))
 }
 
 fn copy<'a>(alloc: Global) -> Result<Command<'a>, AllocError>
@@ -177,7 +173,7 @@ fn copy<'a>(alloc: Global) -> Result<Command<'a>, AllocError>
         alloc,
         Verb::Copy,
         "copy",
-        "Scan standard input, or files, by one format, and print each record by another",
+        "Scan standard input or files by one format, and print by another",
         help::COPY,
     )?
     .arg(word(alloc, "PRINT", "The print format of one record"))?

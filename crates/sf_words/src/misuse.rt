@@ -270,9 +270,9 @@ fn push_plain_names(text: &mut String) -> Result<(), AllocError> {
     push_forms(text, &FORMS[1..])
 }
 
-/// The text of a misuse, in the form of those of clap.
+/// The text of a misuse, in the form of those that come of clap.
 fn text_of(alloc: Global, verb: Verb, misuse: Misuse<'_>) -> Result<String, AllocError> {
-    let mut text = String::from_str(alloc, "error: ")?;
+    let mut text = String::from_str(alloc, "sf: ")?;
     match misuse {
         Misuse::Form(name) => push_no_form(&mut text, name)?,
         Misuse::NoLines(option) => push_refused(&mut text, option.name, "without", "lines")?,

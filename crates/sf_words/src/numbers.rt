@@ -1,12 +1,8 @@
 //! A number below zero after an option: `clap` takes such a word for options, and has no tip that helps.
-ghost use Rattle.std.specs.Prelude.{◌≡◌, ◌≢◌, true, false, IfSome, int_lt, pos};
-ghost use Rattle.clap.specs.declared.error.kind.ErrorKind.{ErrorKind};
-ghost use Rattle.clap.specs.declared.error.kind.ErrorKind.TheVariants.{OutOfMemory};
-ghost use Rattle.sf_words.specs.Orders.{IsRefusalOf, is_request};
+ghost use Rattle.std.specs.Prelude.{◌≡◌, true, IfSome, int_lt, pos};
 
 use crate::misuse::push_option;
 use crate::options::{CommandOption, OptionValue, all_options};
-use crate::order::WordsFault;
 use std::alloc::{AllocError, Global};
 
 /// Whether `clap` blames a word that begins with a hyphen and a digit, by its text.
@@ -47,7 +43,7 @@ fn range_text(
         return Ok(None);
     };
     let dots = if most == i64::MAX { ".." } else { "..=" };
-    let mut text = String::from_str(alloc, "error: invalid value '")?;
+    let mut text = String::from_str(alloc, "sf: invalid value '")?;
     write!(text, "{word}' for '")?;
     push_option(&mut text, option)?;
     write!(
@@ -72,7 +68,7 @@ fn range_of_words(alloc: Global, asking: &str, word: &str) -> Result<Option<Stri
 }
 
 /// The same of the first such two of the words.
-fn first_range(alloc: Global, words: &[String]) -> Result<Option<String>, AllocError> {
+pub(crate) fn first_range(alloc: Global, words: &[String]) -> Result<Option<String>, AllocError> {
     for two in words.windows(2) {
         if let [asking, word] = two {
             if let Some(text) = range_of_words(alloc, asking.as_str(), word.as_str())? {
@@ -81,15 +77,4 @@ fn first_range(alloc: Global, words: &[String]) -> Result<Option<String>, AllocE
         }
     }
     Ok(None)
-}
-
-/// What is reported of words among which `clap` blames such a number: the range of its option. Else the text of `clap`.
-pub(crate) fn number_fault(alloc: Global, words: &[String], text: String) -> WordsFault
-    ensures { (found : ErrorKind) → is_request found ≡ false → found ≢ OutOfMemory → IsRefusalOf found result }
-{
-    match first_range(alloc, words) {
-        Ok(Some(range)) => WordsFault::Usage(range),
-        Ok(None) => WordsFault::Usage(text),
-        Err(_) => WordsFault::NoMemory,
-    }
 }

@@ -97,7 +97,7 @@ pub struct Order {
     pub ignored: Vec<String>,
     /// Whether the values of a print have no escapes.
     pub raw: bool,
-    /// The width of the texts in the scan format that a check answers, 1 to 255.
+    /// The width of the texts in the scan format that a check answers, 1 to 65535.
     pub width: Option<u16>,
     /// The formats and then the values, as they were given. A scan has one format; one of lines has one or more. A
     /// check has a print format, or that and a scan format.

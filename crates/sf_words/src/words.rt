@@ -4,17 +4,20 @@ ghost use Rattle.std.specs.Prelude.{string_bytes};
 ghost use Rattle.clap.specs.Words.{first_of, found_of, one_of, rows_of, subcommand_rows_of};
 ghost use Rattle.clap.specs.Walk.{texts};
 ghost use Rattle.sf_words.specs.Orders.{HasLines, IsOrder, IsOrderOf, IsRefusal, IsRefusalOf, IsWidth};
+ghost use Rattle.clap.specs.declared.error.kind.ErrorKind.TheVariants.{DisplayHelp};
+ghost use Rattle.sf_words.specs.Orders.{asks_formats, order_faults};
 ghost use Rattle.sf_words.specs.Orders.{entered_faults, faults_of, files_by, form_given, is_form, is_set, notes_by};
 ghost use Rattle.sf_words.specs.Orders.{number_by, number_in, output_text, profile_number, scan_formats, texts_by};
 ghost use Rattle.sf_words.specs.Orders.{values_at};
 ghost use Rattle.sf_words.specs.Orders.{verb_text};
 ghost use Rattle.sf_words.specs.Taken.{IsTaken, IsVerb, IsWithin};
 
+use crate::help;
 use crate::hyphens::clap_words;
 use crate::line::line;
 use crate::misuse::{form_given, has_texts, is_set, misuse_of, refusal};
-use crate::numbers::{blames_number, number_fault};
 use crate::order::{LineOptions, Notes, Order, Output, Profile, Verb, WordsFault};
+use crate::tips::usage_fault;
 use clap::error::ErrorKind;
 use clap::{ArgMatches, Error};
 use std::alloc::{AllocError, Global};
@@ -38,10 +41,7 @@ fn fault_of(alloc: Global, words: &[String], error: &Error) -> WordsFault
     };
     match kind {
         ErrorKind::DisplayHelp | ErrorKind::DisplayVersion => WordsFault::Help(text),
-        ErrorKind::UnknownArgument if blames_number(text.as_bytes()) => {
-            number_fault(alloc, words, text)
-        }
-        _ => WordsFault::Usage(text),
+        _ => usage_fault(alloc, words, text.as_str()),
     }
 }
 
@@ -217,7 +217,7 @@ fn ignored_of(alloc: Global, given: &ArgMatches<'_>) -> Result<Vec<String>, Allo
 
 /// The width of the texts in a scan format that is answered, if one was given.
 fn width_of(given: &ArgMatches<'_>) -> Option<u16>
-    requires { IsWithin 1 255 (one_of (codes "width") (rows_of (found_of given.now))) }
+    requires { IsWithin 1 65535 (one_of (codes "width") (rows_of (found_of given.now))) }
     ensures value { result ≡ option_map number_in (one_of (codes "width") (rows_of (found_of given.now))) }
     ensures wide { IsWidth result }
 {
@@ -283,6 +283,41 @@ fn order_of(alloc: Global, matches: &ArgMatches<'_>) -> Result<Order, WordsFault
     })
 }
 
+/// What the words ask for, where they aren't those for the page on formats.
+fn read_order(alloc: Global, words: &[String]) -> Result<Order, WordsFault>
+    ensures order { IfOk result (IsOrder (map string_bytes words.now)) }
+    ensures taken { IfOk result (λ _. order_faults (map string_bytes words.now) ≡ []) }
+    ensures refused { IfErr result (IsRefusal (order_faults (map string_bytes words.now))) }
+{
+    let joined = clap_words(alloc, words)?;
+    let all = named(alloc, &joined)?;
+    let line = line(alloc)?;
+    match line.try_get_matches_from(all.as_slice()) {
+        Ok(matches) => order_of(alloc, &matches),
+        Err(error) => Err(fault_of(alloc, &joined, &error)),
+    }
+}
+
+/// Whether the words ask for the page on formats.
+fn asks_formats(words: &[String]) -> bool
+    ensures { result ≡ asks_formats (map string_bytes words.now) }
+{
+    match words {
+        [first, second] => first.as_str() == "help" && second.as_str() == "formats",
+        _ => false,
+    }
+}
+
+/// The page on formats.
+fn formats_page(alloc: Global) -> WordsFault
+    ensures { IsRefusalOf DisplayHelp result }
+{
+    match String::from_str(alloc, help::FORMATS) {
+        Ok(text) => WordsFault::Help(text),
+        Err(_) => WordsFault::NoMemory,
+    }
+}
+
 /// Reads the words of a command, which are those after the program's name.
 ///
 /// # Errors
@@ -294,11 +329,8 @@ pub fn read_words(alloc: Global, words: &[String]) -> Result<Order, WordsFault>
     ensures taken { IfOk result (λ _. faults_of (map string_bytes words.now) ≡ []) }
     ensures refused { IfErr result (IsRefusal (faults_of (map string_bytes words.now))) }
 {
-    let joined = clap_words(alloc, words)?;
-    let all = named(alloc, &joined)?;
-    let line = line(alloc)?;
-    match line.try_get_matches_from(all.as_slice()) {
-        Ok(matches) => order_of(alloc, &matches),
-        Err(error) => Err(fault_of(alloc, &joined, &error)),
+    if asks_formats(words) {
+        return Err(formats_page(alloc));
     }
+    read_order(alloc, words)
 }

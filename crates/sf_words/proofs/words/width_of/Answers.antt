@@ -13,5 +13,5 @@ returns c =
     let same = one_text-rows (found_of c.args.given.now) (codes "width") in
     let read = width_read _ (λ bs r. ParsesUnsigned 16 10 bs r × ExplainsUnsignedError 10 bs r × HasUnsignedDigitsIfOk bs r) (λ t r h. h.0)
     (one_text (found_of c.args.given.now) (codes "width")) c.get_one.result
-    (subst (IsWithin 1 255) (sym same) c.requires) c.get_one.ensures.none c.get_one.ensures.value in
+    (subst (IsWithin 1 65535) (sym same) c.requires) c.get_one.ensures.none c.get_one.ensures.value in
     record { value = read.0 ∙ ap (option_map number_in) same; wide = read.1 }
