@@ -1,0 +1,308 @@
+"""The program beside tools/fscanf.py, which shares nothing with it.
+
+On each case of tests/program that scans or shows and that needs nothing else of the command: what the table says is what the
+reference gives. On formats and inputs by chance, always the same ones: what the program says is. And the reference beside
+the C libraries that are there: where these differ from it, docs/LIBCS.md says why.
+"""
+import decimal
+import os
+import random
+import sys
+
+import program
+import table
+from answers import difference, escaped
+
+sys.path.insert(0, os.path.join(program.ROOT, "tools"))
+
+import fscanf  # noqa: E402
+import scan_formats  # noqa: E402
+
+# ---- the command, as docs/FORMATS.md says, around the reference
+
+ESCAPES = dict(zip(b"\\ntvfr", b"\\\n\t\v\f\r"))
+STATUSES = {"InputFailure": "input failure", "MatchingFailure": "matching failure", "OutOfRange": "out of range", "TooLong": "too long"}
+LIMIT = 1048576
+# The options that are made here: those with a value, and those without.
+WITH = {"--profile": "profile", "-p": "profile", "--limit": "limit", "-e": "formats", "--skip": "skip", "-s": "skip"}
+WITHOUT = {"--lines": "lines", "-l": "lines", "--keep-going": "keep_going", "-k": "keep_going", "--whole": "whole", "--quiet": "quiet", "-q": "quiet",
+           "--matching": "matching", "--line-buffered": "line_buffered", "--no-explain": "no_explain"}
+
+
+class Elsewhere(Exception):
+    """The call is of a part of the command that isn't made here."""
+
+
+class Refused(Exception):
+    """A word of the call is refused, with this line."""
+
+
+def unescaped(word):
+    found, at = bytearray(), 0
+    while at < len(word):
+        if word[at] != ord("\\"):
+            found.append(word[at])
+            at += 1
+        elif word[at + 1 : at + 2] == b"x" and len(word) >= at + 4 and not word[at + 2 : at + 4].translate(None, b"0123456789abcdefABCDEF"):
+            found.append(int(word[at + 2 : at + 4], 16))
+            at += 4
+        elif word[at + 1 : at + 2] and word[at + 1] in ESCAPES:
+            found.append(ESCAPES[word[at + 1]])
+            at += 2
+        else:
+            raise Refused(f"scan format: bad escape at {at}")
+    return bytes(found)
+
+
+def directives_of(word, profile):
+    try:
+        return scan_formats.directives_of(unescaped(word), profile)
+    except scan_formats.Fault as fault:
+        raise Refused(f"scan format: {fault}") from None
+
+
+def order_of(args):
+    """The verb of a call, its options and its words."""
+    verb, rest = args[0].decode("latin-1"), list(args[1:])
+    given = {"formats": [], "profile": 1, "limit": LIMIT, "skip": 0}
+    words = []
+    while rest:
+        word = rest.pop(0)
+        name, equals, value = word.decode("latin-1").partition("=")
+        if word == b"--":
+            words += rest
+            break
+        if name in WITH and (equals or rest):
+            key, value = WITH[name], value.encode("latin-1") if equals else rest.pop(0)
+            if key == "formats":
+                given[key].append(value)
+            elif value.isdigit():
+                given[key] = int(value)
+            else:
+                raise Elsewhere
+        elif word.decode("latin-1") in WITHOUT:
+            given[WITHOUT[word.decode("latin-1")]] = True
+        elif word.startswith(b"-"):
+            raise Elsewhere
+        else:
+            words.append(word)
+    formats = given["formats"] or words
+    if verb not in ("scan", "show") or len(formats) != (len(given["formats"]) or 1) or given["formats"] and words or given["profile"] not in (1, 2, 3):
+        raise Elsewhere
+    return verb, given, formats
+
+
+# How many zeros stand after the point at most, and how many digits before it.
+PLAIN = {"f32": (5, 13), "f64": (4, 16)}
+
+
+def float_text(value, kind):
+    """The fewest digits that give the same float again."""
+    if value != value or value in (float("inf"), float("-inf")):
+        return str(value)
+    if kind == "f32":
+        value = next(it for it in (float(f"{value:.{digits}e}") for digits in range(9)) if fscanf.real("f32", repr(it).encode()) == value)
+    sign, digits, exponent = decimal.Decimal(repr(value)).normalize().as_tuple()
+    shown = decimal.Decimal((sign, digits, exponent))
+    zeros, whole = PLAIN[kind]
+    if value == 0 or -zeros <= len(digits) + exponent <= whole:
+        return f"{shown:f}" if exponent < 0 else f"{shown:f}.0"
+    first, *others = map(str, digits)
+    return "-" * sign + first + ("." + "".join(others)) * bool(others) + f"e{len(digits) + exponent - 1}"
+
+
+def line_of(directives, report):
+    """The line of a record."""
+    got, shown = dict(report.values), []
+    for slot, kind in sorted((it.slot, it.kind) for it in scan_formats.destinations_of(directives)):
+        value = got.get(slot)
+        shown.append("-" if value is None else scan_formats.quoted(value) if kind == "text" else float_text(value, kind) if kind[0] == "f" else str(value))
+    return " ".join(shown) + "\n"
+
+
+def said_of(report):
+    return f"{STATUSES[report.status]} at {report.at}, used {report.used}, assigned {report.assigned}"
+
+
+def records(directives, text, limit):
+    """What `sf scan` writes of records, and what it says at the end."""
+    is_optional = any(isinstance(it, scan_formats.Conversion) and it.optional for it in directives)
+    written, at, number = [], 0, 0
+    while True:
+        number += 1
+        report = fscanf.run(directives, text[at:], limit)
+        if report.met and report.converted == 0 and (report.status == "InputFailure" or report.status == "Done" and is_optional):
+            return written, []
+        if report.status != "Done":
+            return written, [f"sf: record {number}: {said_of(report)}\n"]
+        if report.used == 0:
+            return written, [f"sf: record {number}: stalled\n"]
+        written.append(line_of(directives, report))
+        at += report.used
+
+
+def judged(formats, line, is_whole):
+    """The directives and the report that count of a line, and what is wrong with them, if anything is."""
+    for directives in formats:
+        report = fscanf.run(directives, line)
+        if report.status == "Done" and not (is_whole and report.used < len(line)):
+            return directives, report, ""
+    return directives, report, f"left over at {report.used}" if report.status == "Done" else said_of(report)
+
+
+def lines(formats, text, given):
+    """What `sf scan --lines` writes, and what it says."""
+    written, said = [], []
+    parts = text.split(b"\n")
+    for number, line in enumerate(parts[:-1] + parts[-1:] * bool(parts[-1]), 1):
+        if number <= given["skip"]:
+            continue
+        if len(line) > given["limit"]:
+            fault = "too long"
+        else:
+            directives, report, fault = judged(formats, line, given.get("whole"))
+            if not fault:
+                written.append(line_of(directives, report))
+                continue
+            if given.get("matching") and report.status != "OutOfRange":
+                continue
+        said.append(f"sf: line {number}: {fault}\n")
+        if not given.get("keep_going"):
+            break
+    return written, said
+
+
+def answered(args, text):
+    """The status, the output and the error text of a call, by the reference."""
+    verb, given, words = order_of(args)
+    try:
+        formats = [directives_of(it, given["profile"]) for it in words]
+    except Refused as refused:
+        return 2, b"", f"sf: {refused}\n".encode("latin-1")
+    if verb == "show":
+        return 0, "".join(it + "\n" for it in scan_formats.shown(formats[0])).encode("latin-1"), b""
+    written, said = lines(formats, text, given) if given.get("lines") else records(formats[0], text, given["limit"])
+    return bool(said) * 1, "".join(written).encode("latin-1"), "".join(said * (not given.get("quiet"))).encode("latin-1")
+
+
+# ---- the cases of tests/program
+
+# How many of them there are at least: fewer would mean that this file has lost its way.
+LEAST_CASES = 1200
+
+
+def cases():
+    """The cases that the reference can answer, with its answer's call."""
+    for place, case in table.cases(""):
+        words = [table.data(it) for it in case["args"]]
+        if case.keys() & {"input", "output"} or None in (case.get("stdout", ""), case.get("stderr", "")):
+            continue
+        try:
+            order_of(words)
+        except (Elsewhere, IndexError):
+            continue
+        yield place, words, case
+
+
+def of_table(turn, turns):
+    """A check that the table says of these cases what the reference gives."""
+    def check():
+        chosen = list(cases())
+        wrong = [f"there are {len(chosen)} cases"] if len(chosen) < LEAST_CASES else []
+        for place, words, case in chosen[turn::turns]:
+            due = (case.get("status", 0), table.data(case.get("stdout", "")), table.data(case.get("stderr", "")))
+            found = difference(answered(words, table.data(case.get("stdin", ""))), due)
+            if found:
+                wrong.append(f"{place}: {found}")
+        return "; ".join(wrong[:3])
+    return check
+
+
+# ---- formats and inputs by chance
+
+# How many checks there are, how many formats each has, and on how many lines and how many whole inputs each is tried.
+ROUNDS, FORMATS, LINES, WHOLE = 40, 50, 8, 2
+LETTERS = {1: "dduioxXscn[", 2: "dduioxXscn[bb", 3: "dduioxscn[bfffaeg"}
+SIZES = ("", "", "", "hh", "h", "l", "ll", "j", "z", "t")
+SETS = ("a-c", "^,", "0-9", "]a", "^]", "a-", "^ \t", "-+.", "^\n", "A-Za-z_")
+LITERALS = (",", ";", ":", "a", "x", "%%", " ", "\n", "  \t", "0", "-")
+NUMBERS = ("0", "7", "12", "-3", "+5", "007", "089", "0x1F", "0X", "0xg", "0b101", "0B2", "127", "128", "-129", "255", "65536", "2147483648", "-2147483649",
+           "18446744073709551615", "18446744073709551616", "-", "+", "--1", "0-", "9" * 30)
+FLOATS = ("1.5", "-.5", "1e5", "1e", "1e+", "1.e-3", ".", "0x1p4", "0x.8p-1", "0x", "0x1p", "inf", "-INFINITY", "infi", "nan", "nan(a_1)", "nan(", "100ergs",
+          "1e400", "1e-400", "3.5e38", "1.17549435e-38", "4.9e-324", "2.2250738585072011e-308", "0.1", "16777217", "9007199254740993", "1.5.2", "1e5e5", "-0")
+TEXTS = ("abc", "a", "ab,c", "]", "a-c", "_x9", "\0", "\xff", "zz top", "+.-", "cab")
+NOISE = (",", ";", " ", "  ", "\t", "a", "x", "0", "-", "%", "\xe9", "\v")
+
+
+def conversion_of(chance, profile):
+    letter = chance.choice(LETTERS[profile])
+    is_count = letter == "n"
+    star = "*" * (not is_count and chance.random() < 0.15)
+    mark = "?" * (not is_count and profile == 3 and chance.random() < 0.2)
+    width = str(chance.choice((1, 1, 2, 2, 3, 4, 5, 7, 12, 30))) * (not is_count and chance.random() < 0.4)
+    size = chance.choice(("", "l")) if letter in "faeg" else "" if letter in "sc[" else chance.choice(SIZES)
+    return f"%{star}{mark}{width}{size}{letter}" + (chance.choice(SETS) + "]") * (letter == "[")
+
+
+def format_of(chance, profile):
+    parts = [conversion_of(chance, profile) if chance.random() < 0.65 else chance.choice(LITERALS) for _ in range(chance.randint(1, 6))]
+    assigned = [at for at, part in enumerate(parts) if len(part) > 1 and part[0] == "%" and part[1] not in "*%"]
+    if chance.random() < 0.1:
+        for number, at in enumerate(chance.sample(assigned, len(assigned)), 1):
+            parts[at] = f"%{number}${parts[at][1:]}"
+    return "".join(parts).encode("latin-1")
+
+
+def input_of(chance, directives):
+    """An input that the directives may take, and that may be none for them."""
+    parts = []
+    for it in directives:
+        shape = getattr(it, "shape", type(it).__name__)
+        if shape == "Byte":
+            parts.append(chr(it.byte))
+        elif shape == "Percent":
+            parts.append("%")
+        elif shape == "Space":
+            parts.append(chance.choice(("", " ", "\t ")))
+        else:
+            parts.append(chance.choice(NUMBERS if shape in ("Int", "Count") else FLOATS if shape == "Float" else TEXTS))
+        if chance.random() < 0.15:
+            parts.append(chance.choice(NOISE))
+        if chance.random() < 0.3:
+            parts.append(" ")
+    text = "".join(parts)[: chance.choice((None, None, None, chance.randint(0, 12)))]
+    return text.replace("\n", " ").encode("latin-1")
+
+
+def by_chance(seed):
+    """The calls of a check: the words, and the input."""
+    chance = random.Random(seed)
+    for _ in range(FORMATS):
+        profile = chance.choice((1, 2, 3, 3))
+        text = format_of(chance, profile)
+        directives = scan_formats.directives_of(text, profile)
+        words = [b"--profile", b"%d" % profile]
+        inputs = [input_of(chance, directives) for _ in range(LINES)]
+        yield [b"scan", *words, b"--lines", b"--keep-going", b"--", escaped(text).encode()], b"\n".join(inputs)
+        for _ in range(WHOLE):
+            limit = [b"--limit", b"%d" % chance.choice((0, 1, 3, 5, 20))] * (chance.random() < 0.2)
+            whole = b"".join(input_of(chance, directives) + chance.choice((b"", b"\n")) for _ in range(chance.randint(1, 3)))
+            yield [b"scan", *words, *limit, b"--", escaped(text).encode()], whole
+
+
+def drawn(seed):
+    """A check that the program says of these calls what the reference gives."""
+    def check():
+        for words, text in by_chance(seed):
+            found = difference(program.run(*words, stdin=text), answered(words, text))
+            if found:
+                return f"{words} of {text!r}: {found}"
+        return ""
+    return check
+
+
+def checks():
+    for turn in range(8):
+        yield f"cases {turn}", of_table(turn, 8)
+    for seed in range(ROUNDS):
+        yield f"by chance {seed}", drawn(seed)

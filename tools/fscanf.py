@@ -1,0 +1,300 @@
+#!/usr/bin/env python3
+"""fscanf, as docs/FSCANF.md says, in Python: the report of a format on a whole input.
+
+usage: tools/fscanf.py [--profile N] [--limit N] FORMAT < INPUT
+
+    $ printf '12,-7;' | tools/fscanf.py '%d,%d'
+    fscanf returns 2; Done at 0, assigned 2, converted 2, used 5, met None
+    slot 1: 12
+    slot 2: -7
+
+It is a reference: the definitions of the page are functions here, in its order, and nothing is done for speed. It shares
+nothing with the program. FORMAT has no escapes; tools/scan_formats.py reads it.
+"""
+import argparse
+import math
+import os
+import re
+import sys
+from collections import namedtuple
+from fractions import Fraction
+
+sys.dont_write_bytecode = True
+sys.path.insert(0, os.path.dirname(os.path.abspath(__file__)))
+getattr(sys, "set_int_max_str_digits", int)(0)
+
+from scan_formats import Byte, Conversion, Fault, Percent, Space, WHITE, directives_of, quoted  # noqa: E402
+
+# ---- fronts of the input
+
+
+def greatest(most, holds):
+    """IsGreatest: the greatest number up to `most` with a property that 0 has, and each number below one that has it."""
+    least = 0
+    while least < most:
+        half = (least + most + 1) // 2
+        least, most = (half, most) if holds(half) else (least, half - 1)
+    return least
+
+
+def skip(x):
+    """IsSkip: how many bytes of white space stand in front (p5, p8)."""
+    return re.match(rb"[\t-\r ]*", x).end()
+
+
+# ---- matching sequences of integers (p12; 7.22.1.4p3)
+
+# The radix of an integer whose first digit isn't 0, of one whose first digit is 0, and after the letters of prefixes.
+RADICES = dict(Dec=(10, 10, {}), Oct=(8, 8, {}), Hex=(16, 16, {b"x": 16}), Bin=(2, 2, {b"b": 2}))
+RADICES |= dict(Auto=(10, 8, {b"x": 16}), AutoBin=(10, 8, {b"x": 16, b"b": 2}))
+
+
+def number(radix, digits):
+    """IsNumber: the number of one or more digits of the radix; None where these are none."""
+    is_numeral = digits and not digits.lower().translate(None, b"0123456789abcdef"[:radix])
+    return int(digits, radix) if is_numeral else None
+
+
+def unsigned(base, body):
+    """IsUnsigned, IsPrefixed: the magnitude of what follows the sign of an integer."""
+    first, zero, prefixes = RADICES[base]
+    if body[:1] == b"0" and body[1:2].lower() in prefixes:
+        return number(prefixes[body[1:2].lower()], body[2:])
+    return number(zero if body[:1] == b"0" else first, body)
+
+
+def signed(s):
+    """IsSign: whether a minus stands in front, and what follows an optional sign."""
+    return s[:1] == b"-", s[1:] if s[:1] in (b"+", b"-") else s
+
+
+def integer(base, s):
+    """IsInteger: the sign and the magnitude of an integer of the base; None where it is none."""
+    negative, body = signed(s)
+    m = unsigned(base, body)
+    return None if m is None else (negative, m)
+
+
+# ---- matching sequences of floats (p12; 7.22.1.3p3)
+
+DECIMAL = re.compile(rb"([0-9]*)\.?([0-9]*)(?:[eE]([+-]?[0-9]+))?")
+HEXADECIMAL = re.compile(rb"0[xX]([0-9a-fA-F]*)\.?([0-9a-fA-F]*)(?:[pP]([+-]?[0-9]+))?")
+INFINITY = re.compile(rb"inf(?:inity)?", re.IGNORECASE)
+NAN = re.compile(rb"nan(?:\([0-9A-Za-z_]*\))?", re.IGNORECASE)
+
+
+def numeral(form, size):
+    """IsNumeral: the digits before the point, those after it, and the exponent; None where there is no digit."""
+    parts = form.fullmatch(size)
+    return parts.groups() if parts and parts[1] + parts[2] else None
+
+
+def is_float(s):
+    """IsFloat: a sign or none, and a decimal or a hexadecimal numeral, an infinity or a NaN."""
+    size = signed(s)[1]
+    return bool(numeral(DECIMAL, size) or numeral(HEXADECIMAL, size) or INFINITY.fullmatch(size) or NAN.fullmatch(size))
+
+
+# ---- input items (p9)
+
+# What makes a matching sequence of a front of one, where anything does: a digit, or the end of a word.
+TAILS = [b"", b"0", b")", *(word[at:] for word in (b"inf", b"infinity", b"nan") for at in range(len(word)))]
+
+
+def are_members(c, s):
+    """Each byte is of the set; of s, none is white space."""
+    members = bytes(c.members if c.shape == "Set" else set(range(256)) - WHITE)
+    return not s.translate(None, members)
+
+
+def matches(c, s):
+    """Matches: s is a matching sequence of the conversion (p12)."""
+    if c.shape == "Int":
+        return integer(c.base, s) is not None
+    if c.shape == "Float":
+        return is_float(s)
+    return len(s) == c.width if c.shape == "Chars" else len(s) > 0 and are_members(c, s)
+
+
+def begins(c, f):
+    """Begins: f is a matching sequence, or a front of one."""
+    if c.shape in ("Int", "Float"):
+        return any(matches(c, f + tail) for tail in TAILS)
+    return len(f) <= c.width if c.shape == "Chars" else are_members(c, f)
+
+
+def item(c, x):
+    """IsItem: how long the longest front is, within the width, that begins a matching sequence."""
+    return greatest(len(x) if c.width is None else min(len(x), c.width), lambda j: begins(c, x[:j]))
+
+
+# ---- values (p10)
+
+# Of an integer the bits beside its sign. Of a float the bits, the power of two of the last one, and a power that is too great.
+BITS = {"i8": 7, "i16": 15, "i32": 31, "i64": 63, "u8": 8, "u16": 16, "u32": 32, "u64": 64}
+FORMATS = {"f32": (24, -149, 128), "f64": (53, -1074, 1024)}
+
+
+def value_of(kind, negative, m):
+    """value_of: the value of a sign and a magnitude in a kind; None where the kind doesn't hold it."""
+    n = BITS[kind]
+    if kind[0] == "i":
+        return None if m >= 2**n + negative else -m if negative else m
+    return None if m >= 2**n else (2**n - m) % 2**n if negative else m
+
+
+def nearest(kind, digits, base, power):
+    """The number of the kind nearest to digits * base ** power, of two the even one; None where that is an infinity."""
+    bits, least, most = FORMATS[kind]
+    size = digits.bit_length() + max(-(10**12), min(power, 10**12)) * math.log2(base)
+    if digits == 0 or size < least - 10:
+        return 0.0
+    if size > most + 10:
+        return None
+    exact = digits * Fraction(base) ** power
+    top = exact.numerator.bit_length() - exact.denominator.bit_length()
+    unit = Fraction(2) ** max(top - (exact < Fraction(2) ** top) - bits + 1, least)
+    rounded = round(exact / unit) * unit
+    return None if rounded >= 2**most else float(rounded)
+
+
+def real(kind, s):
+    """IsStored: the float that a matching sequence gives; None where a finite number is out of range."""
+    negative, size = signed(s)
+    if NAN.fullmatch(size):
+        return math.nan
+    if INFINITY.fullmatch(size):
+        return -math.inf if negative else math.inf
+    form, radix, base, places = (HEXADECIMAL, 16, 2, 4) if numeral(HEXADECIMAL, size) else (DECIMAL, 10, 10, 1)
+    whole, fraction, exponent = numeral(form, size)
+    found = nearest(kind, int(whole + fraction, radix), base, int(exponent or b"0") - places * len(fraction))
+    return None if found is None else -found if negative else found
+
+
+def stored(c, s):
+    """ItemStored: what an assigned conversion stores of a matching item; None where its kind doesn't hold it."""
+    if c.shape == "Int":
+        return value_of(c.kind, *integer(c.base, s))
+    return real(c.kind, s) if c.shape == "Float" else s
+
+
+# ---- one directive (p4 to p10): how many bytes it consumes, and how it ends
+
+PASSES, MISSES = ("Passes",), ("Misses",)
+INPUT_FAILURE, MATCHING_FAILURE, OUT_OF_RANGE = (("Fails", it) for it in ("InputFailure", "MatchingFailure", "OutOfRange"))
+
+
+def byte_step(b, x):
+    """ByteStep: the byte stands there that is due, or another one, or none (p6)."""
+    if not x:
+        return 0, INPUT_FAILURE
+    return (1, PASSES) if x[0] == b else (0, MATCHING_FAILURE)
+
+
+def stores(c, value):
+    """NumberStored, RealStored: the value goes to the slot, where there is one."""
+    return OUT_OF_RANGE if value is None else ("Stores", c.slot, value)
+
+
+def item_ends(c, x, j):
+    """ItemEnds, EmptyItem: how a conversion ends whose item is the first j bytes of x (p9, p10)."""
+    if j == 0:
+        return MISSES if c.optional else MATCHING_FAILURE if x else INPUT_FAILURE
+    if not matches(c, x[:j]):
+        return MATCHING_FAILURE
+    return PASSES if c.slot is None else stores(c, stored(c, x[:j]))
+
+
+def item_step(c, x):
+    """ItemStep: white space, where the shape skips it (p8), and the item."""
+    s = skip(x) if c.shape in ("Int", "Text", "Float") else 0
+    j = item(c, x[s:])
+    return s + j, item_ends(c, x[s:], j)
+
+
+def step(d, x, n):
+    """Step: on the remaining input x, after n bytes, how many the directive consumes, and how it ends."""
+    if isinstance(d, Space):
+        return skip(x), PASSES
+    if isinstance(d, Byte):
+        return byte_step(d.byte, x)
+    if isinstance(d, Percent):
+        j, end = byte_step(ord("%"), x[skip(x) :])
+        return skip(x) + j, end
+    if d.shape == "Count":
+        return 0, PASSES if d.slot is None else stores(d, value_of(d.kind, False, n))
+    return item_step(d, x)
+
+
+# ---- whole runs (p4, p16)
+
+Ran = namedtuple("Ran", "directive bytes end")
+Report = namedtuple("Report", "status at assigned converted used met values")
+
+
+def steps(directives, x):
+    """Steps: the directives that run, up to the first that fails, each on what those before it left."""
+    ran, n = [], 0
+    for d in directives:
+        k, end = step(d, x[n:], n)
+        ran.append(Ran(d, k, end))
+        if end[0] == "Fails":
+            break
+        n += k
+    return ran
+
+
+def used(ran):
+    return sum(it.bytes for it in ran)
+
+
+def counted(ran, *ends):
+    """assigned, converted: how many conversions ended so."""
+    return sum(isinstance(it.directive, Conversion) and it.directive.shape != "Count" and it.end[0] in ends for it in ran)
+
+
+def is_open(directives, x):
+    """IsOpen: after the bytes x the run would consume some byte next."""
+    return any(used(steps(directives, x + bytes([b]))) == len(x) + 1 for b in range(256))
+
+
+def report_of(ran, met):
+    failed = bool(ran) and ran[-1].end[0] == "Fails"
+    status, at = (ran[-1].end[1], len(ran)) if failed else ("Done", 0)
+    values = [it.end[1:] for it in ran if it.end[0] == "Stores"]
+    return Report(status, at, counted(ran, "Stores"), counted(ran, "Stores", "Passes"), used(ran), met, values)
+
+
+def run(directives, x, limit=2**31 - 1, ending="End"):
+    """Run, RunWithin: the report on the input x, which ends so, under a limit on the bytes that are consumed."""
+    ran = steps(directives, x)
+    if used(ran) <= limit:
+        return report_of(ran, ending if used(ran) == len(x) and is_open(directives, x) else None)
+    before = ran[: next(it for it in range(len(ran)) if used(ran[: it + 1]) > limit)]
+    return report_of(before, None)._replace(status="TooLong", at=len(before) + 1, used=limit)
+
+
+def c_return(report):
+    """c_return: what fscanf returns, -1 being EOF (p16)."""
+    return -1 if report.status == "InputFailure" and report.converted == 0 else report.assigned
+
+
+def main():
+    words = argparse.ArgumentParser(description=__doc__, formatter_class=argparse.RawDescriptionHelpFormatter)
+    words.add_argument("--profile", type=int, choices=(1, 2, 3), default=1)
+    words.add_argument("--limit", type=int, default=2**31 - 1)
+    words.add_argument("format")
+    given = words.parse_args()
+    try:
+        directives = directives_of(os.fsencode(given.format), given.profile)
+    except Fault as fault:
+        sys.exit(f"scan format: {fault}")
+    report = run(directives, sys.stdin.buffer.read(), given.limit)
+    told = ", ".join(f"{it} {getattr(report, it)}" for it in Report._fields[2:6])
+    print(f"fscanf returns {c_return(report)}; {report.status} at {report.at}, {told}")
+    for slot, value in sorted(report.values):
+        print(f"slot {slot}:", quoted(value) if isinstance(value, bytes) else value)
+
+
+if __name__ == "__main__":
+    main()

@@ -1,0 +1,190 @@
+#!/usr/bin/env python3
+"""Scan formats, read as docs/FORMATS.md says: the directives of a text, or its first fault.
+
+usage: tools/scan_formats.py [--profile N] FORMAT
+
+It prints what `sf show` prints: a line for each directive, and the count of the destinations with the sum of their widths.
+A format that is refused is reported by its fault, with status 2. FORMAT has no escapes. It shares nothing with the program.
+"""
+import argparse
+import os
+import re
+import sys
+from collections import namedtuple
+
+# The directives (C11 7.21.6.2p3). A conversion without a slot is suppressed.
+Space = namedtuple("Space", "")
+Byte = namedtuple("Byte", "byte")
+Percent = namedtuple("Percent", "")
+Conversion = namedtuple("Conversion", "letter shape base members kind width slot optional")
+
+MOST_BYTES, MOST_WIDTH, MOST_SLOTS = 4096, 65535, 32
+WHITE = frozenset(b"\t\n\v\f\r ")
+SIGNED = {b"": "i32", b"hh": "i8", b"h": "i16"}
+UNSIGNED = {b"": "u32", b"hh": "u8", b"h": "u16"}
+SHAPES = {**dict.fromkeys("diuoxXb", "Int"), "s": "Text", "[": "Set", "c": "Chars", "n": "Count", **dict.fromkeys("aAeEfFgG", "Float")}
+BASES = {"d": "Dec", "u": "Dec", "o": "Oct", "x": "Hex", "X": "Hex", "b": "Bin"}
+OPENING = {
+    1: re.compile(rb"(?:(?P<number>[0-9]+)\$)?(?P<star>\*?)(?P<optional>)(?P<width>[0-9]*)(?P<size>hh|h|ll|l|j|z|t|)"),
+    3: re.compile(rb"(?:(?P<number>[0-9]+)\$)?(?P<star>\*?)(?P<optional>\??)(?P<width>[0-9]*)(?P<size>hh|h|ll|l|j|z|t|)"),
+}
+
+
+class Fault(Exception):
+    """The first fault of a format, with its place."""
+
+    def __init__(self, why, at):
+        super().__init__(f"{why} at {at}")
+        self.why, self.at = why, at
+
+
+def letters_of(profile):
+    return "diuoxXs[cn" + ("b" if profile >= 2 else "") + ("aAeEfFgG" if profile == 3 else "")
+
+
+def refuse(*rules):
+    """Refuses by the first of the rules that applies."""
+    for applies, why, at in rules:
+        if applies:
+            raise Fault(why, at)
+
+
+def kind_of(letter, size):
+    """The kind of a letter with a length, in LP64 (C11 7.21.6.2p11); None where it has no such length."""
+    shape = SHAPES[letter]
+    if shape == "Float":
+        return {b"": "f32", b"l": "f64"}.get(size)
+    if shape in ("Int", "Count"):
+        return SIGNED.get(size, "i64") if letter in "din" else UNSIGNED.get(size, "u64")
+    return "text" if size == b"" else None
+
+
+def judge_letter(profile, letter, opening, at):
+    """The rules of the letter, and of what stands before it."""
+    size, byte = opening["size"], letter.encode("latin-1")
+    is_text, is_float = letter in "cs[", letter in "aAeEfFgG"
+    refuse(
+        (byte == b"\0", "F14 Nul", at),
+        (letter in "mLpCS" or is_float and profile < 3, "F5 LeftOut", at),
+        (letter not in letters_of(profile), "F4 UnknownLetter", at),
+        (is_text and size == b"l", "F5 LeftOut", at),
+        (is_text and size != b"" or is_float and size not in (b"", b"l"), "F6 BadLength", at),
+        (letter == "n" and any(opening[it] for it in ("star", "width", "optional")), "F9 BadCount", at),
+    )
+
+
+def scanlist(text, at):
+    """The members of a scanlist, whose `[` stands at the place, and where it ends (C11 7.21.6.2p12)."""
+    inside = at + 2 if text[at + 1 : at + 2] == b"^" else at + 1
+    close = text.find(b"]", inside + 1)
+    listed = text[inside : close if close >= 0 else len(text)]
+    refuse((b"\0" in listed, "F14 Nul", inside + listed.find(b"\0")), (close < 0, "F7 OpenSet", at))
+    members, here = set(), 0
+    while here < len(listed):
+        low = high = listed[here]
+        if listed[here + 1 : here + 2] == b"-" and here + 2 < len(listed):
+            high = listed[here + 2]
+            refuse((high < low, "F8 BackwardRange", inside + here))
+            here += 2
+        members |= set(range(low, high + 1))
+        here += 1
+    return frozenset(set(range(256)) - members if inside == at + 2 else members), close + 1
+
+
+def conversion(text, at, profile, earlier):
+    """The conversion whose % stands at the place, where it ends, and its number, if it has one; `earlier` has those before it."""
+    opening = OPENING[3 if profile == 3 else 1].match(text, at + 1)
+    number, star, width, size = (opening[it] for it in ("number", "star", "width", "size"))
+    refuse(
+        (number is not None and not 1 <= int(number) <= MOST_SLOTS, "F11 BadNumber", at + 1),
+        (number is not None and star, "F11 BadNumber", opening.start("star")),
+        (width and int(width) == 0, "F2 ZeroWidth", opening.start("width")),
+        (width and int(width) > MOST_WIDTH, "F3 TooWide", opening.start("width")),
+        (opening.end() == len(text), "F1 Truncated", len(text)),
+    )
+    letter, end, members = chr(text[opening.end()]), opening.end() + 1, None
+    judge_letter(profile, letter, opening, opening.end())
+    if letter == "[":
+        members, end = scanlist(text, opening.end())
+    if not star:
+        refuse(
+            (any((it is None) != (number is None) for it in earlier), "F10 MixedNumbering", at),
+            (number is None and len(earlier) >= MOST_SLOTS, "F16 TooManyDestinations", at),
+        )
+    slot = None if star else int(number) if number is not None else len(earlier) + 1
+    base = BASES.get(letter, ("Auto" if profile == 1 else "AutoBin") if letter == "i" else None)
+    bytes_ = int(width) if width else 1 if letter == "c" else None
+    return Conversion(letter, SHAPES[letter], base, members, kind_of(letter, size), bytes_, slot, bool(opening["optional"])), end, number
+
+
+def directives_of(text, profile=1):
+    """The directives of a format. Raises Fault with the first fault."""
+    refuse((len(text) > MOST_BYTES, "F15 FormatTooLong", MOST_BYTES))
+    found, numbers, places, at = [], [], [], 0
+    while at < len(text):
+        refuse((text[at] == 0, "F14 Nul", at))
+        if text[at] in WHITE:
+            while at < len(text) and text[at] in WHITE:
+                at += 1
+            found.append(Space())
+        elif text[at : at + 2] == b"%%":
+            found.append(Percent())
+            at += 2
+        elif text[at] == ord("%"):
+            directive, end, number = conversion(text, at, profile, numbers)
+            found.append(directive)
+            if directive.slot is not None:
+                numbers.append(number)
+                places.append((directive.slot, at))
+            at = end
+        else:
+            found.append(Byte(text[at]))
+            at += 1
+    if any(number is not None for number in numbers):
+        slots = [slot for slot, _ in places]
+        refuse(*((slot in slots[:turn], "F12 NumberTwice", place) for turn, (slot, place) in enumerate(places)))
+        refuse(*((slot > len(slots), "F13 NumberGap", place) for slot, place in places))
+    return found
+
+
+def quoted(text):
+    """Bytes between quotes, as the program shows them."""
+    one = {34: '\\"', 92: "\\\\"}
+    return '"' + "".join(one.get(it) or (chr(it) if 32 <= it < 127 else f"\\x{it:02x}") for it in text) + '"'
+
+
+def destinations_of(directives):
+    return [it for it in directives if isinstance(it, Conversion) and it.slot is not None]
+
+
+def shown(directives):
+    """The lines of `sf show`."""
+    for number, it in enumerate(directives, 1):
+        if isinstance(it, Conversion):
+            width, slot = ("-" if one is None else one for one in (it.width, it.slot))
+            members = f" members {len(it.members)}" if it.shape == "Set" else ""
+            mark = " optional" if it.optional else ""
+            letter = "f" if it.shape == "Float" else it.letter.lower()
+            yield f"{number} {letter} {it.kind} width {width} slot {slot}{members}{mark}"
+        else:
+            said = f"byte {quoted(bytes([it.byte]))}" if isinstance(it, Byte) else type(it).__name__.lower()
+            yield f"{number} {said}"
+    held = [it.width for it in destinations_of(directives) if it.shape not in ("Int", "Count")]
+    yield f"destinations {len(destinations_of(directives))}, width sum {'-' if None in held else sum(held)}"
+
+
+def main():
+    words = argparse.ArgumentParser(description=__doc__, formatter_class=argparse.RawDescriptionHelpFormatter)
+    words.add_argument("--profile", type=int, choices=(1, 2, 3), default=1)
+    words.add_argument("format")
+    given = words.parse_args()
+    try:
+        print(*shown(directives_of(os.fsencode(given.format), given.profile)), sep="\n")
+    except Fault as fault:
+        print(f"scan format: {fault}", file=sys.stderr)
+        return 2
+    return 0
+
+
+if __name__ == "__main__":
+    sys.exit(main())
