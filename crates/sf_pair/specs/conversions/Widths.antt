@@ -11,7 +11,8 @@ use Rattle.sf_format.specs.declared.unit.FloatStyle.TheVariants as style
 use Rattle.sf_format.specs.declared.unit.PrintLetter.{PrintLetter}
 use Rattle.sf_format.specs.declared.unit.PrintLetter.TheVariants as letter
 use Rattle.sf_format.specs.declared.unit.PrintConv.{PrintConv}
-use Rattle.sf_print.specs.texts.Visible.{visible}
+use Rattle.sf_print.specs.texts.Text.{value_text}
+use Rattle.sf_print.specs.texts.Visible.{visible, without_blanks}
 use Rattle.sf_pair.specs.conversions.Reals.{seen}
 
 -- of the texts of the numbers of the conversion's kind, without the blanks before them, the longest has so many bytes
@@ -78,3 +79,11 @@ pub record AreExtremes (kind : Kind) (least greatest : Datum) : Type 0 where
   pub low_small : unsigned_abs low < 2 ^ 64
   pub high_small : high < 2 ^ 64
   pub between : (z : ℤ) → IsIn kind z → IsBetween low high z
+
+-- of the texts of the least and the greatest number of the conversion's kind, without the blanks before them, the longer one has so many
+-- bytes (C11 7.21.6.1p4 to p6)
+pub record IsLongerEnd (c : PrintConv) (n : ℕ) : Type 0 where
+  pub least : Datum
+  pub greatest : Datum
+  pub ends : AreExtremes c.kind least greatest
+  pub longer : n ≡ max (length (without_blanks (value_text c least))) (length (without_blanks (value_text c greatest)))

@@ -4,7 +4,8 @@ ghost use Rattle.sf_base.specs.Kinds.{bounds_of};
 ghost use Rattle.sf_base.specs.Data.{datum_of};
 ghost use Rattle.sf_print.specs.texts.Text.{least_digits};
 ghost use Rattle.sf_format.specs.Units.{is_double};
-ghost use Rattle.sf_pair.specs.conversions.Widths.{AreExtremes, IsLongest, NoneIsLonger, longest_float};
+ghost use Rattle.sf_pair.specs.conversions.Widths.{AreExtremes, IsLongerEnd, IsLongest, NoneIsLonger};
+ghost use Rattle.sf_pair.specs.conversions.Widths.{longest_float};
 
 use crate::conversions::below::laws_below;
 use crate::conversions::reals::longest_float_len;
@@ -34,12 +35,14 @@ fn extremes(kind: Kind) -> Option<(Value<'static>, Value<'static>)>
 /// least width of a conversion that reads each of them, as 11 for `%d` and 314 for `%.3f`. Of the kind of doubles that
 /// is of the finite ones. None of a text.
 ///
-/// A `-` pads with blanks after the number, and the precision 0 prints no digit of the integer 0: of such a conversion,
-/// which no scan reads back, the length isn't said.
+/// A `-` pads with blanks after the number, which are counted, as 15 for `%-15d`; and the precision 0 prints no digit of
+/// the integer 0. No scan reads such a conversion back. Of an integer, the length is that of the least or of the greatest
+/// number of the kind, whatever flags there are.
 pub fn longest_len(conv: &PrintConv) -> Option<u32>
     ensures none { MatchOption result ((bounds_of conv.now.kind ≡ None) × (is_double conv.now.kind ≡ false))
         (λ n. (bounds_of conv.now.kind ≢ None) ⊎ (is_double conv.now.kind ≡ true)) }
-    ensures integer { IfSome result (λ n. bounds_of conv.now.kind ≢ None → conv.now.minus ≡ false
+    ensures integer { IfSome result (λ n. bounds_of conv.now.kind ≢ None → IsLongerEnd conv.now n) }
+    ensures longest { IfSome result (λ n. bounds_of conv.now.kind ≢ None → conv.now.minus ≡ false
         → 0 < least_digits conv.now → IsLongest conv.now n) }
     ensures float { is_double conv.now.kind ≡ true → result ≡ Some (longest_float conv.now) }
     ensures enough { is_double conv.now.kind ≡ true → conv.now.minus ≡ false
