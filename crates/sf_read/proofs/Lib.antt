@@ -2,6 +2,7 @@ mod SourceLemmas
 mod FieldLemmas
 pub mod LineLemmas
 -- of scans
+pub mod AtOnce
 pub mod Blocks
 pub mod Consuming
 pub mod Ended

@@ -8,9 +8,11 @@ ghost use Rattle.sf_format.specs.Widths.{width_sum};
 ghost use Rattle.sf_run.specs.outcome.Status.TheVariants.{Done};
 ghost use Rattle.sf_run.specs.Limits.{RunTold, RunWithin};
 ghost use Rattle.sf_run.specs.Memory.{HoldsValues, capacity_of};
+ghost use Rattle.sf_run.specs.Quick.{IsDoneWithin};
 ghost use Rattle.sf_run.specs.Scanner.{kept_by, standing};
 ghost use Rattle.sf_run.specs.Standing.{After};
 ghost use Rattle.sf_run.specs.Views.{report_by};
+ghost use Rattle.sf_read.specs.AtOnce.{IsSeenAtOnce};
 ghost use Rattle.sf_read.specs.Reading.{IsFresh};
 
 use sf_base::{HeapStore, Store};
@@ -82,7 +84,8 @@ fn lay_down(text: &[u8], block: &mut [u8])
 
 /// As `scan_at_once`, into an empty store that has a slot for each destination of the format, of a text that is laid
 /// down in a block of `N` bytes: its result with a newline after it, and whatever follows that, is the result of the
-/// text alone.
+/// text alone. It answers wherever that run is Done before the newline is used; where it uses all of the text, its last
+/// item could have gone on.
 #[inline(always)]
 fn scan_with_newline<K: Store, const N: usize>(
     store: &mut K,
@@ -97,6 +100,7 @@ fn scan_with_newline<K: Store, const N: usize>(
     ensures run { IfSome result (λ outcome. RunWithin format.now limit text.now Ending.End
         (report_by outcome (K.kept store.new).values)) }
     ensures done { IfSome result (λ outcome. outcome.status ≡ Done) }
+    ensures answers { IsSeenAtOnce format.now limit text.now (capacity_of (K.kept store.old)) → IsSome result }
     ensures texts { IfSome result (λ _. HoldsValues (K.kept store.new)) }
     ensures room { capacity_of (K.kept store.old) ≤ capacity_of (K.kept store.new) }
 {
@@ -139,6 +143,7 @@ fn scan_in_place(
     requires empty { store.old ≡ nothing_kept store.old.room }
     ensures run { IfSome result (λ outcome. RunWithin format.now limit text.now Ending.End
         (report_by outcome store.new.values)) }
+    ensures answers { IsDoneWithin format.now limit text.now (capacity_of store.old) → IsSome result }
     ensures texts { IfSome result (λ _. HoldsValues store.new) }
     ensures room { capacity_of store.old ≤ capacity_of store.new }
 {
@@ -159,6 +164,9 @@ fn scan_at_once(
     requires empty { store.old ≡ nothing_kept store.old.room }
     ensures run { IfSome result (λ outcome. RunWithin format.now limit text.now Ending.End
         (report_by outcome store.new.values)) }
+    ensures answers { IsDoneWithin format.now limit text.now (capacity_of store.old) → IsSome result }
+    ensures ended { length text.now < 256 → IsSeenAtOnce format.now limit text.now (capacity_of store.old)
+        → IsSome result }
     ensures texts { IfSome result (λ _. HoldsValues store.new) }
     ensures room { capacity_of store.old ≤ capacity_of store.new }
 {
@@ -197,6 +205,8 @@ pub(crate) fn scan_short<K: Store>(
     ensures run { IfSome result (λ outcome. RunWithin format.now limit text.now Ending.End
         (report_by outcome (K.kept store.new).values)) }
     ensures done { IfSome result (λ outcome. outcome.status ≡ Done) }
+    ensures answers { length text.now ≤ 47 → IsSeenAtOnce format.now limit text.now (capacity_of (K.kept store.old))
+        → IsSome result }
 {
     if text.len() > SHORT {
         return None;
