@@ -6,4 +6,5 @@ pub mod Looping
 pub mod OneEnd
 pub mod Passing
 pub mod PlainTexts
+pub mod ReadingColumns
 pub mod RowsWritten

@@ -5,5 +5,6 @@ pub mod Looping
 pub mod OneTurn
 pub mod Reading
 pub mod Rooms
+pub mod RowsRead
 pub mod Telling
 pub mod Turning

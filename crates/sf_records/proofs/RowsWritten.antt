@@ -1,35 +1,61 @@
--- The records that a loop wrote are those of its runs' values.
-use Rattle.std.proofs.Common.{◌≡◌, ℕ, zero, suc, ◌+◌, Bool, true, false, cond, nat_eq, List, [], ◌∷◌, ◌++◌, length, take}
+-- The records that a loop wrote are those of what its runs gave to the slots.
+use Rattle.std.proofs.Common.{◌≡◌, ℕ, zero, suc, ◌+◌, Bool, true, false, cond, nat_eq, List, [], ◌∷◌, ◌++◌, length, map, take}
 use Rattle.std.proofs.Common.{drop, ◌⊎◌, Option, Some, None, inl, inr, refl, sym, ap, ap₂, subst, ◌∙◌, arith, append-nil}
 use Rattle.std.proofs.Common.{length-append, true≢false}
-use Rattle.std.specs.List.{flat_map}
+use Rattle.std.specs.List.{AllByRecursion, flat_map}
 use Rattle.std.proofs.lemmas.Grind.{flat_map-append}
 use Rattle.sf_base.specs.Bytes.{AreBytes}
-use Rattle.sf_base.specs.Data.{Datum}
+use Rattle.sf_base.specs.Data.{Assigned, Datum, datum_at}
 use Rattle.sf_format.specs.declared.directive.Directive.{Directive}
 use Rattle.sf_format.specs.Proper.{IsAccepted, destinations_of, has_optional}
+use Rattle.sf_format.specs.Slots.{slots_from}
 use Rattle.sf_run.specs.outcome.Ending.{Ending}
 use Rattle.sf_run.specs.outcome.Ending.TheVariants.{End, Fault}
 use Rattle.sf_run.specs.outcome.Status.{Status}
 use Rattle.sf_run.specs.outcome.Status.TheVariants.{Done, InputFailure, MatchingFailure, OutOfRange, TooLong, NoMemory}
-use Rattle.sf_run.specs.Laws.{EachDoneRunHasItsRow}
+use Rattle.sf_run.specs.Laws.{EachDoneRunFillsSlots, EachDoneRunHasItsRow}
 use Rattle.sf_run.specs.Limits.{RunWithin}
-use Rattle.sf_run.specs.Rows.{kinds_of}
+use Rattle.sf_run.specs.Rows.{FillsSlots, given_to, kinds_of}
 use Rattle.sf_run.specs.Runs.{RunReport}
+use Rattle.sf_run.proofs.Values.{found_given}
 use Rattle.sf_records.specs.declared.end.ToolEnd.{ToolEnd}
-use Rattle.sf_forms.specs.declared.form.OutputForm.{OutputForm}
 use Rattle.sf_records.specs.declared.turn.Turn.{Turn}
 use Rattle.sf_records.specs.declared.turn.Turn.TheVariants.{Goes, Ends, Cut, Failed, Stalled, Unfit, RanOut}
-use Rattle.sf_records.specs.Forms.{row_text, writing}
 use Rattle.sf_records.specs.Judging.{is_write}
-use Rattle.sf_records.specs.ReadingBack.{AreDone, AreRows, AreRowsOf, HaveKinds, JsonReadsBack, ReadsAsRows, RecordsAreRows, TsvReadsBack}
-use Rattle.sf_records.specs.ReadingBack.{WrittenReadsBack}
-use Rattle.sf_forms.specs.JsonReading.{json_rows}
-use Rattle.sf_forms.specs.Tables.{tsv_rows}
+use Rattle.sf_records.specs.ReadingBack.{AreDone, AreGivenRows, AreRows, AreWhole, HaveKinds, ReadsAsRows, RecordsReadBack, columns_of}
+use Rattle.sf_records.specs.ReadingBack.{WrittenReadsBack, records_of, rows_given}
+use Rattle.sf_forms.specs.ReadingBack.{HeadedRecordsAreGiven, IsGivenValue, TsvReadsBack}
+use Rattle.sf_forms.specs.Forms.{given_row_text}
+use Rattle.sf_forms.specs.Heads.{names_over}
+use Rattle.sf_forms.specs.makers.Forms.{Heading, bare, writing_under}
+use Rattle.sf_forms.proofs.Givens.{rows_given as texts_given}
 use Rattle.sf_records.specs.Records.{EndsWith, IsCutShort, Passed, end_by, ending_by, input_by}
 use Rattle.sf_records.specs.Turns.{turn_by, turn_of, writes}
 use Rattle.sf_records.specs.Works.{Work, last_text, texts, turn_in}
 use Rattle.sf_records.proofs.Copying.{fit_is}
+use Rattle.sf_records.proofs.ReadingColumns.{Laws, reads_as, tagged_values}
+
+-- ---- what the slots of a Done run were given
+
+given_at : (given : Option Datum) → ((v : Datum) → given ≡ Some v → IsGivenValue (Some v)) → IsGivenValue given
+given_at None is = tt
+given_at (Some v) is = is v refl
+
+are_given : (slots : List ℕ) (ds : List Directive) (values : List Assigned) → FillsSlots ds values
+    → AllByRecursion IsGivenValue (map (λ slot. datum_at slot values) slots)
+are_given [] ds values fills = tt
+are_given (slot ∷ slots) ds values fills = (
+  given_at (datum_at slot values) (λ v found. found_given slot values v fills.are_values found),
+  are_given slots ds values fills,
+)
+
+pub values_given : (n : ℕ) (ds : List Directive) (values : List Assigned) → FillsSlots ds values
+    → AllByRecursion IsGivenValue (given_to n values)
+values_given n ds values fills = are_given (slots_from 1 n) ds values fills
+
+slot_count : {A : Type 0} (f : ℕ → A) (place n : ℕ) → length (map f (slots_from place n)) ≡ n
+slot_count f place zero = refl
+slot_count f place (suc n) = ap suc (slot_count f (place + 1) n)
 
 -- ---- records that are written
 
@@ -60,7 +86,7 @@ bytes_behind x zero h = h
 bytes_behind [] (suc n) h = h
 bytes_behind (b ∷ x) (suc n) h = bytes_behind x n h.1
 
-bytes_taken : (x : List ℕ) (n : ℕ) → AreBytes x → AreBytes (take n x)
+pub bytes_taken : (x : List ℕ) (n : ℕ) → AreBytes x → AreBytes (take n x)
 bytes_taken x zero h = tt
 bytes_taken [] (suc n) h = tt
 bytes_taken (b ∷ x) (suc n) h = (h.0, bytes_taken x n h.1)
@@ -76,10 +102,10 @@ counted Stalled n r stops = omega arith
 counted Unfit n r stops = omega arith
 counted RanOut n r stops = omega arith
 
-module _ (have_rows : EachDoneRunHasItsRow) (are_rows : RecordsAreRows) (tsv_back : TsvReadsBack) (json_back : JsonReadsBack)
-    (form : OutputForm) (ds : List Directive) (accepted : IsAccepted ds) (whole : has_optional ds ≡ false) (m : ℕ) (ending : Ending) where
+module _ (fill_slots : EachDoneRunFillsSlots) (have_rows : EachDoneRunHasItsRow) (headed_given : HeadedRecordsAreGiven) (laws : Laws)
+    (tsv_back : TsvReadsBack) (h : Heading) (ds : List Directive) (accepted : IsAccepted ds) (m : ℕ) (ending : Ending) where
   abbrev w : Work
-  w = writing form ds
+  w = writing_under h 1 ds
 
   abbrev slots : ℕ
   slots = length (destinations_of ds)
@@ -104,47 +130,82 @@ module _ (have_rows : EachDoneRunHasItsRow) (are_rows : RecordsAreRows) (tsv_bac
         last passed.2 ran done,
   )
 
+  abbrev columns : List RunReport → List (List (Option Datum))
+  columns rs = map (columns_of h 1) (rows_given ds rs)
+
   record Rowed (rs : List RunReport) : Type 0 where
-    pub rows : List (List Datum)
-    pub are : AreRowsOf slots rows rs
-    pub count : length rows ≡ length rs
-    pub values : AreRows rows
-    pub kinds : HaveKinds (kinds_of ds) rows
-    pub text : texts w rs ≡ flat_map (row_text form) rows
+    pub fills : AllByRecursion (λ r. FillsSlots ds r.values) rs
+    pub count : length (rows_given ds rs) ≡ length rs
+    pub lengths : AllByRecursion (λ row. length row ≡ slots) (rows_given ds rs)
+    pub values : AreGivenRows (rows_given ds rs)
+    pub tagged : AreGivenRows (columns rs)
+    pub text : texts w rs ≡ records_of h.form (names_over h) (columns rs)
 
   rowed : (x : List ℕ) → AreBytes x → (rs : List RunReport) → AreDone ds m x ending rs → Rowed rs
-  rowed x bytes [] done = record { rows = []; are = tt; count = refl; values = tt; kinds = tt; text = refl }
+  rowed x bytes [] done = record { fills = tt; count = refl; lengths = tt; values = tt; tagged = tt; text = refl }
   rowed x bytes (r ∷ rs) done =
-      let has = have_rows ds accepted whole m x ending r bytes (inl done.0) done.1 in
+      let fills = fill_slots ds accepted m x ending r bytes (inl done.0) done.1 in
+      let given = values_given slots ds r.values fills in
       let later = rowed (drop r.used x) (bytes_behind x r.used bytes) rs done.2 in
       record {
-        rows = has.row ∷ later.rows;
-        are = (has.is_row, later.are);
-        count = omega (arith, later.count);
+        fills = (fills, later.fills);
+        count = ap suc later.count;
+        lengths = (slot_count (λ slot. datum_at slot r.values) 1 slots, later.lengths);
+        values = (given, later.values);
+        tagged = (tagged_values h.tagged 1 (given_to slots r.values) (omega arith) given, later.tagged);
+        text = ap₂ (λ (a b : List ℕ). a ++ b) (headed_given h 1 slots r) later.text;
+      }
+
+  -- where no value may be missing
+  record Given (rs : List RunReport) : Type 0 where
+    pub given : List (List Datum)
+    pub are : rows_given ds rs ≡ map (map Some) given
+    pub values : AreRows given
+    pub kinds : HaveKinds (kinds_of ds) given
+
+  given_of : has_optional ds ≡ false → (x : List ℕ) → AreBytes x → (rs : List RunReport) → AreDone ds m x ending rs → Given rs
+  given_of none x bytes [] done = record { given = []; are = refl; values = tt; kinds = tt }
+  given_of none x bytes (r ∷ rs) done =
+      let has = have_rows ds accepted none m x ending r bytes (inl done.0) done.1 in
+      let later = given_of none (drop r.used x) (bytes_behind x r.used bytes) rs done.2 in
+      record {
+        given = has.row ∷ later.given;
+        are = ap₂ (λ (a : List (Option Datum)) (b : List (List (Option Datum))). a ∷ b) (sym has.is_row) later.are;
         values = (has.are_values, later.values);
         kinds = (has.kinds, later.kinds);
-        text = ap₂ (λ a b. a ++ b) (are_rows form slots has.row r has.is_row) later.text;
       }
+
+  typed_of : (rs : List RunReport) → Given rs → AreWhole ds (rows_given ds rs)
+  typed_of rs all = record {
+    given = all.given;
+    are = all.are;
+    values = all.values;
+    kinds = all.kinds;
+    texts = λ form. ap (λ (rows : List (List (Option Datum))). flat_map (given_row_text form) rows) all.are ∙ sym (texts_given form all.given);
+    table = tsv_back (kinds_of ds) all.given all.values all.kinds;
+  }
 
   reads : (x : List ℕ) → AreBytes x → (rs : List RunReport) → AreDone ds m x ending rs → (text part : List ℕ)
       → text ≡ texts w rs ++ part → (answer : ToolEnd) → answer.records ≡ length rs
-      → (is_write answer.fault ≡ false → part ≡ []) → ReadsAsRows form ds m x ending text answer
+      → (is_write answer.fault ≡ false → part ≡ []) → ReadsAsRows h ds m x ending text answer
   reads x bytes rs done text part is answer count whole =
       let all = rowed x bytes rs done in
       record {
         reports = rs;
         done = done;
-        rows = all.rows;
-        are = all.are;
+        fills = all.fills;
+        rows = rows_given ds rs;
+        are = refl;
         count = all.count ∙ sym count;
+        lengths = all.lengths;
         values = all.values;
-        kinds = all.kinds;
+        columns = columns rs;
+        columns_are = refl;
         part = part;
-        text_is = is ∙ ap (λ t. t ++ part) all.text;
+        text_is = is ∙ ap (λ (t : List ℕ). t ++ part) all.text;
         whole = whole;
-        tsv = λ e. ap (λ f. tsv_rows (kinds_of ds) (flat_map (row_text f) all.rows)) e
-            ∙ tsv_back (kinds_of ds) all.rows all.values all.kinds;
-        json = λ e. ap (λ f. json_rows (flat_map (row_text f) all.rows)) e ∙ json_back all.rows all.values;
+        reads = reads_as laws h.form (names_over h) (columns rs) all.tagged;
+        typed = λ none. typed_of rs (given_of none x bytes rs done);
       }
 
   -- where the loop stopped at a run
@@ -152,7 +213,7 @@ module _ (have_rows : EachDoneRunHasItsRow) (are_rows : RecordsAreRows) (tsv_bac
       → Passed w ds m x ending front left → (last : RunReport) → RunWithin ds m left ending last
       → (turn_in w ds last ≡ Goes → ⊥) → output ≡ texts w front ++ last_text w ds last → (n : ℕ) → n ≡ length front
       → end ≡ end_by (turn_in w ds last) n last → (b : Bool) → writes (turn_in w ds last) ≡ b
-      → ReadsAsRows form ds m x ending output end
+      → ReadsAsRows h ds m x ending output end
   stopped_so x bytes output end front left passed last ran stops is n count end_is true due =
       let text : last_text w ds last ≡ w.text last = ap (λ b. cond b (w.text last) []) due in
       let one : texts w (last ∷ []) ≡ w.text last = append-nil (w.text last) in
@@ -171,7 +232,7 @@ module _ (have_rows : EachDoneRunHasItsRow) (are_rows : RecordsAreRows) (tsv_bac
 
   -- where the loop came to its end
   pub ended_so : (x : List ℕ) → AreBytes x → (output : List ℕ) (used : ℕ) (end : ToolEnd) → EndsWith w ds m x ending output used end
-      → ReadsAsRows form ds m x ending output end
+      → ReadsAsRows h ds m x ending output end
   ended_so x bytes output used end h = elim h.stops [
     | inl full ↦
         reads x bytes h.written (passed_done x h.left h.written h.passed) output []
@@ -185,7 +246,7 @@ module _ (have_rows : EachDoneRunHasItsRow) (are_rows : RecordsAreRows) (tsv_bac
 
   -- where it was ended before
   pub cut_so : (x : List ℕ) → AreBytes x → (text : List ℕ) (consumed : ℕ) (answer : ToolEnd)
-      → IsCutShort w ds m x ending text consumed answer → ReadsAsRows form ds m x ending text answer
+      → IsCutShort w ds m x ending text consumed answer → ReadsAsRows h ds m x ending text answer
   cut_so x bytes text consumed answer h = elim h.why [
     | inl write ↦ reads x bytes h.before (passed_done x h.left h.before h.passed) text h.part h.written_is answer
         (ap (λ e. e.records) write.0) (λ e. absurd (true≢false (sym (ap (λ a. is_write a.fault) write.0) ∙ e)))
@@ -193,9 +254,9 @@ module _ (have_rows : EachDoneRunHasItsRow) (are_rows : RecordsAreRows) (tsv_bac
         (ap (λ e. e.records) memory.0) (λ e. memory.1)
   ]
 
-pub reads_back : {S : Type 0} (to_come : S → Option (List ℕ)) → EachDoneRunHasItsRow → RecordsAreRows → TsvReadsBack → JsonReadsBack
-    → WrittenReadsBack to_come
-reads_back to_come have_rows are_rows tsv_back json_back form ds accepted whole m t bytes now failures failures' before after answer loop =
+pub records_back : {S : Type 0} (to_come : S → Option (List ℕ)) → EachDoneRunFillsSlots → EachDoneRunHasItsRow → HeadedRecordsAreGiven
+    → Laws → TsvReadsBack → RecordsReadBack to_come
+records_back to_come fill_slots have_rows headed_given laws tsv_back h ds accepted m t bytes now failures failures' before after answer loop =
     by loop.told
   where
     bytes_in : (failed : Bool) → AreBytes (input_by failed loop.consumed t)
@@ -204,14 +265,18 @@ reads_back to_come have_rows are_rows tsv_back json_back form ds accepted whole 
 
     by : (loop.written ≡ loop.output) × (loop.consumed ≡ loop.used) × (answer ≡ loop.end)
         ⊎ ((missing : List ℕ) × (loop.output ≡ loop.written ++ missing))
-        × IsCutShort (writing form ds) ds m (input_by loop.failed loop.consumed t) (ending_by loop.failed) loop.written
+        × IsCutShort (writing_under h 1 ds) ds m (input_by loop.failed loop.consumed t) (ending_by loop.failed) loop.written
         loop.consumed answer
-        → ReadsAsRows form ds m (input_by loop.failed loop.consumed t) (ending_by loop.failed) loop.written answer
+        → ReadsAsRows h ds m (input_by loop.failed loop.consumed t) (ending_by loop.failed) loop.written answer
     by (inl (text, used, end)) =
-        subst (λ a. ReadsAsRows form ds m (input_by loop.failed loop.consumed t) (ending_by loop.failed) loop.written a) (sym end)
-        (subst (λ y. ReadsAsRows form ds m (input_by loop.failed loop.consumed t) (ending_by loop.failed) y loop.end) (sym text)
-        (ended_so have_rows are_rows tsv_back json_back form ds accepted whole m (ending_by loop.failed)
+        subst (λ a. ReadsAsRows h ds m (input_by loop.failed loop.consumed t) (ending_by loop.failed) loop.written a) (sym end)
+        (subst (λ y. ReadsAsRows h ds m (input_by loop.failed loop.consumed t) (ending_by loop.failed) y loop.end) (sym text)
+        (ended_so fill_slots have_rows headed_given laws tsv_back h ds accepted m (ending_by loop.failed)
         (input_by loop.failed loop.consumed t) (bytes_in loop.failed) loop.output loop.used loop.end loop.is))
     by (inr (missing, cut)) =
-        cut_so have_rows are_rows tsv_back json_back form ds accepted whole m (ending_by loop.failed) (input_by loop.failed loop.consumed t)
-        (bytes_in loop.failed) loop.written loop.consumed answer cut
+        cut_so fill_slots have_rows headed_given laws tsv_back h ds accepted m (ending_by loop.failed)
+        (input_by loop.failed loop.consumed t) (bytes_in loop.failed) loop.written loop.consumed answer cut
+
+pub reads_back : {S : Type 0} (to_come : S → Option (List ℕ)) → RecordsReadBack to_come → WrittenReadsBack to_come
+reads_back to_come back form ds accepted m t bytes now failures failures' before after answer loop =
+    back (bare form) ds accepted m t bytes now failures failures' before after answer loop

@@ -2,6 +2,7 @@ pub mod Coming
 pub mod Judging
 pub mod Laws
 pub mod Loops
+pub mod ReadingBack
 pub mod Rooms
 pub mod Telling
 pub mod Texts

@@ -85,7 +85,7 @@ tellings_append w n (turn ∷ front) later =
 pub texts_more : (done : List Turn) (turn : Turn) → texts (done ++ turn ∷ []) ≡ texts done ++ text_of turn
 texts_more done turn = flat_map-append text_of done (turn ∷ []) ∙ ap (λ (y : List ℕ). texts done ++ y) (append-nil (text_of turn))
 
-count_append : (p : Turn → Bool) (xs ys : List Turn) → count_by p (xs ++ ys) ≡ count_by p xs + count_by p ys
+pub count_append : (p : Turn → Bool) (xs ys : List Turn) → count_by p (xs ++ ys) ≡ count_by p xs + count_by p ys
 count_append p xs ys = sum_by-append _ xs ys
 
 pub count_more : (p : Turn → Bool) (done : List Turn) (turn : Turn) (k n : ℕ) → k ≡ n + cond (p turn) 1 0 → n ≡ count_by p done

@@ -1,9 +1,5 @@
 -- Laws of lines.
-use Rattle.std.specs.Prelude.{◌≡◌, ◌<◌, ◌⊎◌, ℕ, List, [], ◌∷◌, ◌++◌, length}
-use Rattle.std.specs.List.{AllByRecursion}
-use Rattle.sf_run.specs.outcome.Ending.{Ending}
-use Rattle.sf_run.specs.outcome.Ending.TheVariants.{Fault}
-use Rattle.sf_read.specs.line.Cut.{IsLine, lines_by, lines_of, joined}
+use Rattle.std.specs.Prelude.{◌≡◌, ℕ, List}
 use Rattle.sf_records.specs.by_lines.Turns.{AreScanned, LineWork, Turn}
 use Rattle.sf_records.specs.by_lines.Loops.{AreTurns}
 
