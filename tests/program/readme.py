@@ -1,9 +1,8 @@
-"""The examples in README.md: what stands below each `$ ..` is what a terminal shows, output and error text in their order.
+"""The commands of README.md: what stands below each `$ ..` is what a terminal shows, output and error text in their order.
 
-Each block with a call of the program is one session of sh, which begins with the commands of the page's first block: they
-put `sf` in the path and go to the data. It has a new folder, which holds the program and tests/cookbook/data as a clone
-does. A command whose status isn't 0 has to be followed by `$ echo $?`. Blocks without such a call, as `$ ./test`, are not
-run.
+Each block that begins with `$ ` is one session of sh, and each after the first begins with the first one's commands: they
+install the program and go to the data. A session has a new folder, which is as a clone in which the program is current. A
+command whose status isn't 0 has to be followed by `$ echo $?`.
 """
 import os
 import pty
@@ -16,18 +15,36 @@ import unittest
 import program
 from program import ROOT
 
-CALL = re.compile(r"(?:^|[|;( ])sf (?:show|scan|print|check|copy) ")
-
 # Stands between the outputs of a session's commands.
 MARK = "--readme-51c8--"
+
+# What `make install` takes from a clone.
+PARTS = ("Makefile", "man", "completions", "crates/sf_words/src", "tests/cookbook/data")
+
+LAUNCHER = """#!/bin/sh
+[ "$1" = --build ] || exec "$(dirname -- "$0")/crates/sf/out/sf" "$@"
+"""
 
 
 def sessions():
     """Each block's commands, with the lines below each of them."""
     with open(f"{ROOT}/README.md", encoding="utf-8") as text:
-        blocks = re.findall(r"(?ms)^```\n(\$ .*?)^```$", text.read())
-    found = [re.findall(r"(?m)^\$ (.*)\n((?:(?!\$ ).*\n)*)", block) for block in blocks]
-    return found[0], [it for it in found if any(CALL.search(command) for command, _ in it)]
+        blocks = re.findall(r"(?ms)^```\n(.*?)^```$", text.read())
+    found = [re.findall(r"(?m)^\$ (.*)\n((?:(?!\$ ).*\n)*)", block) for block in blocks if block.startswith("$ ")]
+    return found[0], found[1:]
+
+
+def clone(room):
+    """Makes a folder as a clone in which the program is current."""
+    for part in PARTS:
+        copy = shutil.copytree if os.path.isdir(f"{ROOT}/{part}") else shutil.copyfile
+        copy(f"{ROOT}/{part}", f"{room}/{part}")
+    os.makedirs(room + "/crates/sf/out")
+    os.mkdir(room + "/home")
+    shutil.copy(program.path, room + "/crates/sf/out/sf")
+    with open(room + "/sf", "w", encoding="ascii") as file:
+        file.write(LAUNCHER)
+    os.chmod(room + "/sf", 0o755)
 
 
 def shown(commands, room):
@@ -36,7 +53,8 @@ def shown(commands, room):
     for command in commands:
         lines += [command, f"status=$?; echo '{MARK}' $status; (exit $status)"]
     ours, theirs = pty.openpty()
-    running = program.start_command(["sh", "-c", "\n".join(lines)], cwd=room, stdout=theirs, stderr=theirs)
+    environment = {**os.environ, "HOME": room + "/home"}
+    running = program.start_command(["sh", "-c", "\n".join(lines)], cwd=room, env=environment, stdout=theirs, stderr=theirs)
     os.close(theirs)
     try:
         out = b"".join(iter(lambda: read_on(ours), b"")).replace(b"\r\n", b"\n")
@@ -56,12 +74,11 @@ def read_on(terminal):
         return b""
 
 
+@unittest.skipUnless(shutil.which("make"), "there is no make")
 class Readme(unittest.TestCase):
-    def check(self, first, session):
-        session = first + session
-        with tempfile.TemporaryDirectory(prefix="sf readme ") as room:
-            os.symlink(program.path, os.path.join(room, "sf"))
-            shutil.copytree(f"{ROOT}/tests/cookbook/data", os.path.join(room, "tests/cookbook/data"))
+    def check(self, session):
+        with tempfile.TemporaryDirectory(prefix="sf-readme-") as room:
+            clone(room)
             parts = shown([command for command, _ in session], room)
         self.assertEqual(len(parts), len(session))
         for turn, ((command, below), (out, status)) in enumerate(zip(session, parts)):
@@ -70,8 +87,8 @@ class Readme(unittest.TestCase):
                 told = turn + 1 < len(session) and session[turn + 1][0] == "echo $?"
                 self.assertTrue(status == "0" or told, f"its status is {status}, which the page doesn't say")
 
-    def test_each_example_says_what_stands_below_it(self):
+    def test_each_command_says_what_stands_below_it(self):
         first, found = sessions()
         self.assertGreaterEqual(len(found), 5)
-        for session in found:
-            self.check(first, session)
+        for session in ([], *found):
+            self.check(first + session)
