@@ -1,77 +1,230 @@
-import glob, os, re, sys
+#!/usr/bin/env python3
+"""Checks docs/FSCANF.md against the crates, or quotes their definitions in it anew.
+
+usage: tools/fscanf_page.py [--write]
+
+A block `antt` or `rust` of the page has a file's path in its first line, after `--` or `//`, and then parts of that file:
+
+- each part stands there word for word, whatever its lines; of sources without docstrings. Parts are apart by an empty line.
+- what ROOTS rest on is all on the page; so is each word that a quoted definition has of another module, or it is in one
+  of the page's tables of words
+- each word of these tables is cited by a definition of the page, and each module in them has it.
+
+With --write each part `antt` is quoted anew, by the names in it: a part may be such a name alone. Without it, what is wrong
+is printed, and the status is 1 if anything is.
+"""
+import argparse
+import os
+import re
+import sys
+
 ROOT = os.path.dirname(os.path.dirname(os.path.abspath(__file__)))
-HEAD = re.compile(r"(?:abbrev |unfoldable )?pub (?:abbrev |record |data )?(\w+)|(?:abbrev|unfoldable) pub (\w+)|pub (?:record|data) (\w+)")
+PAGE = "docs/FSCANF.md"
+COLUMNS = 116
+# What the theorem of the scan says, as its calls do.
+ROOTS = [("crates/sf_report/specs/Limits.antt", "RunTold"), ("crates/sf_report/specs/Runs.antt", "c_return"), ("crates/sf_report/specs/Laws.antt", "EachHasOneReport")]
+BLOCK = re.compile(r"^```(antt|rust)\n(?:--|//) (\S+)\n(.*?)^```$", re.MULTILINE | re.DOTALL)
+DEFINITION = re.compile(r"^(?:abbrev pub|unfoldable pub|pub record|pub data) (\w+)", re.MULTILINE)
+USE = re.compile(r"^(?:pub )?use (\S+?)(?:\.\{(.*)\}| as (\w+))$", re.MULTILINE)
+WORD = re.compile(r"(?<![\w.])([A-Za-z_]\w*ℤ?)(?:\.([A-Za-z_]\w*))?")
+
 
 def text_of(path):
     with open(os.path.join(ROOT, path), encoding="utf-8") as file:
         return file.read()
 
-class Module:
-    def __init__(self, path):
-        self.path = path
-        self.imports, self.aliases, self.chunks, self.members = {}, {}, {}, {}
-        for part in re.split(r"\n\s*\n", text_of(path)):
-            for line in part.split("\n"):
-                m = re.match(r"(?:pub )?use (\S+?)(?:\.\{(.*)\}| as (\w+))$", line)
-                if not m: continue
-                if m[3]: self.aliases[m[3]] = m[1]
-                for it in (m[2] or "").split(", "):
-                    name, _, other = it.partition(" as ")
-                    if name: self.imports[other or name] = (m[1], name)
-            name = next((found[1] or found[2] or found[3] for found in (re.match(r"(?:abbrev|unfoldable) pub (\w+)|pub record (\w+)|pub data (\w+)", line) for line in part.split("\n")) if found), None)
-            if name:
-                self.chunks[name] = part.strip("\n")
-                if re.search(r"^pub data", part, re.M):
-                    for c in re.findall(r"^  (\w+) :", part, re.M): self.members[c] = name
 
-def words(chunk):
-    code = re.sub(r"--.*", "", chunk)
-    code = re.sub(r'"[^"]*"', "", code)
-    return re.findall(r"(?<![\w.])([A-Za-z_]\w*(?:\.[A-Za-z_]\w*)?)", code)
+def parts_of(text):
+    """What is apart by empty lines."""
+    return [it.strip("\n") for it in re.split(r"\n[ \t]*\n", text) if it.strip()]
+
+
+class Module:
+    """The definitions of a file of specs/, by their names, and what it has from other modules."""
+
+    def __init__(self, path):
+        text = text_of(path)
+        self.path, self.parts, self.members, self.imported, self.modules = path, {}, {}, {}, {}
+        for module, names, alias in USE.findall(text):
+            if alias:
+                self.modules[alias] = module
+            for name, other in re.findall(r"([^\s,]+)(?: as (\w+))?", names):
+                self.imported[other or name] = module, name
+        for part in parts_of(text):
+            for name in DEFINITION.findall(part):
+                self.parts[name] = part
+                if f"pub data {name}" in part:
+                    self.members.update(dict.fromkeys(re.findall(r"^  (\w+) :", part, re.MULTILINE), name))
+
+    def has(self, name):
+        """The definition to which the name belongs, if it is one of this module."""
+        return name if name in self.parts else self.members.get(name)
+
 
 MODULES = {}
-def module(path):
-    if path not in MODULES: MODULES[path] = Module(path)
+
+
+def module_at(path):
+    if path not in MODULES:
+        MODULES[path] = Module(path) if os.path.isfile(os.path.join(ROOT, path)) else None
     return MODULES[path]
 
-def file_of(mod):
-    parts = mod.split(".")
-    return "/".join(["crates", *parts[1:]]) + ".antt"
 
-def resolve(mod, name):
-    path = file_of(mod)
-    if not os.path.exists(os.path.join(ROOT, path)): return None
-    m = module(path)
-    if name in m.chunks: return path, name
-    if name in m.members: return path, m.members[name]
-    if name in m.imports:
-        return resolve(*m.imports[name])
-    return None
+def path_of(module):
+    """The file of a module such as Rattle.sf_report.specs.Runs."""
+    return "crates/" + "/".join(module.split(".")[1:]) + ".antt"
 
-def closure(roots):
-    found, todo, std, declared = [], list(roots), set(), set()
-    while todo:
-        path, name = todo.pop()
-        if (path, name) in found: continue
-        found.append((path, name))
-        m = module(path)
-        for w in words(m.chunks[name]):
-            w, _, field = w.partition(".")
-            if w in m.chunks: todo.append((path, w)); continue
-            if w in m.members: todo.append((path, m.members[w])); continue
-            mod, orig = m.imports.get(w, (m.aliases.get(w), field or w))
-            if not mod: continue
-            if mod.startswith(("Rattle.std", "Prim")): std.add((orig, mod)); continue
-            if ".declared." in mod: declared.add((mod.split(".declared.")[1], mod)); continue
-            r = resolve(mod, orig)
-            if r: todo.append(r)
-            else: print("unresolved", path, name, w, mod)
-    return found, std, declared
+
+def found_in(module, name):
+    """The file that has a name which is had from a module, and the definition; the name of the module where that is none of specs/."""
+    if module.startswith("Rattle.sf_") and ".declared." not in module:
+        at = module_at(path_of(module))
+        if at and at.has(name):
+            return at.path, at.has(name)
+        if at and name in at.imported:
+            return found_in(*at.imported[name])
+    return module, name
+
+
+def cited(path, name):
+    """What a definition has from elsewhere, and of its own module: files with definitions, and other modules with names."""
+    at = module_at(path)
+    for word, field in WORD.findall(re.sub(r'--.*|"[^"]*"', "", at.parts[name])):
+        if at.has(word):
+            yield path, at.has(word)
+        elif word in at.imported:
+            yield found_in(*at.imported[word])
+        elif word in at.modules and field:
+            yield found_in(at.modules[word], field)
+
+
+def resting(roots):
+    """The roots and all definitions of specs/ that they rest on."""
+    found, left = set(), list(roots)
+    while left:
+        it = left.pop()
+        if it not in found and it[0].endswith(".antt"):
+            found.add(it)
+            left += cited(*it)
+    return found
+
+
+# ---- the page
+
+
+def plain(kind, text):
+    """A text as it is compared: word for word, without the marks of comments, or without docstrings."""
+    text = re.sub(r"^\s*///?.*$", "", text, flags=re.MULTILINE) if kind == "rust" else re.sub(r"(^|\s)-- ", " ", text)
+    return " ".join(text.split())
+
+
+def blocks(page):
+    """The blocks of the page: the kind, the path and the parts of each."""
+    return [(kind, path, parts_of(body)) for kind, path, body in BLOCK.findall(page)]
+
+
+def tables(page):
+    """The words of the page's tables of words, each with what its second column names: a module, or several."""
+    for row in re.findall(r"^\| (`\w+ℤ?`(?:, `\w+ℤ?`)*) \| `([\w.]+)` \|", page, re.MULTILINE):
+        for word in re.findall(r"`(\w+ℤ?)`", row[0]):
+            yield word, row[1]
+
+
+def not_quoted(page):
+    """What stands on the page and not so in its file."""
+    for kind, path, parts in blocks(page):
+        if not os.path.isfile(os.path.join(ROOT, path)):
+            yield f"{path} is gone"
+            continue
+        text = plain(kind, text_of(path))
+        for part in parts:
+            if plain(kind, part) not in text:
+                yield f"{path} hasn't this, word for word: {plain(kind, part)[:100]}"
+
+
+def quoted(page):
+    """The definitions on the page, each with its file."""
+    return {(path, name) for kind, path, parts in blocks(page) if kind == "antt" for part in parts for name in DEFINITION.findall(part)}
+
+
+def types(page):
+    """The names of the types that the page shows of sources."""
+    return {it for kind, _, parts in blocks(page) if kind == "rust" for part in parts for it in re.findall(r"pub (?:enum|struct) (\w+)", part)}
+
+
+def type_of(module):
+    """The type that a module of declared types is about, as Shape of declared.directive.Shape.TheVariants."""
+    return module.removesuffix(".TheVariants").rsplit(".", 1)[1]
+
+
+def missing(page):
+    """What the definitions on the page rest on and the page lacks, and what it has and is gone."""
+    here, listed, shown, used = quoted(page), dict(tables(page)), types(page), set()
+    for path, name in sorted(resting(ROOTS) - here):
+        yield f"{name} of {path} is not on the page"
+    for path, name in sorted(here):
+        if not module_at(path) or not module_at(path).has(name):
+            continue
+        for where, word in cited(path, name):
+            used.add(word)
+            if ".declared." in where and type_of(where) not in shown and type_of(where) not in listed:
+                yield f"{name}: the type {type_of(where)} is not on the page"
+            elif where.endswith(".antt") and (where, word) not in here and word not in listed:
+                yield f"{name}: {word} of {where} is neither on the page nor in a table"
+            elif where.startswith(("Rattle.std.", "Prim.")) and word not in listed:
+                yield f"{name}: {word} of {where} is in no table"
+    for word, where in sorted(listed.items()):
+        if word not in used and word not in {type_of(it) for it, _ in (c for d in here if module_at(d[0]).has(d[1]) for c in cited(*d)) if ".declared." in it}:
+            yield f"{word} is in a table, and no definition on the page has it"
+        if where.startswith("sf_") and found_in(f"Rattle.{where}", word)[0] == f"Rattle.{where}" and ".declared." not in where:
+            yield f"{where} has no {word}"
+
+
+def faults(page):
+    """All that is wrong with the page."""
+    yield from not_quoted(page)
+    yield from dict.fromkeys(missing(page))
+
+
+# ---- quoting anew
+
+
+def folded(line):
+    """The lines of a line that may be too long."""
+    indent = re.match(r"\s*", line).group()
+    more = indent + ("-- " if line.strip().startswith("--") else "    ")
+    while len(line) > COLUMNS:
+        at = line.rfind(" ", len(more) + 1, COLUMNS)
+        yield line[:at]
+        line = more + line[at + 1 :]
+    yield line
+
+
+def quoted_anew(block):
+    kind, path, body = block.groups()
+    if kind == "rust":
+        return block.group()
+    at, parts = module_at(path), []
+    for part in parts_of(body):
+        for name in DEFINITION.findall(part) or part.split():
+            if at.parts[name] not in parts:
+                parts.append(at.parts[name])
+    lines = "\n\n".join(parts).split("\n")
+    return f"```{kind}\n-- {path}\n" + "\n".join(it for line in lines for it in folded(line)) + "\n```"
+
+
+def main():
+    words = argparse.ArgumentParser(description=__doc__, formatter_class=argparse.RawDescriptionHelpFormatter)
+    words.add_argument("--write", action="store_true", help="quote the definitions anew")
+    page = text_of(PAGE)
+    if words.parse_args().write:
+        page = BLOCK.sub(quoted_anew, page)
+        with open(os.path.join(ROOT, PAGE), "w", encoding="utf-8") as file:
+            file.write(page)
+    wrong = list(faults(page))
+    print(*wrong, f"{PAGE}: {len(quoted(page))} definitions, {len(wrong)} faults", sep="\n")
+    return 1 if wrong else 0
+
 
 if __name__ == "__main__":
-    R="crates/sf_report/specs/"
-    f, s, d = closure([(R+"Limits.antt","RunTold"),(R+"Runs.antt","c_return"), ("crates/sf_report/specs/Laws.antt","EachHasOneReport")])
-    by={}
-    for p,n in f: by.setdefault(p,[]).append(n)
-    for p in by: print(p, len(by[p]), sum(module(p).chunks[n].count("\n")+1 for n in by[p]), " ".join(by[p]))
-    print(len(f)); print(sorted(a for a,_ in s)); print(sorted(d))
+    sys.exit(main())

@@ -151,7 +151,8 @@ def due(text, input_):
 # Each cause: its title, where C11 says what decides it, and that in our words.
 CAUSES = {
     "prefix": ("`0x` without a digit", "7.21.6.2p9, p10", "The input item is the longest sequence within the width that matches or begins a match. "
-               "`0x` begins `0x1`, so both bytes are the item. It is no integer, so the directive fails, and its bytes are read."),
+               "`0x` begins `0x1`, so both bytes are the item. It is no integer, so the directive fails, and its bytes are read. Whether the width bounds "
+               "what a prefix may begin, as in `%2x` of `0x1`, C11 leaves open; here it doesn't."),
     "numeral": ("A float that is cut short", "7.21.6.2p9, p10", "`1e+`, `100e`, `0x` and `0x1p` begin floats and are none: a matching failure, after which these "
                 "bytes are read. `100ergs of energy` is among the examples of 7.21.6.2, where nothing is assigned."),
     "chars": ("Fewer bytes than `%3c` asks for", "7.21.6.2p12", "`c` matches as many bytes as its width says. Of fewer before the end of the input it is a matching "

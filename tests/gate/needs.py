@@ -22,6 +22,7 @@ ALLOWED = re.compile(
     r"the prebuilt program was built with (?P<theirs>.+), and the kit here is (?!none\b|(?P=theirs)$).+|"
     r"the prebuilt program was linked with (?P<linker>.+), and the linker here is (?!(?P=linker)$).+|"
     r"no disk may be mounted here|no root may be changed here|"
+    r"the page is of (?P<page>.+), and here is (?!(?P=page)$).+|"
     # (edits that show nothing yet: each is to be written anew, with its names kept)
     r"their proofs cite what they rename"
 )
