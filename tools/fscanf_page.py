@@ -5,7 +5,8 @@ usage: tools/fscanf_page.py [--write]
 
 A block `antt` or `rust` of the page has a file's path in its first line, after `--` or `//`, and then parts of that file:
 
-- each part stands there word for word, whatever its lines; of sources without docstrings. Parts are apart by an empty line.
+- each part stands there word for word and whole, whatever its lines; of sources without docstrings. Parts are apart by an
+  empty line.
 - what ROOTS rest on is all on the page; so is each word that a quoted definition has of another module, or it is in one
   of the page's tables of words
 - each word of these tables is cited by a definition of the page, and each module in them has it.
@@ -130,16 +131,25 @@ def tables(page):
             yield word, row[1]
 
 
+def stands(kind, path, part):
+    """Whether a part is one of the file: a definition from its comment to its end, a type, or a call with its last clause."""
+    if kind == "antt":
+        names = DEFINITION.findall(part)
+        return bool(names) and all(module_at(path).has(it) and plain(kind, part) == plain(kind, module_at(path).parts[it]) for it in names)
+    before, found, after = plain(kind, text_of(path)).partition(plain(kind, part))
+    is_whole_call = re.search(r"\bfn\b", part) and "ensures" in part
+    return bool(found) and (not is_whole_call or after.startswith(" {"))
+
+
 def not_quoted(page):
     """What stands on the page and not so in its file."""
     for kind, path, parts in blocks(page):
         if not os.path.isfile(os.path.join(ROOT, path)):
             yield f"{path} is gone"
             continue
-        text = plain(kind, text_of(path))
         for part in parts:
-            if plain(kind, part) not in text:
-                yield f"{path} hasn't this, word for word: {plain(kind, part)[:100]}"
+            if not stands(kind, path, part):
+                yield f"{path} hasn't this, word for word and whole: {plain(kind, part)[:100]}"
 
 
 def quoted(page):
