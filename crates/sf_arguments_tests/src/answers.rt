@@ -32,7 +32,7 @@ static READ_BACK: [(&[u8], Option<u16>, &str); 21] = [
 ];
 
 /// A print format without one, the width of texts, and the fault.
-static REFUSED: [(&[u8], Option<u16>, PairWhy, u16); 9] = [
+static REFUSED: [(&[u8], Option<u16>, PairWhy, u16); 11] = [
     (b"%d", None, PairWhy::OpenEnd, 1),
     (b"%s\n", None, PairWhy::NoWidth, 1),
     (b"%d,%s,", None, PairWhy::NoWidth, 3),
@@ -40,6 +40,8 @@ static REFUSED: [(&[u8], Option<u16>, PairWhy, u16); 9] = [
     (b"%s%d;", Some(5), PairWhy::RunsOn, 1),
     (b"%d5", None, PairWhy::RunsOn, 1),
     (b"%-5d,", None, PairWhy::BadFlagHere, 1),
+    (b"%-d\n", None, PairWhy::BadFlagHere, 1),
+    (b"%.0d\n", None, PairWhy::BadFlagHere, 1),
     (b"%5s,", Some(5), PairWhy::BadFlagHere, 1),
     (b"abc", None, PairWhy::NoValues, 0),
 ];

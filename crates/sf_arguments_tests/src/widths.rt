@@ -6,7 +6,7 @@ use std::alloc::Global;
 use std::test::Fail;
 
 /// A conversion, and how long its longest text is without the blanks before it.
-static WIDTHS: [(&[u8], u32); 13] = [
+static WIDTHS: [(&[u8], u32); 16] = [
     (b"%hhd", 4),
     (b"%hd", 6),
     (b"%d", 11),
@@ -20,6 +20,9 @@ static WIDTHS: [(&[u8], u32); 13] = [
     (b"%15d", 11),
     (b"%015d", 15),
     (b"%.12u", 12),
+    (b"%-d", 11),
+    (b"%-15d", 15),
+    (b"%.0d", 11),
 ];
 
 /// A conversion of a double, and how long its longest text is, as the C library writes it.

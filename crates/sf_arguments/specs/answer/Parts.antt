@@ -1,5 +1,5 @@
 -- The parts of a scan format that reads back what a print format prints.
-use Rattle.std.specs.Prelude.{ℕ, ◌+◌, ◌≡◌, ◌≢◌, ◌<◌, ◌==◌, ◌&&◌, Bool, true, false, not, if◌then◌else◌, List, [], ◌∷◌, ◌++◌, Option, Some}
+use Rattle.std.specs.Prelude.{ℕ, ◌+◌, ◌≡◌, ◌≢◌, ◌==◌, ◌&&◌, Bool, true, false, not, if◌then◌else◌, List, [], ◌∷◌, ◌++◌, Option, Some}
 use Rattle.std.specs.Prelude.{None, codes}
 use Rattle.std.specs.Fmt.{decimal}
 use Rattle.sf_base.specs.Bytes.{is_white}
@@ -11,9 +11,8 @@ use Rattle.sf_format.specs.declared.unit.PrintLetter.TheVariants as letter
 use Rattle.sf_format.specs.declared.unit.PrintConv.{PrintConv}
 use Rattle.sf_format.specs.declared.unit.Unit.{Unit as PrintUnit}
 use Rattle.sf_format.specs.declared.unit.Unit.TheVariants as unit
-use Rattle.sf_print.specs.texts.Text.{least_digits}
 use Rattle.sf_format.specs.Units.{is_double}
-use Rattle.sf_pair.specs.conversions.Widths.{IsLongest, longest_float}
+use Rattle.sf_pair.specs.conversions.Widths.{IsLongerEnd, longest_float}
 
 -- ---- a literal
 
@@ -76,9 +75,9 @@ in_order n [] = true
 in_order n (unit.Byte b ∷ us) = in_order n us
 in_order n (unit.Conv c ∷ us) = (c.slot == n) && in_order (n + 1) us
 
--- the width of an integer is the length of its longest text. Blanks of a `-`, and a 0 without digits, aren't read back: there it is any
+-- the width of an integer is the length of the longer of the texts of the least and the greatest number, whatever flags there are
 abbrev pub IsIntegerWidth : PrintConv → ℕ → Type 0
-IsIntegerWidth c n = bounds_of c.kind ≢ None → c.minus ≡ false → 0 < least_digits c → IsLongest c n
+IsIntegerWidth c n = bounds_of c.kind ≢ None → IsLongerEnd c n
 
 -- that of a double is the length of the longest text of a finite one
 abbrev pub IsDoubleWidth : PrintConv → ℕ → Type 0
