@@ -1,5 +1,6 @@
 pub mod Counting
 pub mod Ended
+pub mod Endings
 pub mod Given
 pub mod InTurn
 pub mod LineRows

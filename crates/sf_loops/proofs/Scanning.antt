@@ -1,6 +1,6 @@
 -- The run over a line that was read.
-use Rattle.std.proofs.Common.{◌≡◌, ◌≤◌, ℕ, List, [], length, Option, Some, None, Result, Ok, Err, Bool, true, refl, sym, ap, subst, ◌∙◌}
-use Rattle.std.specs.Prelude.{IsSome, if◌then◌else◌}
+use Rattle.std.proofs.Common.{◌≡◌, ◌≤◌, ◌<◌, ℕ, List, [], length, Option, Some, None, Result, Ok, Err, Bool, true, refl, sym, ap, subst, ◌∙◌}
+use Rattle.std.specs.Prelude.{IsSome, if◌then◌else◌, unwrap_or}
 use Rattle.sf_base.specs.Data.{Assigned}
 use Rattle.sf_format.specs.Widths.{width_sum}
 use Rattle.sf_run.specs.outcome.Ending.TheVariants.{End}
@@ -10,6 +10,8 @@ use Rattle.sf_run.specs.Runs.{RunReport}
 use Rattle.sf_run.specs.Views.{report_by}
 use Rattle.sf_run.specs.outcome.Status.{Status}
 use Rattle.sf_run.specs.outcome.Status.TheVariants as status
+use Rattle.sf_read.specs.AtOnce.{IsSeenAtOnce}
+use Rattle.sf_read.proofs.AtOnce.{seen_roomier}
 use Rattle.sf_read.specs.source.Counts.{counted_on}
 use Rattle.sf_format.specs.declared.directive.Directive.{Directive}
 use Rattle.sf_read.specs.source.Ahead.{Ahead}
@@ -166,3 +168,13 @@ next_by {S} to_come count failures N was old new ahead text read result same is 
       kept = kept;
       roomy = roomy;
     })
+
+-- what is answered of the line of a loop that is known by another name, with the room that its invariant gives
+pub line_answers : {S : Type 0} (was old : LineLoop S) (capacity : ℕ) (P : Type 0) → was ≡ old
+    → unwrap_or (width_sum was.format) 0 ≤ capacity
+    → (length was.line < was.room → IsSeenAtOnce was.format was.limit was.line capacity → P)
+    → length old.line < old.room → IsSeenAtOnce old.format old.limit old.line (unwrap_or (width_sum old.format) 0) → P
+line_answers {S} was old capacity P same le answers =
+    subst (λ (l : LineLoop S). length l.line < l.room
+    → IsSeenAtOnce l.format l.limit l.line (unwrap_or (width_sum l.format) 0) → P)
+    same (λ short seen. answers short (seen_roomier was.format was.limit was.line (unwrap_or (width_sum was.format) 0) capacity le seen))

@@ -1,15 +1,17 @@
 -- The run of a record that is held whole.
 use Rattle.std.proofs.Common.{◌≡◌, ℕ, ◌<◌, ◌≤◌, inl, Bool, true, false, cond, List, [], ◌++◌, length, take, drop, Option, None, refl, sym}
-use Rattle.std.proofs.Common.{ap, ◌∙◌, arith}
+use Rattle.std.proofs.Common.{ap, subst, ◌∙◌, arith}
 use Rattle.std.proofs.lemmas.Bool.Decides.{nat_tests}
 use Rattle.std.proofs.lemmas.List.{take-append-drop, take-append-le, length-take-le}
-use Rattle.std.specs.Prelude.{nat_eq}
+use Rattle.std.specs.Prelude.{nat_eq, unwrap_or}
 use Rattle.std.specs.Io.KnownBytes.{IsAtEnd}
 use Rattle.sf_format.specs.declared.directive.Directive.{Directive}
+use Rattle.sf_format.specs.Widths.{width_sum}
 use Rattle.sf_run.specs.outcome.Ending.{Ending}
 use Rattle.sf_run.specs.outcome.Ending.TheVariants.{End}
 use Rattle.sf_run.specs.outcome.Status.TheVariants.{Done}
 use Rattle.sf_run.specs.Limits.{RunWithin}
+use Rattle.sf_run.specs.Quick.{IsDoneWithin}
 use Rattle.sf_run.specs.Runs.{RunReport}
 use Rattle.sf_run.specs.Stopping.{is_memory_status}
 use Rattle.sf_read.specs.source.Ahead.{Ahead}
@@ -20,6 +22,7 @@ use Rattle.sf_read.proofs.Holding.{held_scan}
 use Rattle.sf_read.proofs.Reading.{known_parts}
 use Rattle.sf_run.specs.outcome.Outcome.{Outcome}
 use Rattle.sf_loops.specs.declared.turn.Turn.TheVariants.{Goes}
+use Rattle.sf_loops.specs.Loops.{Loop}
 use Rattle.sf_loops.specs.Runs.{IsNextRun}
 use Rattle.sf_loops.specs.Turns.{turn_for}
 
@@ -56,3 +59,22 @@ held_run to_come reads failures N ds m old new lines lines' report run done met 
       let (z, coming, whole) = known_parts old.held (to_come old.source) t e in
       counted ∙ ap (lines_after lines) (sym (ap (take report.used) whole ∙ take-append-le report.used old.held z fits));
 }
+
+-- what is answered of a loop that is known by another name, with the room that its invariant gives
+pub held_answers : {S : Type 0} (was old : Loop S) (capacity : ℕ) (P : Type 0) → was ≡ old
+    → unwrap_or (width_sum was.format) 0 ≤ capacity
+    → ((done : IsDoneWithin was.format was.limit was.ahead.held capacity) → 0 < done.report.used → P)
+    → (done : IsDoneWithin old.format old.limit old.ahead.held (unwrap_or (width_sum old.format) 0)) → 0 < done.report.used → P
+held_answers {S} was old capacity P same le answers =
+    subst (λ (l : Loop S). (done : IsDoneWithin l.format l.limit l.ahead.held (unwrap_or (width_sum l.format) 0))
+    → 0 < done.report.used → P)
+    same (λ done some. answers (record {
+      ending = done.ending;
+      report = done.report;
+      is = done.is;
+      done = done.done;
+      early = done.early;
+      low = done.low;
+      fits = let fits = done.fits in omega (arith, fits, le);
+      whole = done.whole;
+    }) some)

@@ -1,6 +1,6 @@
 -- What a loop over records does after the run of each: where fscanf would return EOF at the end of the input (C11 7.21.6.2p16), there is
 -- no further record.
-use Rattle.std.specs.Prelude.{◌&&◌, Bool, nat_eq, if◌then◌else◌, List, Option, Some, None}
+use Rattle.std.specs.Prelude.{◌≡◌, ◌⊎◌, ◌&&◌, Bool, true, nat_eq, if◌then◌else◌, List, Option, Some, None}
 use Rattle.sf_format.specs.declared.directive.Directive.{Directive}
 use Rattle.sf_format.specs.Proper.{has_optional}
 use Rattle.sf_run.specs.outcome.Ending.{Ending}
@@ -41,3 +41,10 @@ outcome_of r = record {
 
 abbrev pub turn_of : List Directive → RunReport → Turn
 turn_of ds r = turn_by (has_optional ds) (outcome_of r)
+
+-- The input has no further record: it ended before an item was converted, where fscanf would return EOF (C11 7.21.6.2p16); or, by a format
+-- whose items may be missing, each was missing there.
+pub record IsEnd (ds : List Directive) (o : Outcome) : Type 0 where
+  pub met : o.met ≡ Some End
+  pub none : o.converted ≡ 0
+  pub status : (o.status ≡ InputFailure) ⊎ (o.status ≡ Done) × (has_optional ds ≡ true)

@@ -1,10 +1,11 @@
 //! The lines of an input, one after the other, as reports.
 ghost use Rattle.std.specs.Prelude.{◌≡◌, ◌≤◌, ◌<◌, ◌⊎◌, ◌↔◌, [], true, false, length, Option, None, Some, Ok, IfErr};
-ghost use Rattle.std.specs.Prelude.{IfOk, IfSome, IsErrOf, IsSome};
+ghost use Rattle.std.specs.Prelude.{IfOk, IfSome, IsErrOf, IsSome, unwrap_or};
 ghost use Rattle.sf_format.specs.Proper.{AreKinded, IsAccepted};
 ghost use Rattle.sf_format.specs.Widths.{width_sum};
 ghost use Rattle.sf_run.specs.Limits.{RunTold, RunWithin};
 ghost use Rattle.sf_run.specs.outcome.Ending.TheVariants.{End};
+ghost use Rattle.sf_read.specs.AtOnce.{IsSeenAtOnce};
 ghost use Rattle.sf_read.specs.source.Counts.{counted_on};
 ghost use Rattle.sf_loops.specs.declared.line_fault.LineStop.{LineStop};
 ghost use Rattle.sf_loops.specs.Lines.{IsLineFault, IsNextLine, IsScanned, Judged, LineEndedWith};
@@ -112,10 +113,14 @@ impl<'f, S: Source, const N: usize> LineReports<'f, S, N> {
         })
     }
 
-    /// Runs the format over the line that was read, where that is seen at once to be Done.
+    /// Runs the format over the line that was read, where that is seen at once to be Done. It answers wherever the line
+    /// has room for a newline, and the texts are no longer than the format's width sum.
     fn scan_at_once(&mut self) -> Option<Outcome>
         ensures run { IfSome result (λ _. RunWithin self.old.format self.old.limit self.old.line End self.new.report) }
         ensures outcome { IfSome result (λ outcome. outcome ≡ outcome_of self.new.report) }
+        ensures answers { length self.old.line < self.old.room
+            → IsSeenAtOnce self.old.format self.old.limit self.old.line (unwrap_or (width_sum self.old.format) 0)
+            → IsSome result }
         ensures rest { self.new ≡ record self.old { report = self.new.report; room = self.new.room } }
         ensures room { self.old.room ≤ self.new.room }
     {

@@ -1,10 +1,13 @@
 //! The records of an input, one after the other, as reports.
 ghost use Rattle.std.specs.Prelude.{◌≡◌, ◌≤◌, ◌<◌, ◌⊎◌, ◌↔◌, [], true, false, Option, None, Some, Ok, IfErr, IfOk};
-ghost use Rattle.std.specs.Prelude.{IsErrOf};
+ghost use Rattle.std.specs.Prelude.{IsErrOf, unwrap_or};
 ghost use Rattle.sf_format.specs.Proper.{AreKinded, IsAccepted};
+ghost use Rattle.sf_format.specs.Widths.{width_sum};
+ghost use Rattle.sf_run.specs.Quick.{IsDoneWithin};
 ghost use Rattle.sf_read.specs.source.Counts.{counted_on};
 ghost use Rattle.sf_loops.specs.Loops.{IsNext, ended_with, fault_of};
 ghost use Rattle.sf_loops.specs.Runs.{IsNextRun};
+ghost use Rattle.sf_loops.specs.Turns.{IsEnd, outcome_of};
 
 use crate::fault::{RecordFault, RecordWhy};
 use crate::held::{take_held, take_next};
@@ -17,7 +20,8 @@ use std::alloc::Global;
 use std::marker::Model;
 
 /// A loop over the records of an input, by a format: each run is of what the one before it left. It ends where fscanf
-/// would return EOF at the end of the input (C11 7.21.6.2p16), or at the first record that is no match.
+/// would return EOF at the end of the input (C11 7.21.6.2p16), or where by a format with a `?` each item is missing
+/// there; or at the first record that is no match.
 ///
 /// `N` is how many bytes are read at once, at least 1. A source that has reported its end is not read again. The store
 /// of a record is used again for the next one.
@@ -104,11 +108,16 @@ impl<'f, S: Source, const N: usize> Reports<'f, S, N> {
         })
     }
 
-    /// Goes on to the next record where that is held whole and is Done, as most are. Else the report alone has changed.
+    /// Goes on to the next record wherever that is held whole and is Done, as most are, and its texts are no longer than
+    /// the format's width sum. Else the report alone has changed.
     #[inline(always)]
     fn advance_at_once(&mut self) -> bool
         ensures next { result ≡ true → IsNext S.to_come S.reads S.failures N self.old self.new (Ok true) }
         ensures open { result ≡ true → self.old.over ≡ None }
+        ensures answers { self.old.over ≡ None
+            → (done : IsDoneWithin self.old.format self.old.limit self.old.ahead.held
+            (unwrap_or (width_sum self.old.format) 0))
+            → 0 < done.report.used → result ≡ true }
         ensures format { result ≡ true → self.new.format ≡ self.old.format }
         ensures limit { result ≡ true → self.new.limit ≡ self.old.limit }
         ensures no_read { self.new.ahead.source ≡ self.old.ahead.source }
@@ -224,6 +233,7 @@ impl<'f, S: Source, const N: usize> Reports<'f, S, N> {
         ensures over { (end : Option RecordFault) → self.old.over ≡ Some end
             → (self.new ≡ self.old) × (result ≡ ended_with false end) }
         ensures next { self.old.over ≡ None → IsNext S.to_come S.reads S.failures N self.old self.new result }
+        ensures ends { self.old.over ≡ None → (result ≡ Ok false ↔ IsEnd self.old.format (outcome_of self.new.report)) }
         ensures no_read { self.old.ahead.at_end ≡ true → self.new.ahead.source ≡ self.old.ahead.source }
         ensures stays { self.old.ahead.at_end ≡ true → self.new.ahead.at_end ≡ true }
         ensures format { self.new.format ≡ self.old.format }

@@ -1,8 +1,13 @@
-use Rattle.std.proofs.Common.{◌≡◌, ◌++◌, ◌∙◌, length, take, subst, ap, arith}
+use Rattle.std.proofs.Common.{◌≡◌, ℕ, List, ◌++◌, ◌∙◌, length, take, subst, sym, ap, arith}
+use Rattle.sf_format.specs.Proper.{AreProper}
+use Rattle.sf_run.specs.outcome.Ending.{Ending}
 use Rattle.sf_run.specs.Limits.{RunWithin}
+use Rattle.sf_run.specs.Memory.{capacity_of}
+use Rattle.sf_run.specs.Quick.{IsDoneWithin}
 use Rattle.sf_run.specs.Runs.{RunReport}
 use Rattle.sf_run.specs.Views.{report_by}
 use Rattle.sf_read.specs.source.Counts.{lines_after}
+use Rattle.sf_read.proofs.AtOnce.{used_within}
 use Rattle.sf_loops.proofs.Taking.{goes_at_once, held_run}
 use Rattle.sf_loops.proofs.held.take_held.Goals as goal
 
@@ -18,6 +23,22 @@ returns-clause-run g c =
     c.consume.ensures.held
     c.consume.ensures.source c.consume.ensures.at_end c.consume.ensures.told
     (c.count_front.ensures ∙ ap (λ y. lines_after c.args.lines.now (take report.used y)) c.held-2.ensures.held)
+
+pub returns-in_err-outcome-clause-answers : goal.returns-in_err-outcome-clause-answers
+returns-in_err-outcome-clause-answers g c = λ done some.
+    let seen = c.quick_run.ensures.answers (subst (λ y. IsDoneWithin c.args.format.now c.args.limit y (capacity_of c.args.store.now))
+    (sym c.held.ensures.held) done) in
+    grind (arith, seen)
+
+pub returns-then-outcome-eq0-clause-answers : goal.returns-then-outcome-eq0-clause-answers
+returns-then-outcome-eq0-clause-answers g c = λ done some.
+    let report : RunReport = report_by c.in_ok-outcome.outcome c.quick_run.new.store.values in
+    let used = used_within c.args.format.now
+    (subst AreProper c.directives-directives.ensures.value c.directives-directives.ensures.proper) c.args.limit c.args.from.now.held
+    (capacity_of c.args.store.now) report
+    (subst (λ y. (z : List ℕ) (ending : Ending) → RunWithin c.args.format.now c.args.limit (y ++ z) ending report) c.held.ensures.held
+    c.in_ok-outcome.ensures.run) done in
+    absurd (omega (arith, some, used, c.if-outcome-eq0.true))
 
 pub returns-clause-goes : goal.returns-clause-goes
 returns-clause-goes g c = λ optional.

@@ -1,5 +1,6 @@
 use Rattle.std.proofs.Common.{◌∙◌, ap}
 use Rattle.sf_loops.specs.Loops.{Loop}
+use Rattle.sf_loops.proofs.Endings.{next_ends}
 use Rattle.sf_loops.proofs.Rows.{next_from}
 use Rattle.sf_loops.proofs.reports.Reports.advance.Goals as goal
 
@@ -9,6 +10,10 @@ returns-then-advance_at_once-clause-over g c = λ end h.
 
 pub returns-then-advance_at_once-clause-next : goal.returns-then-advance_at_once-clause-next
 returns-then-advance_at_once-clause-next g c = λ open'. c.advance_at_once.ensures.next c.if-advance_at_once.true
+
+pub returns-then-advance_at_once-clause-ends : goal.returns-then-advance_at_once-clause-ends
+returns-then-advance_at_once-clause-ends g c = λ open'.
+    next_ends g.S.Source.to_come g.S.Source.reads g.S.Source.failures g.row.N _ _ _ (returns-then-advance_at_once-clause-next g c open')
 
 pub returns-then-advance_at_once-clause-no_read : goal.returns-then-advance_at_once-clause-no_read
 returns-then-advance_at_once-clause-no_read g c = λ ended. c.advance_at_once.ensures.no_read
@@ -34,6 +39,10 @@ returns-clause-next g c = λ open'.
     next_from g.S.Source.to_come g.S.Source.reads g.S.Source.failures g.row.N c.args.self.now c.advance_at_once.new.self
     c.advance_on.new.self
     _ c.advance_on.result rest (c.advance_on.ensures.next (ap (λ (l : Loop g.row.S.Denot). l.over) rest ∙ open'))
+
+pub returns-clause-ends : goal.returns-clause-ends
+returns-clause-ends g c = λ open'.
+    next_ends g.S.Source.to_come g.S.Source.reads g.S.Source.failures g.row.N _ _ _ (returns-clause-next g c open')
 
 pub returns-clause-no_read : goal.returns-clause-no_read
 returns-clause-no_read g c = λ ended.
