@@ -28,7 +28,7 @@ fn main(rt: HostRuntime) -> anyhow::Result<()> {
             (Some(number), Some(name)) if is_done(outcome) => {
                 pair.write(&mut output, &[number, name])?;
             }
-            _ if is_end(outcome) => break,
+            _ if is_end(&scan, outcome) => break,
             _ => bail!("record {record}: {outcome}"),
         }
     }

@@ -65,7 +65,7 @@ impl Row for Stock {
     }
 }
 
-/// Whether the input ended before a row: nothing but white space was left.
+/// Whether the input ended before a row: nothing but white space was left. (The format has no `?`.)
 fn is_end(outcome: Outcome) -> bool {
     outcome.status == Status::InputFailure
         && outcome.converted == 0

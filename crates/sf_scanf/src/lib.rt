@@ -24,7 +24,8 @@
 //! - **bytes that come in pieces**: a `Scanner`, which is handed them by `feed`, and `end` when there are no more.
 //!
 //! `fscan`, `sscan` and `Scanner` answer a report: its `outcome` is how the run ended (`is_done(outcome)`,
-//! `is_end(outcome)`), `value(1)` or `get::<i32>(1)` what slot 1 was given, and `c_return` what fscanf returns.
+//! `is_end(&format, outcome)`), `value(1)` or `get::<i32>(1)` what slot 1 was given, and `c_return` what fscanf
+//! returns.
 //!
 //! To print: `fprint(&mut sink, &format, &values)?`, or `fprint_given` where values may be missing, as in a row with an
 //! `Option` (`GivenRow::with_given`). Once a `Pair` of a print format and a scan format is

@@ -1,8 +1,9 @@
 //! Questions about how a run ended.
-ghost use Rattle.std.specs.Prelude.{◌≡◌, ◌↔◌, IsTrue, Some};
-ghost use Rattle.sf_run.specs.outcome.Ending.TheVariants.{End};
+ghost use Rattle.std.specs.Prelude.{◌≡◌, ◌↔◌, IsTrue};
 ghost use Rattle.sf_run.specs.outcome.Status.TheVariants as status;
+ghost use Rattle.sf_loops.specs.Turns.{IsEnd};
 
+use sf_format::ScanFormat;
 use sf_run::{Ending, Outcome, Status};
 
 /// Whether each directive has passed, so that fscanf would return the number of items assigned (C11 7.21.6.2p16).
@@ -12,13 +13,16 @@ pub fn is_done(outcome: Outcome) -> bool
     outcome.status == Status::Done
 }
 
-/// Whether fscanf would return EOF at the end of the input (C11 7.21.6.2p16): the input ended before the first
-/// conversion had completed, and no read failed. A loop over records ends there.
-pub fn is_end(outcome: Outcome) -> bool
-    ensures { IsTrue result ↔ ((outcome.status ≡ status.InputFailure) × (outcome.converted ≡ 0)
-        × (outcome.met ≡ Some End)) }
+/// Whether the input has no further record: it ended before the first conversion had completed, so that fscanf would
+/// return EOF (C11 7.21.6.2p16), and no read failed; or each item of a format with a `?` was missing there. A loop over
+/// records ends there, as `Reports` does.
+pub fn is_end(format: &ScanFormat, outcome: Outcome) -> bool
+    ensures { IsTrue result ↔ IsEnd format.now outcome }
 {
-    outcome.status == Status::InputFailure
-        && outcome.converted == 0
-        && outcome.met == Some(Ending::End)
+    let ended = match outcome.status {
+        Status::InputFailure => true,
+        Status::Done => format.has_optional(),
+        _ => false,
+    };
+    ended && outcome.converted == 0 && outcome.met == Some(Ending::End)
 }
