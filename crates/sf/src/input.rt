@@ -2,7 +2,7 @@
 ghost use Rattle.std.specs.Prelude.{◌≡◌, ◌<◌, Some, IsSome};
 ghost use Rattle.std.specs.Io.{ReadsAtMost};
 ghost use Rattle.std.specs.Io.KnownBytes.{ReadConsumes};
-ghost use Rattle.sf.specs.Inputs.{told};
+ghost use Rattle.sf.specs.Inputs.{IsOpened, IsStandard, told};
 
 use sf_command::{LastError, Opened, Opener};
 use sf_read::{Source, SourceFault};
@@ -65,7 +65,9 @@ impl Input {
     }
 
     /// Gives those of standard input.
-    pub(crate) fn standard(stdin: Stdin) -> Input {
+    pub(crate) fn standard(stdin: Stdin) -> Input
+        ensures { IsStandard result.stream }
+    {
         Input::new(Stream::Standard(stdin))
     }
 }
@@ -124,7 +126,7 @@ impl<'r> Disk<'r> {
 }
 
 impl Opener<Input> for Disk<'_> {
-    ghost Opens = { λ before after name source is_open. Unit {0} };
+    ghost Opens = { λ before after name source is_open. IsOpened name source.stream is_open };
 
     fn open(&mut self, name: &str) -> Opened<Input> {
         if name == "-" {
