@@ -3,7 +3,7 @@
 _sf() {
     local word=${COMP_WORDS[COMP_CWORD]} before=${COMP_WORDS[COMP_CWORD-1]} at
     local all='-p --profile --explain --no-explain -h --help' records='--limit --line-buffered'
-    local lines='-l --lines -s --skip --whole -k --keep-going -q --quiet'
+    local lines='-l --lines -s --skip -w --whole -k --keep-going -q --quiet'
     local scan='-o --output --print --names -e --tag --matching --ignore'
     COMPREPLY=()
     # the file of a redirection
@@ -31,7 +31,7 @@ _sf() {
         [[ ${COMP_WORDS[at]} == -- ]] && return
     done
     case ${COMP_WORDS[1]} in
-        help) (( COMP_CWORD == 2 )) && COMPREPLY=( $(compgen -W 'show scan print check copy help' -- "$word") ) ;;
+        help) (( COMP_CWORD == 2 )) && COMPREPLY=( $(compgen -W 'show scan print check copy formats help' -- "$word") ) ;;
         scan)
             if [[ $word == -* ]]; then
                 COMPREPLY=( $(compgen -W "$all $records $lines $scan" -- "$word") )

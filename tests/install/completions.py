@@ -64,7 +64,7 @@ class Completions:
             self.same(f"sf {command} -", program.options(command))
 
     def test_help(self):
-        self.same("sf help ", program.commands())
+        self.same("sf help ", program.commands() | {"formats"})
         self.same("sf help show ", [])
 
     def test_the_command_is_the_first_word(self):

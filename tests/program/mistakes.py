@@ -25,7 +25,7 @@ sf: scan format: F5 LeftOut at 1
 """),
     (r"scan '%s %5.2f'", """
 sf: scan format: F4 UnknownLetter at 5
-  ".": floating point is left out of profiles 1 and 2; formats have it by --profile 3
+  ".": a scan format has no precision: write %5f, and not %5.2f
   "%s %5.2f"
         ^
 """),
@@ -399,55 +399,120 @@ sf: record 2: matching failure at 3, used 3, assigned 1
 # What `clap` says of the words, before it shows how the command is called.
 WORDS = (
     (r"scn %d", """
-error: unrecognized subcommand 'scn'
+sf: unrecognized subcommand 'scn'
 
   tip: a similar subcommand exists: 'scan'
 
 """),
     (r"scan", """
-error: the following required arguments were not provided:
+sf: the following required arguments were not provided:
   <FORMAT>
 
 """),
     (r"scan --line %d", """
-error: unexpected argument '--line' found
+sf: unexpected argument '--line' found
 
   tip: a similar argument exists: '--lines'
 
 """),
     (r"scan --skip 1 %d", """
-error: the argument '--skip <N>' cannot be used without '--lines'
+sf: the argument '--skip <N>' cannot be used without '--lines'
 
 """),
     (r"scan --limit 99999999999 %d", """
-error: invalid value '99999999999' for '--limit <N>': 99999999999 is not in 0..=2147483647
+sf: invalid value '99999999999' for '--limit <N>': 99999999999 is not in 0..=2147483647
 
 """),
     (r"scan --limit -1 %d", """
-error: invalid value '-1' for '--limit <N>': -1 is not in 0..=2147483647
+sf: invalid value '-1' for '--limit <N>': -1 is not in 0..=2147483647
 
 """),
     (r"scan --lines --skip -12 %d", """
-error: invalid value '-12' for '--skip <N>': -12 is not in 0..9223372036854775807
+sf: invalid value '-12' for '--skip <N>': -12 is not in 0..9223372036854775807
 
 """),
     (r"scan --lines -s -1 %d", """
-error: invalid value '-1' for '--skip <N>': -1 is not in 0..9223372036854775807
+sf: invalid value '-1' for '--skip <N>': -1 is not in 0..9223372036854775807
 
 """),
     (r"copy -p -1 %d %d", """
-error: invalid value '-1' for '--profile <N>': -1 is not in 1..=3
+sf: invalid value '-1' for '--profile <N>': -1 is not in 1..=3
 
 """),
-    # here the tip is right
-    (r"print %d -5", """
-error: unexpected argument '-5' found
+    (r"print %d -x", """
+sf: unexpected argument '-x' found
 
-  tip: to pass '-5' as a value, use '-- -5'
+  tip: to pass '-x' as a value, use '-- -x'
+
+"""),
+    (r"scan -d, %d", """
+sf: unexpected argument '-d' found
+
+  tip: the format says what separates the values: '%[^,],%d'
+
+"""),
+    (r"scan -lF, %d", """
+sf: unexpected argument '-F' found
+
+  tip: the format says what separates the values: '%[^,],%d'
+
+"""),
+    (r"scan --json %d", """
+sf: unexpected argument '--json' found
+
+  tip: '-o json' writes JSON
+
+"""),
+    (r"scan --csv %d", """
+sf: unexpected argument '--csv' found
+
+  tip: '-o csv' writes CSV
+
+"""),
+    (r"scan --tsv %d", """
+sf: unexpected argument '--tsv' found
+
+  tip: '-o tsv' writes TSV
+
+"""),
+    (r"scan -n %d", """
+sf: unexpected argument '-n' found
+
+"""),
+    (r"show -%d", """
+sf: unexpected argument '-%' found
+
+  tip: a format that begins with - stands after --: sf show -- '-%d'
+
+"""),
+    (r"'%d %d'", """
+sf: unrecognized subcommand '%d %d'
+
+  tip: a command stands first: sf scan '%d %d'
+
+"""),
+    (r"version", """
+sf: unrecognized subcommand 'version'
+
+  tip: 'sf --version' writes the version
+
+"""),
+    (r"-v", """
+sf: unexpected argument '-v' found
+
+  tip: 'sf --version' writes the version
+
+"""),
+    (r"scan --limit 1M %s", """
+sf: invalid value '1M' for '--limit <N>': it is no number from 0 to 2147483647
+
+"""),
+    (r"scan -l -s '%d'", """
+sf: invalid value '%d' for '--skip <N>': it is no number from 0 to 9223372036854775807
 
 """),
     (r"scan --output xml %d", """
-error: invalid value 'xml' for '--output <FORM>'
+sf: invalid value 'xml' for '--output <FORM>'
   [possible values: plain, tsv, json, csv]
 
 """),
@@ -523,7 +588,7 @@ class Mistakes(unittest.TestCase):
     def test_a_number_that_is_too_small_is_blamed_whatever_its_first_digit(self):
         for digit in range(1, 10):
             for option, most in (("--limit <N>", "=2147483647"), ("--skip <N>", "9223372036854775807")):
-                said = f"error: invalid value '-{digit}' for '{option}': -{digit} is not in 0..{most}\n"
+                said = f"sf: invalid value '-{digit}' for '{option}': -{digit} is not in 0..{most}\n"
                 status, err = in_pipe(["scan", "--lines", option.split()[0], f"-{digit}", "%d"], b"")
                 self.assertEqual((status, err[: len(said)]), (2, said))
 

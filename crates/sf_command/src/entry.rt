@@ -1,6 +1,7 @@
 //! The command `sf` as a library: its words carried out, its files, and the program over its streams.
 
 mod files;
+mod hints;
 mod invocation;
 pub mod laws;
 mod loans;

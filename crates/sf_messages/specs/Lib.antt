@@ -5,6 +5,7 @@ pub mod Facing
 pub mod Faults
 pub mod Joined
 pub mod LineTexts
+pub mod Mistakes
 pub mod Names
 pub mod Newlines
 pub mod Notes

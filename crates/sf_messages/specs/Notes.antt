@@ -1,5 +1,5 @@
 -- What is said after the line of a fault, where more is asked for: lines, each after two blanks.
-use Rattle.std.specs.Prelude.{ℕ, ◌+◌, ◌-◌, Bool, true, false, nat_eq, nat_lt, if◌then◌else◌, List, [], ◌∷◌, ◌++◌, drop, length, map, min}
+use Rattle.std.specs.Prelude.{ℕ, ◌+◌, ◌-◌, ◌&&◌, ◌||◌, Bool, true, false, nat_eq, nat_lt, if◌then◌else◌, List, [], ◌∷◌, ◌++◌, drop, length, map, min}
 use Rattle.std.specs.Prelude.{take, Option, Some, None, slice_get, unwrap_or, codes}
 use Rattle.std.specs.Fmt.{decimal}
 use Rattle.sf_format.specs.declared.fault.FormatFault.{FormatFault}
@@ -27,6 +27,17 @@ use Rattle.sf_messages.specs.Names.{name_text}
 use Rattle.sf_messages.specs.Newlines.{is_left_white, is_lone_newline, is_newline_taken, is_over_newline, is_white_first}
 use Rattle.sf_arguments.specs.declared.argument_fault.ArgumentFault.{ArgumentFault}
 use Rattle.sf_arguments.specs.declared.argument_fault.ArgumentFault.TheVariants as argument
+use Rattle.sf_base.specs.declared.values.Kind.{Kind}
+use Rattle.sf_base.specs.declared.values.Kind.TheVariants as kind
+use Rattle.sf_arguments.specs.Names.{kind_text}
+use Rattle.sf_format.specs.declared.unit.PrintConv.{PrintConv}
+use Rattle.sf_format.specs.declared.unit.PrintLetter.{PrintLetter}
+use Rattle.sf_format.specs.declared.unit.PrintLetter.TheVariants.{Float}
+use Rattle.sf_forms.specs.declared.makers.printable.PrintMismatch.{PrintMismatch}
+use Rattle.sf_forms.specs.declared.makers.printable.PrintMismatch.TheVariants as mismatch
+use Rattle.sf_messages.specs.Mistakes.{begins_marked, begins_wide, byte_after_text, is_carriage, is_class}
+use Rattle.sf_messages.specs.Sentences.{byte_mark_sentence, carriage_sentence, class_sentence, printed_by_text, raw_sentence, read_by_text}
+use Rattle.sf_messages.specs.Sentences.{text_front, wanted_text, wide_text_sentence}
 use Rattle.sf_messages.specs.Sentences.{escape_sentence, left_white_sentence, lone_newline_sentence, newline_taken_sentence, no_value_text}
 use Rattle.sf_messages.specs.Sentences.{over_newline_sentence, pair_sentence, range_text, typed_escape, typed_text, values_text}
 use Rattle.sf_messages.specs.Sentences.{white_first_sentence, why_sentence}
@@ -67,11 +78,22 @@ abbrev pub count_notes : List ℕ → ℕ → ℕ → List ℕ
 count_notes format expected got =
     note (quoted format ++ (codes " takes " ++ (decimal expected ++ (values_text expected ++ (codes ", not " ++ decimal got)))))
 
+-- a bad escape of a value, which may be taken as it stands
+abbrev pub raw_notes : List ℕ → ℕ → List ℕ
+raw_notes word at = escape_notes word at ++ note raw_sentence
+
+-- a print format that can't print what a scan format gives: which directive reads the one kind, and which conversion prints the other
+abbrev pub mismatch_notes : PrintMismatch → List ℕ
+mismatch_notes (mismatch.Kinds slot print scan) =
+    note (kind_text print ++ (codes " is read by " ++ (read_by_text print ++ (codes ", and "
+    ++ (kind_text scan ++ (codes " is printed by " ++ printed_by_text scan))))))
+mismatch_notes (mismatch.Count values destinations) = []
+
 -- a word that is no value of a print format; where the number of words is wrong, the word of the format
 abbrev pub value_notes : List ℕ → ArgumentFault → List ℕ
 value_notes word (argument.NotInKind at kind) = value_note at word (no_value_text kind ++ range_text kind)
 value_notes word (argument.NotOneByte at) = value_note at word (codes " is not one byte")
-value_notes word (argument.BadEscape at offset) = escape_notes word offset
+value_notes word (argument.BadEscape at offset) = raw_notes word offset
 value_notes word (argument.WrongCount expected got) = count_notes word expected got
 value_notes word fault = []
 
@@ -94,16 +116,35 @@ abbrev pub print_side : List PrintUnit → List PrintUnit → List ℕ
 print_side us [] = end_note name.Print
 print_side us (u ∷ rest) = part_note name.Print (length us - length rest) (unit_text u)
 
--- what to write where a width is missing, by the units that are left there
-abbrev pub cure_of : PairWhy → List PrintUnit → List ℕ
-cure_of why.NoWidth (Conv c ∷ rest) = width_cure c
-cure_of _ _ = []
+-- what to write where the kinds of two floats differ
+abbrev pub float_cure : Kind → Kind → List ℕ
+float_cure kind.F64 kind.F32 = codes ": the scan format has f32, write %lf"
+float_cure _ _ = []
+
+abbrev pub is_float : PrintLetter → Bool
+is_float (Float style upper) = true
+is_float letter = false
+
+-- a float with # or with zeros in front: a `.` or an `x` after it would be read back, and is refused all the same
+abbrev pub is_excepted : PrintConv → Bool
+is_excepted c = is_float c.letter && (c.alt || c.zero)
+
+abbrev pub exception_text : PrintConv → List ℕ
+exception_text c =
+    if is_excepted c then codes "; before . x X a float with # or with zeros in front is refused, though it reads back" else []
+
+-- what to write, by the units that are left there and the directive that faces them
+abbrev pub cure_of : PairWhy → List PrintUnit → Option Directive → List ℕ
+cure_of why.NoWidth (Conv c ∷ rest) directive = width_cure c
+cure_of why.RunsOn (Conv c ∷ rest) directive = exception_text c
+cure_of why.KindDiffers (Conv c ∷ rest) (Some (Conversion scan)) = float_cure c.kind scan.kind
+cure_of _ _ _ = []
 
 -- why a pair is refused, and the directive at the fault, which is told so, with the unit that faces it; a pair without a value
 -- is at fault nowhere
 abbrev pub pair_notes : List PrintUnit → List Directive → List ℕ → PairFault → List ℕ
 pair_notes us ds told fault =
-    note (pair_sentence fault.why ++ cure_of fault.why (faced ds us fault.at))
+    note (pair_sentence fault.why ++ cure_of fault.why (faced ds us fault.at) (slice_get ds (fault.at - 1)))
     ++ (if nat_eq fault.at 0 then [] else scan_side ds fault.at told ++ print_side us (faced ds us fault.at))
 
 -- ---- records
@@ -141,7 +182,7 @@ wanted_note number range = numbered_note number (codes " wants a number from ") 
 
 -- the same, by its kind, where it is a conversion
 abbrev pub range_note : ℕ → Option Directive → List ℕ
-range_note number (Some (Conversion c)) = wanted_note number (range_text c.kind)
+range_note number (Some (Conversion c)) = wanted_note number (wanted_text c.kind)
 range_note number directive = []
 
 abbrev pub is_out_of_range : Status → Bool
@@ -152,14 +193,30 @@ is_out_of_range status = false
 abbrev pub range_notes : List Directive → Outcome → List ℕ
 range_notes ds outcome = if is_out_of_range outcome.status then range_note outcome.at (slice_get ds (outcome.at - 1)) else []
 
--- what helps
-abbrev pub cure_notes : List Directive → ℕ → Outcome → Option Place → List ℕ → List ℕ
-cure_notes ds number outcome place rest =
+-- what helps where white space stands in front of a record, or a newline in it
+abbrev pub white_notes : List Directive → ℕ → Outcome → Option Place → List ℕ → List ℕ
+white_notes ds number outcome place rest =
     if is_left_white number outcome rest then note left_white_sentence
     else if is_white_first outcome rest then note white_first_sentence
     else if is_lone_newline number outcome place then note lone_newline_sentence
     else if is_newline_taken ds number outcome place then note newline_taken_sentence
     else if is_over_newline outcome place then note over_newline_sentence else []
+
+-- the set that stops at this byte
+abbrev pub stop_note : ℕ → List ℕ
+stop_note b = note (text_front ++ quoted (37 ∷ 91 ∷ 94 ∷ b ∷ 93 ∷ []))
+
+-- what helps where a format stands for something else than it seems to, or an input does
+abbrev pub cure_by : Option ℕ → List Directive → ℕ → Outcome → Option Place → List ℕ → List ℕ
+cure_by (Some b) ds number outcome place rest = stop_note b
+cure_by None ds number outcome place rest =
+    if is_class ds outcome.at then note class_sentence
+    else if begins_marked rest then note byte_mark_sentence
+    else if begins_wide rest then note wide_text_sentence
+    else white_notes ds number outcome place rest
+
+abbrev pub cure_notes : List Directive → ℕ → Outcome → Option Place → List ℕ → List ℕ
+cure_notes ds number outcome place rest = cure_by (byte_after_text ds outcome.at) ds number outcome place rest
 
 -- a record that is no match of the format with these directives, where the one at which it failed is shown so
 abbrev pub failed_notes : List Directive → List ℕ → ℕ → Outcome → Option Place → List ℕ → List ℕ
@@ -174,11 +231,15 @@ failed_notes ds shown number outcome place rest =
 abbrev pub line_rest : List ℕ → ℕ → List ℕ
 line_rest line used = drop (min used (length line)) line
 
+-- the bytes that a format left of a line, and what helps
+abbrev pub left_notes : List ℕ → List ℕ
+left_notes rest = rest_notes rest ++ (if is_carriage rest then note carriage_sentence else [])
+
 -- A line of an input that is no match, by what was read of it, where its directive is shown so: what is said of a run that had
 -- the line alone for its input, but for the place; the bytes that the run left; or what the line begins with, where it is
 -- longer than the limit.
 abbrev pub line_notes : List Directive → List ℕ → List ℕ → LineFault → List ℕ
 line_notes ds shown line (Failed outcome) = failed_notes ds shown 1 outcome None (line_rest line outcome.used)
-line_notes ds shown line (LeftOver at) = rest_notes (line_rest line at)
+line_notes ds shown line (LeftOver at) = left_notes (line_rest line at)
 line_notes ds shown line TooLong = byte_notes (codes "it begins with ") line
 line_notes ds shown line Unfit = []

@@ -18,7 +18,7 @@ abbrev pub left_out_sentence : ℕ → List ℕ
 left_out_sentence b =
     if nat_eq b 112 then codes "pointers are not part of sf"
     else if nat_eq b 67 || (nat_eq b 83 || is_wide_after_l b) then codes "wide characters are not part of sf"
-    else if nat_eq b 76 then codes "long double is not part of sf"
+    else if nat_eq b 76 then codes "long double is not part of sf; %lf is a double"
     else if nat_eq b 109 then codes "memory of the scan's own is not part of sf"
     else if nat_eq b 42 then codes "a width or a precision among the values is not part of sf; of two formats the print format comes first"
     else if nat_eq b 39 then codes "groups of digits are not part of sf"
@@ -45,13 +45,18 @@ is_float_after (b ∷ rest) = if is_digit b then is_float_after rest else is_flo
 abbrev pub is_flag : ℕ → Bool
 is_flag b = nat_eq b 45 || (nat_eq b 43 || (nat_eq b 32 || nat_eq b 35))
 
--- what has this byte in the other format, by the bytes after it: `.` (46) a precision, which C has before a letter of floating
--- point too; `?` (63) what may be missing; `[` (91) a set; and flags
+-- what is written otherwise than with this byte, by the bytes after it: `.` (46) is a precision, which a scan format has before no
+-- letter; `?` (63) stands for what may be missing, `*` (42) for what is dropped; b (98) is base 2; D, O and U (68, 79, 85) are long
+-- integers of old; `[` (91) is a set; and flags
 abbrev pub unknown_sentence : ℕ → List ℕ → List ℕ
 unknown_sentence b rest =
-    if nat_eq b 46 && is_float_after rest then codes "floating point is left out of profiles 1 and 2; formats have it by --profile 3"
+    if nat_eq b 46 && is_float_after rest then codes "a scan format has no precision: write %5f, and not %5.2f"
     else if nat_eq b 46 then codes "a precision stands in a print format alone; of two formats the print format comes first"
-    else if nat_eq b 63 then codes "what may be missing is marked so in a scan format, by --profile 3"
+    else if nat_eq b 63
+    then codes "what may be missing has a ? before its width, in a scan format and by --profile 3: write %?5d"
+    else if nat_eq b 42 then codes "a star stands before a ? and a width: write %*?5d"
+    else if nat_eq b 98 then codes "base 2 is read and printed by --profile 2"
+    else if nat_eq b 68 || (nat_eq b 79 || nat_eq b 85) then codes "the length l makes long integers: write %ld, %lo or %lu"
     else if nat_eq b 91 then codes "a set stands in a scan format alone; of two formats the print format comes first"
     else if is_flag b then codes "a flag stands first in a conversion, and in a print format alone; of two formats the print format comes first"
     else codes "no conversion of this profile is written so; %% stands for a percent sign"
@@ -156,3 +161,52 @@ range_text kind.U64 = codes "0 to 18446744073709551615"
 range_text kind.Text = []
 range_text kind.F32 = []
 range_text kind.F64 = []
+
+-- the numbers of a kind that a scan takes: of a float those that don't round to an infinity
+abbrev pub wanted_text : Kind → List ℕ
+wanted_text kind.F32 = codes "-3.4028235e38 to 3.4028235e38"
+wanted_text kind.F64 = codes "-1.7976931348623157e308 to 1.7976931348623157e308"
+wanted_text kind = range_text kind
+
+-- what is done about a byte order mark
+abbrev pub byte_mark_sentence : List ℕ
+byte_mark_sentence = codes "a byte order mark stands there: sed '1s/^\\xef\\xbb\\xbf//' takes it away"
+
+-- what is done about UTF-16
+abbrev pub wide_text_sentence : List ℕ
+wide_text_sentence = codes "the input seems to be UTF-16: iconv -f UTF-16 -t UTF-8 makes UTF-8 of it"
+
+-- what is done about a carriage return at a line's end
+abbrev pub carriage_sentence : List ℕ
+carriage_sentence = codes "the line ends with a carriage return: a space at the format's end takes it"
+
+-- what is written for a class of POSIX
+abbrev pub class_sentence : List ℕ
+class_sentence = codes "classes as [:digit:] are not part of scanf: write %[0-9]"
+
+-- what stands before the set that stops where %s doesn't
+abbrev pub text_front : List ℕ
+text_front = codes "%s takes all up to white space: a text that ends before the next byte of the format is "
+
+-- how values are taken as they stand
+abbrev pub raw_sentence : List ℕ
+raw_sentence = codes "with --raw values are taken as they stand"
+
+-- the directive that reads values of a kind
+abbrev pub read_by_text : Kind → List ℕ
+read_by_text kind.I8 = codes "%hhd"
+read_by_text kind.I16 = codes "%hd"
+read_by_text kind.I32 = codes "%d"
+read_by_text kind.I64 = codes "%ld"
+read_by_text kind.U8 = codes "%hhu"
+read_by_text kind.U16 = codes "%hu"
+read_by_text kind.U32 = codes "%u"
+read_by_text kind.U64 = codes "%lu"
+read_by_text kind.Text = codes "%s"
+read_by_text kind.F32 = codes "%f"
+read_by_text kind.F64 = codes "%lf"
+
+-- the conversion that prints values of a kind: of both floats, %f
+abbrev pub printed_by_text : Kind → List ℕ
+printed_by_text kind.F64 = codes "%f"
+printed_by_text kind = read_by_text kind

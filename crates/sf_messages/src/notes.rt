@@ -1,26 +1,33 @@
 //! What is said after the line of a fault, where more is asked for.
-ghost use Rattle.std.specs.Prelude.{◌≡◌, ◌+◌, ◌++◌, OnOk, IfOk, drop, option_map};
+ghost use Rattle.std.specs.Prelude.{◌≡◌, ◌+◌, ◌-◌, ◌++◌, OnOk, IfOk, drop, option_map, slice_get};
 ghost use Rattle.sf_messages.specs.Notes.{blanks, byte_notes, count_notes, cure_notes, cure_of, end_note};
 ghost use Rattle.sf_messages.specs.Notes.{escape_notes, failed_notes, format_notes, input_notes};
 ghost use Rattle.sf_messages.specs.Notes.{line_notes, line_rest, note, pair_notes, part_note};
 ghost use Rattle.sf_messages.specs.Notes.{place_notes, print_side, rest_notes, scan_side, stood_notes, value_note};
-ghost use Rattle.sf_messages.specs.Notes.{numbered_note, range_note, range_notes, value_notes, wanted_note};
+ghost use Rattle.sf_messages.specs.Notes.{exception_text, float_cure, is_excepted, left_notes, mismatch_notes};
+ghost use Rattle.sf_messages.specs.Notes.{numbered_note, range_note, range_notes, raw_notes, stop_note, value_notes};
+ghost use Rattle.sf_messages.specs.Notes.{wanted_note, white_notes};
 
 use crate::facing::{faced, push_unit};
 use crate::fault::FormatName;
+use crate::mistakes::{begins_marked, begins_wide, byte_after_text, is_carriage, is_class};
 use crate::names::name_text;
 use crate::newlines::{
     is_left_white, is_lone_newline, is_newline_taken, is_over_newline, is_white_first,
 };
 use crate::places::Place;
 use crate::sentences::{
-    escape_sentence, left_white_sentence, lone_newline_sentence, newline_taken_sentence,
-    no_value_text, over_newline_sentence, pair_sentence, push_typed, push_typed_escape, range_text,
-    values_text, white_first_sentence, why_sentence,
+    byte_mark_sentence, carriage_sentence, class_sentence, escape_sentence, left_white_sentence,
+    lone_newline_sentence, newline_taken_sentence, no_value_text, over_newline_sentence,
+    pair_sentence, printed_by_text, push_typed, push_typed_escape, range_text, raw_sentence,
+    read_by_text, text_front, values_text, wanted_text, white_first_sentence, why_sentence,
+    wide_text_sentence,
 };
-use crate::shown::push_width_cure;
-use sf_arguments::ArgumentFault;
-use sf_format::{Directive, FormatFault, Unit};
+use crate::shown::{push_text, push_width_cure};
+use sf_arguments::{ArgumentFault, kind_text};
+use sf_base::Kind;
+use sf_format::{Directive, FormatFault, PrintConv, PrintLetter, Unit};
+use sf_forms::PrintMismatch;
 use sf_pair::{PairFault, PairWhy};
 use sf_records::{LineFault, push_quoted};
 use sf_run::{Ending, Outcome, Status};
@@ -141,6 +148,34 @@ fn count_notes(
     Ok(notes)
 }
 
+/// What is said of a bad escape of a value.
+fn raw_notes(alloc: Global, word: &[u8], at: usize) -> Result<Vec<u8>, AllocError>
+    ensures { IfOk result (λ notes. notes.items ≡ raw_notes word.now at) }
+{
+    let mut notes = escape_notes(alloc, word, at)?;
+    push_note(&mut notes, raw_sentence().as_bytes())?;
+    Ok(notes)
+}
+
+/// What is said where a print format can't print what a scan format gives.
+pub fn mismatch_notes(alloc: Global, mismatch: PrintMismatch) -> Result<Vec<u8>, AllocError>
+    ensures { IfOk result (λ notes. notes.items ≡ mismatch_notes mismatch) }
+{
+    let mut notes = Vec::new(alloc);
+    if let PrintMismatch::Kinds { print, scan, .. } = mismatch {
+        let mut text = Vec::new(alloc);
+        push_text(&mut text, kind_text(print))?;
+        push_text(&mut text, " is read by ")?;
+        push_text(&mut text, read_by_text(print))?;
+        push_text(&mut text, ", and ")?;
+        push_text(&mut text, kind_text(scan))?;
+        push_text(&mut text, " is printed by ")?;
+        push_text(&mut text, printed_by_text(scan))?;
+        push_note(&mut notes, &text)?;
+    }
+    Ok(notes)
+}
+
 /// What is said of a word that is no value of a print format, or, where the number of words is wrong, of the format's.
 pub fn value_notes(alloc: Global, word: &[u8], fault: ArgumentFault) -> Result<Vec<u8>, AllocError>
     ensures { IfOk result (λ notes. notes.items ≡ value_notes word.now fault) }
@@ -152,7 +187,7 @@ pub fn value_notes(alloc: Global, word: &[u8], fault: ArgumentFault) -> Result<V
             value_note(alloc, at, word, front, range)
         }
         ArgumentFault::NotOneByte { at } => value_note(alloc, at, word, " is not one byte", ""),
-        ArgumentFault::BadEscape { offset, .. } => escape_notes(alloc, word, offset),
+        ArgumentFault::BadEscape { offset, .. } => raw_notes(alloc, word, offset),
         ArgumentFault::WrongCount { expected, got } => count_notes(alloc, word, expected, got),
         ArgumentFault::TooLong | ArgumentFault::Write | ArgumentFault::Memory => {
             Ok(Vec::new(alloc))
@@ -222,14 +257,69 @@ fn push_print_side(
     push_part(alloc, output, FormatName::Print, number, &shown)
 }
 
-/// Appends what to write where a width is missing, by the units that are left there.
-fn push_cure_of(output: &mut Vec<u8>, why: PairWhy, left: &[Unit]) -> Result<(), AllocError>
-    ensures { OnOk result (output.new.items ≡ output.old.items ++ cure_of why left.now) }
+/// Appends what to write where the kinds of two floats differ.
+fn push_float_cure(output: &mut Vec<u8>, print: Kind, scan: Kind) -> Result<(), AllocError>
+    ensures { OnOk result (output.new.items ≡ output.old.items ++ float_cure print scan) }
 {
-    match (why, left) {
-        (PairWhy::NoWidth, [Unit::Conv(conv), ..]) => push_width_cure(output, conv),
+    match (print, scan) {
+        (Kind::F64, Kind::F32) => push_text(output, ": the scan format has f32, write %lf"),
         _ => Ok(()),
     }
+}
+
+/// Whether a float is printed so that a `.` or an `x` after it is read back, and refused all the same.
+fn is_excepted(conv: &PrintConv) -> bool
+    ensures { result ≡ is_excepted conv.now }
+{
+    matches!(conv.letter, PrintLetter::Float(..)) && (conv.alt || conv.zero)
+}
+
+/// Appends what is refused though it reads back.
+fn push_exception(output: &mut Vec<u8>, conv: &PrintConv) -> Result<(), AllocError>
+    ensures { OnOk result (output.new.items ≡ output.old.items ++ exception_text conv.now) }
+{
+    if is_excepted(conv) {
+        push_text(
+            output,
+            "; before . x X a float with # or with zeros in front is refused, though it reads back",
+        )
+    } else {
+        Ok(())
+    }
+}
+
+/// Appends what to write, by the units that are left there and the directive that faces them.
+fn push_cure_of(
+    output: &mut Vec<u8>,
+    why: PairWhy,
+    left: &[Unit],
+    directive: Option<&Directive>,
+) -> Result<(), AllocError>
+    ensures { OnOk result (output.new.items
+        ≡ output.old.items ++ cure_of why left.now (option_map (λ given. given.now) directive.entry)) }
+{
+    match (why, left, directive) {
+        (PairWhy::NoWidth, [Unit::Conv(conv), ..], _) => push_width_cure(output, conv),
+        (PairWhy::RunsOn, [Unit::Conv(conv), ..], _) => push_exception(output, conv),
+        (PairWhy::KindDiffers, [Unit::Conv(conv), ..], Some(Directive::Conv(scan))) => {
+            push_float_cure(output, conv.kind, scan.kind)
+        }
+        _ => Ok(()),
+    }
+}
+
+/// Appends what to write, by the units that are left at a pair's fault.
+fn push_cure_at(
+    output: &mut Vec<u8>,
+    fault: PairFault,
+    left: &[Unit],
+    directives: &[Directive],
+) -> Result<(), AllocError>
+    ensures { OnOk result (output.new.items
+        ≡ output.old.items ++ cure_of fault.why left.now (slice_get directives.now (fault.at - 1))) }
+{
+    let place = usize::from(fault.at).saturating_sub(1);
+    push_cure_of(output, fault.why, left, directives.get(place))
 }
 
 /// What is said of why a pair is refused, by the units of the print format and the directives of the scan format;
@@ -246,7 +336,7 @@ pub fn pair_notes(
     let left = faced(directives, units, fault.at);
     let mut said = Vec::new(alloc);
     said.extend_from_slice(pair_sentence(fault.why).as_bytes())?;
-    push_cure_of(&mut said, fault.why, left)?;
+    push_cure_at(&mut said, fault, left, directives)?;
     let mut notes = Vec::new(alloc);
     push_note(&mut notes, &said)?;
     if fault.at == 0 {
@@ -366,7 +456,7 @@ fn push_range(
 {
     match directive {
         Some(Directive::Conv(conversion)) => {
-            push_wanted(alloc, output, number, range_text(conversion.kind))
+            push_wanted(alloc, output, number, wanted_text(conversion.kind))
         }
         _ => Ok(()),
     }
@@ -388,8 +478,8 @@ fn push_range_missed(
     push_range(alloc, output, outcome.at, directives.get(place))
 }
 
-/// Appends what helps.
-fn push_cure(
+/// Appends what helps where white space stands in front of a record, or a newline in it.
+fn push_white_cure(
     output: &mut Vec<u8>,
     directives: &[Directive],
     number: u32,
@@ -398,7 +488,7 @@ fn push_cure(
     rest: &[u8],
 ) -> Result<(), AllocError>
     ensures { OnOk result (output.new.items
-        ≡ output.old.items ++ cure_notes directives.now number outcome place rest.now) }
+        ≡ output.old.items ++ white_notes directives.now number outcome place rest.now) }
 {
     if is_left_white(number, outcome, rest) {
         push_note(output, left_white_sentence().as_bytes())
@@ -412,6 +502,42 @@ fn push_cure(
         push_note(output, over_newline_sentence().as_bytes())
     } else {
         Ok(())
+    }
+}
+
+/// Appends the set that stops at this byte.
+fn push_stop(alloc: Global, output: &mut Vec<u8>, b: u8) -> Result<(), AllocError>
+    ensures { OnOk result (output.new.items ≡ output.old.items ++ stop_note b) }
+{
+    let mut text = Vec::new(alloc);
+    push_text(&mut text, text_front())?;
+    push_quoted(&mut text, &[b'%', b'[', b'^', b, b']'])?;
+    push_note(output, &text)
+}
+
+/// Appends what helps where a format stands for something else than it seems to, or an input does.
+fn push_cure(
+    alloc: Global,
+    output: &mut Vec<u8>,
+    directives: &[Directive],
+    number: u32,
+    outcome: Outcome,
+    place: Option<Place>,
+    rest: &[u8],
+) -> Result<(), AllocError>
+    ensures { OnOk result (output.new.items
+        ≡ output.old.items ++ cure_notes directives.now number outcome place rest.now) }
+{
+    if let Some(b) = byte_after_text(directives, outcome.at) {
+        push_stop(alloc, output, b)
+    } else if is_class(directives, outcome.at) {
+        push_note(output, class_sentence().as_bytes())
+    } else if begins_marked(rest) {
+        push_note(output, byte_mark_sentence().as_bytes())
+    } else if begins_wide(rest) {
+        push_note(output, wide_text_sentence().as_bytes())
+    } else {
+        push_white_cure(output, directives, number, outcome, place, rest)
     }
 }
 
@@ -435,7 +561,7 @@ pub fn failed_notes(
     push_range_missed(alloc, &mut notes, directives, outcome)?;
     push_input(alloc, &mut notes, place)?;
     push_stood(alloc, &mut notes, outcome.met, rest)?;
-    push_cure(&mut notes, directives, number, outcome, place, rest)?;
+    push_cure(alloc, &mut notes, directives, number, outcome, place, rest)?;
     Ok(notes)
 }
 
@@ -444,6 +570,17 @@ fn line_rest(line: &[u8], used: u32) -> &[u8]
     ensures { result.now ≡ line_rest line.entry.now used }
 {
     &line[(used as usize).min(line.len())..]
+}
+
+/// Appends the line of the bytes that a format left of a line, and what helps.
+fn push_left(alloc: Global, output: &mut Vec<u8>, rest: &[u8]) -> Result<(), AllocError>
+    ensures { OnOk result (output.new.items ≡ output.old.items ++ left_notes rest.now) }
+{
+    push_rest(alloc, output, rest)?;
+    if is_carriage(rest) {
+        push_note(output, carriage_sentence().as_bytes())?;
+    }
+    Ok(())
 }
 
 /// What is said of a line of an input that is no match, by what was read of it, and why it is none: what is said of a
@@ -464,7 +601,7 @@ pub fn line_notes(
             let rest = line_rest(line, outcome.used);
             return failed_notes(alloc, directives, shown, 1, outcome, None, rest);
         }
-        LineFault::LeftOver { at } => push_rest(alloc, &mut said, line_rest(line, at))?,
+        LineFault::LeftOver { at } => push_left(alloc, &mut said, line_rest(line, at))?,
         LineFault::TooLong => push_bytes(alloc, &mut said, b"it begins with ", line)?,
         LineFault::Unfit => {}
     }

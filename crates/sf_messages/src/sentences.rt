@@ -3,7 +3,9 @@ ghost use Rattle.std.specs.Prelude.{◌≡◌, ◌++◌, OnOk};
 ghost use Rattle.sf_messages.specs.Sentences.{escape_sentence, left_out_sentence, left_white_sentence};
 ghost use Rattle.sf_messages.specs.Sentences.{lone_newline_sentence, newline_taken_sentence, over_newline_sentence};
 ghost use Rattle.sf_messages.specs.Sentences.{no_value_text, pair_sentence, range_text, typed_escape, values_text};
-ghost use Rattle.sf_messages.specs.Sentences.{white_first_sentence};
+ghost use Rattle.sf_messages.specs.Sentences.{byte_mark_sentence, carriage_sentence, class_sentence, raw_sentence};
+ghost use Rattle.sf_messages.specs.Sentences.{printed_by_text, read_by_text, text_front, wanted_text, white_first_sentence};
+ghost use Rattle.sf_messages.specs.Sentences.{wide_text_sentence};
 ghost use Rattle.sf_messages.specs.Sentences.{is_digit, is_float_after, is_float_letter, typed_text};
 ghost use Rattle.sf_messages.specs.Sentences.{unknown_sentence, why_sentence};
 
@@ -42,7 +44,7 @@ fn left_out_sentence(b: u8) -> &'static str
     match b {
         b'p' => "pointers are not part of sf",
         b'C' | b'S' | b'c' | b's' | b'[' => "wide characters are not part of sf",
-        b'L' => "long double is not part of sf",
+        b'L' => "long double is not part of sf; %lf is a double",
         b'm' => "memory of the scan's own is not part of sf",
         b'*' => {
             "a width or a precision among the values is not part of sf; of two formats the print format comes first"
@@ -85,12 +87,16 @@ fn unknown_sentence(b: u8, rest: &[u8]) -> &'static str
     ensures { result.now ≡ unknown_sentence b rest.now }
 {
     match b {
-        b'.' if is_float_after(rest) =>
-            "floating point is left out of profiles 1 and 2; formats have it by --profile 3",
+        b'.' if is_float_after(rest) => "a scan format has no precision: write %5f, and not %5.2f",
         b'.' => {
             "a precision stands in a print format alone; of two formats the print format comes first"
         }
-        b'?' => "what may be missing is marked so in a scan format, by --profile 3",
+        b'?' => {
+            "what may be missing has a ? before its width, in a scan format and by --profile 3: write %?5d"
+        }
+        b'*' => "a star stands before a ? and a width: write %*?5d",
+        b'b' => "base 2 is read and printed by --profile 2",
+        b'D' | b'O' | b'U' => "the length l makes long integers: write %ld, %lo or %lu",
         b'[' => "a set stands in a scan format alone; of two formats the print format comes first",
         b'-' | b'+' | b' ' | b'#' => {
             "a flag stands first in a conversion, and in a print format alone; of two formats the print format comes \
@@ -158,6 +164,77 @@ pub(crate) fn over_newline_sentence() -> &'static str
     "the record goes over a newline: sf scan --lines ends each record with its line"
 }
 
+/// What is done about a byte order mark.
+pub(crate) fn byte_mark_sentence() -> &'static str
+    ensures { result.now ≡ byte_mark_sentence }
+{
+    "a byte order mark stands there: sed '1s/^\\xef\\xbb\\xbf//' takes it away"
+}
+
+/// What is done about UTF-16.
+pub(crate) fn wide_text_sentence() -> &'static str
+    ensures { result.now ≡ wide_text_sentence }
+{
+    "the input seems to be UTF-16: iconv -f UTF-16 -t UTF-8 makes UTF-8 of it"
+}
+
+/// What is done about a carriage return at a line's end.
+pub(crate) fn carriage_sentence() -> &'static str
+    ensures { result.now ≡ carriage_sentence }
+{
+    "the line ends with a carriage return: a space at the format's end takes it"
+}
+
+/// What is written for a class of POSIX.
+pub(crate) fn class_sentence() -> &'static str
+    ensures { result.now ≡ class_sentence }
+{
+    "classes as [:digit:] are not part of scanf: write %[0-9]"
+}
+
+/// What stands before the set that stops where `%s` doesn't.
+pub(crate) fn text_front() -> &'static str
+    ensures { result.now ≡ text_front }
+{
+    "%s takes all up to white space: a text that ends before the next byte of the format is "
+}
+
+/// How values are taken as they stand.
+pub(crate) fn raw_sentence() -> &'static str
+    ensures { result.now ≡ raw_sentence }
+{
+    "with --raw values are taken as they stand"
+}
+
+/// What is read so that a value of this kind can be printed.
+pub(crate) fn read_by_text(kind: Kind) -> &'static str
+    ensures { result.now ≡ read_by_text kind }
+{
+    match kind {
+        Kind::I8 => "%hhd",
+        Kind::I16 => "%hd",
+        Kind::I32 => "%d",
+        Kind::I64 => "%ld",
+        Kind::U8 => "%hhu",
+        Kind::U16 => "%hu",
+        Kind::U32 => "%u",
+        Kind::U64 => "%lu",
+        Kind::Text => "%s",
+        Kind::F32 => "%f",
+        Kind::F64 => "%lf",
+    }
+}
+
+/// What prints a value of this kind.
+pub(crate) fn printed_by_text(kind: Kind) -> &'static str
+    ensures { result.now ≡ printed_by_text kind }
+{
+    match kind {
+        Kind::F64 => "%f",
+        _ => read_by_text(kind),
+    }
+}
+
 /// What so many values are called.
 pub(crate) fn values_text(count: u8) -> &'static str
     ensures { result.now ≡ values_text count }
@@ -175,7 +252,18 @@ pub(crate) fn no_value_text(kind: Kind) -> &'static str
     }
 }
 
-/// The numbers of a kind.
+/// The numbers of a kind that a scan takes.
+pub(crate) fn wanted_text(kind: Kind) -> &'static str
+    ensures { result.now ≡ wanted_text kind }
+{
+    match kind {
+        Kind::F32 => "-3.4028235e38 to 3.4028235e38",
+        Kind::F64 => "-1.7976931348623157e308 to 1.7976931348623157e308",
+        _ => range_text(kind),
+    }
+}
+
+/// The numbers of a kind that are written with decimal digits.
 pub(crate) fn range_text(kind: Kind) -> &'static str
     ensures { result.now ≡ range_text kind }
 {

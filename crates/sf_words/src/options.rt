@@ -171,7 +171,7 @@ static OPTIONS: [CommandOption; 19] = [
             default: None,
         },
         of: OptionOf::Scan,
-        help: "Write records by this format, which says \\n itself",
+        help: "Write records by this print format, and no newline",
     },
     CommandOption {
         name: "tag",

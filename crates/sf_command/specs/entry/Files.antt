@@ -1,5 +1,5 @@
 -- The files that words name, read one after the other.
-use Rattle.std.specs.Prelude.{◌≡◌, ◌+◌, ◌++◌, ℕ, zero, suc, Bool, true, false, List, [], ◌∷◌, length, max, Option, Some, None, Result, Ok}
+use Rattle.std.specs.Prelude.{◌≡◌, ◌⊎◌, ◌+◌, ◌++◌, ℕ, zero, suc, Bool, true, false, List, [], ◌∷◌, length, max, Option, Some, None, Result, Ok}
 use Rattle.std.specs.Prelude.{Err, codes}
 use Rattle.std.specs.Option.{option_map_or}
 use Rattle.std.specs.declared.io.Error.{Error}
@@ -9,9 +9,10 @@ use Rattle.sf_words.specs.declared.order.Order.{Order}
 use Rattle.sf_words.specs.declared.order.WordsFault.{WordsFault}
 use Rattle.sf_command.specs.jobs.Answers.{Answer}
 use Rattle.sf_command.specs.entry.Exits.{Declines, DoesOn, is_explained}
+use Rattle.sf_command.specs.entry.Hints.{hint_of}
 use Rattle.sf_command.specs.console.Ends.{exit_of}
 use Rattle.sf_command.specs.console.Fronts.{file_name, in_front}
-use Rattle.sf_command.specs.reasons.Faults.{IsWithReason, is_read_fault}
+use Rattle.sf_command.specs.reasons.Faults.{IsWithReason, is_of_input, is_read_fault}
 use Rattle.sf_command.specs.console.Saying.{Says}
 use Rattle.sf_command.specs.declared.entry.files.Turn.{Turn}
 
@@ -30,25 +31,30 @@ turn_of keep_going (Err fault) = record { status = status_of fault; goes_on = is
 abbrev pub unopened_line : List ℕ
 unopened_line = codes "sf: can't be opened\n"
 
--- What follows the run over a file. One that can't be opened has no bytes, so that its run came to its end, unless the words are
--- refused or the output fails: then it is reported, with the notes after that, and the next file is read.
-abbrev pub EndsFile : {K E : Type 0} → (K → K → Type 0) → (E → Option (List ℕ)) → (E → ℕ) → Bool → Bool → List ℕ → List ℕ → Answer → K →
-    K → E → E
-    → Turn → Type 0
-EndsFile hands said unsaid true keep_going name notes ended out out' err err' turn =
-    (out' ≡ out) × (err' ≡ err) × (turn ≡ turn_of keep_going ended)
-EndsFile hands said unsaid false keep_going name notes (Ok n) out out' err err' turn =
-    Says hands said unsaid (in_front (Some name) unopened_line ++ notes) out out' err err' × (turn ≡ record {
-      status = 3;
-      goes_on = true;
-    })
-EndsFile hands said unsaid false keep_going name notes (Err fault) out out' err err' turn =
-    (out' ≡ out) × (err' ≡ err) × (turn ≡ record { status = status_of fault; goes_on = false })
+-- what the run came to is no more than that the file has no bytes
+abbrev pub is_unopened : Answer → Bool
+is_unopened (Ok status) = true
+is_unopened (Err fault) = is_of_input fault
 
 -- the one, or the other
 abbrev pub Where : Bool → Type 0 → Type 0 → Type 0
 Where true A B = A
 Where false A B = B
+
+-- What follows the run over a file. One that can't be opened has no bytes. So its run came to its end, or stopped at a record that took
+-- nothing, unless the words are refused or the output fails: then it is reported, with the notes after that, and the next file is read.
+abbrev pub EndsFile : {K E : Type 0} → (K → K → Type 0) → (E → Option (List ℕ)) → (E → ℕ) → Bool → Bool → List ℕ → List ℕ → Answer → K →
+    K → E → E
+    → Turn → Type 0
+EndsFile hands said unsaid true keep_going name notes ended out out' err err' turn =
+    (out' ≡ out) × (err' ≡ err) × (turn ≡ turn_of keep_going ended)
+EndsFile hands said unsaid false keep_going name notes ended out out' err err' turn =
+    Where (is_unopened ended)
+    (Says hands said unsaid (in_front (Some name) unopened_line ++ notes) out out' err err' × (turn ≡ record {
+      status = 3;
+      goes_on = true;
+    }))
+    ((out' ≡ out) × (err' ≡ err) × (turn ≡ record { status = exit_of ended; goes_on = false }))
 
 -- `opens` says what comes of opening a file by its name: the bytes of a source, and whether it could be opened. why_unread,
 -- why_unwritten: why the last of the reads and of the writes failed that did, or why a file couldn't be opened, where that is known.
@@ -65,13 +71,15 @@ module _ {S K E F : Type 0} (opens : F → F → List ℕ → S → Bool → Typ
     pub empty : is_open ≡ false → to_come source ≡ Some []
     pub notes : List ℕ
     pub why : IsWithReason (is_explained watched order.notes) (why_unread source) [] notes
+    pub all : List ℕ
+    pub hinted : (all ≡ notes ++ hint_of (is_explained watched order.notes) order name) ⊎ (all ≡ notes)
     pub mid : K
     pub between : E
     pub ended : Answer
     pub rest : S
     pub runs : DoesOn contents write_faults hands said unsaid to_come read_faults why_unread why_unwritten watched (Ok order) source rest
         out mid err between ended
-    pub ends : EndsFile hands said unsaid is_open (keeps_going order) name notes ended mid out' between err' turn
+    pub ends : EndsFile hands said unsaid is_open (keeps_going order) name all ended mid out' between err' turn
 
   -- The files from this place on, of which so many are left: each is read where those before go on. The exit status is the greatest
   -- of all; worst: the greatest of those before.

@@ -16,10 +16,10 @@ use Rattle.sf_format.specs.declared.spans.Span.{Span}
 use Rattle.sf_records.specs.declared.by_lines.end.LineFault.{LineFault}
 use Rattle.sf_records.specs.declared.by_lines.end.LineFault.TheVariants as line
 use Rattle.sf_messages.specs.declared.fault.CommandFault.{CommandFault}
-use Rattle.sf_messages.specs.declared.fault.CommandFault.TheVariants.{BadEscape, Format, PrintFormat, Values, Record, Pair}
+use Rattle.sf_messages.specs.declared.fault.CommandFault.TheVariants.{BadEscape, Format, PrintFormat, Values, Record, Pair, Unprintable}
 use Rattle.sf_messages.specs.declared.fault.FormatName.{FormatName}
 use Rattle.sf_messages.specs.declared.fault.FormatName.TheVariants as name
-use Rattle.sf_messages.specs.Notes.{escape_notes, failed_notes, format_notes, input_notes, line_notes, pair_notes, value_notes}
+use Rattle.sf_messages.specs.Notes.{escape_notes, failed_notes, format_notes, input_notes, line_notes, mismatch_notes, pair_notes, value_notes}
 use Rattle.sf_pair.specs.declared.fault.PairFault.{PairFault}
 use Rattle.sf_messages.specs.declared.places.place.Place.{Place}
 use Rattle.sf_records.specs.declared.end.ToolFault.TheVariants.{Failed, Stalled, Unfit, Read}
@@ -127,6 +127,7 @@ abbrev pub SaysRefused : List ℕ → CommandFault → List ℕ → Type 0
 SaysRefused refused (BadEscape name at) notes = notes ≡ escape_notes refused at
 SaysRefused refused (Format fault) notes = SaysFormat fault refused notes
 SaysRefused refused (PrintFormat fault) notes = SaysFormat fault refused notes
+SaysRefused refused (Unprintable mismatch) notes = notes ≡ mismatch_notes mismatch
 SaysRefused refused _ notes = notes ≡ []
 
 -- this is said, or nothing, where memory for it was refused

@@ -5,8 +5,9 @@ ghost use Rattle.sf_command.specs.entry.Files.{EndsFile, RunsFile, RunsFiles, Ru
 ghost use Rattle.sf_command.specs.console.Fronts.{file_name};
 
 use crate::console::{Console, Reasons, exit_of, file_name, tell};
+use crate::entry::hints::with_hint;
 use crate::entry::invocation::{is_explained, run_source};
-use crate::reasons::{LastError, is_read_fault, reason_alone};
+use crate::reasons::{LastError, is_of_input, is_read_fault, reason_alone};
 use sf_messages::CommandFault;
 use sf_print::Sink;
 use sf_words::Order;
@@ -83,17 +84,17 @@ fn end_unopened<K: Sink, E, C: Console<K, E>>(
         out.old out.new err.old err.new result }
 {
     match answer {
-        Ok(_) => {
+        Err(fault) if !is_of_input(fault) => Turn {
+            status: fault.status(),
+            goes_on: false,
+        },
+        _ => {
             tell::<K, E, C>(out, err, Some(name), b"sf: can't be opened\n", notes);
             Turn {
                 status: UNOPENED,
                 goes_on: true,
             }
         }
-        Err(fault) => Turn {
-            status: fault.status(),
-            goes_on: false,
-        },
     }
 }
 
@@ -144,7 +145,8 @@ fn run_file<S: LastError, K: Sink, E, C: Console<K, E> + Reasons<S>, F: Opener<S
     };
     let Opened { source, is_open } = files.open(name);
     let why = C::why_unread(&source);
-    let notes = reason_alone(alloc, is_explained(watched, order.notes), why);
+    let explain = is_explained(watched, order.notes);
+    let notes = with_hint(explain, order, name, reason_alone(alloc, explain, why));
     let mut source = source;
     let answer = run_source::<S, K, E, C>(alloc, watched, order, &mut source, out, err);
     end_file::<K, E, C>(is_open, keeps_going(order), name, &notes, answer, out, err)

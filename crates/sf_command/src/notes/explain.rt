@@ -26,7 +26,7 @@ use sf_arguments::{EscapeFault, unescape};
 use sf_format::{FormatFault, PrintFormat, Profile, ScanFormat, Spans, directive_text};
 use sf_messages::{
     ArgumentFault, CommandFault, Place, escape_notes, failed_notes, format_notes, input_notes,
-    line_notes, pair_notes, push_directive, value_notes,
+    line_notes, mismatch_notes, pair_notes, push_directive, value_notes,
 };
 use sf_pair::PairFault;
 use sf_records::{LineFault, ToolFault, push_quoted};
@@ -95,6 +95,7 @@ fn of_refused(alloc: Global, refused: RefusedWord<'_>) -> Result<Vec<u8>, AllocE
         CommandFault::BadEscape { at, .. } => escape_notes(alloc, refused.word.as_bytes(), at),
         CommandFault::Format(fault) => of_format_word(alloc, refused.word, fault),
         CommandFault::PrintFormat(fault) => of_format_word(alloc, refused.word, fault),
+        CommandFault::Unprintable(mismatch) => mismatch_notes(alloc, mismatch),
         _ => Ok(Vec::new(alloc)),
     }
 }

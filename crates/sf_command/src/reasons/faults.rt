@@ -51,7 +51,7 @@ pub fn reason_of(
 }
 
 /// Whether a fault is one of the input, and not of the output or of memory.
-fn is_of_input(fault: CommandFault) -> bool
+pub fn is_of_input(fault: CommandFault) -> bool
     ensures { result ≡ is_of_input fault }
 {
     match fault {

@@ -1,0 +1,86 @@
+//! Mistakes that an input and a format show.
+ghost use Rattle.std.specs.Prelude.{◌≡◌, option_map};
+ghost use Rattle.sf_messages.specs.Mistakes.{are_class, begins_marked, begins_wide, byte_after_text, byte_of_text};
+ghost use Rattle.sf_messages.specs.Mistakes.{is_carriage, is_class, is_class_shape, is_open_text};
+
+use sf_format::{Conversion, Directive, Shape};
+
+/// Whether bytes begin with a byte order mark.
+pub(crate) fn begins_marked(rest: &[u8]) -> bool
+    ensures { result ≡ begins_marked rest.now }
+{
+    matches!(rest, [0xef, 0xbb, 0xbf, ..])
+}
+
+/// Whether bytes begin as those of UTF-16 do.
+pub(crate) fn begins_wide(rest: &[u8]) -> bool
+    ensures { result ≡ begins_wide rest.now }
+{
+    matches!(rest, [0xff, 0xfe, ..] | [0xfe, 0xff, ..])
+}
+
+/// Whether there is a carriage return, and no more.
+pub(crate) fn is_carriage(rest: &[u8]) -> bool
+    ensures { result ≡ is_carriage rest.now }
+{
+    matches!(rest, [b'\r'])
+}
+
+/// Whether a set has the bytes with which a class of POSIX begins.
+fn is_class_shape(shape: &Shape) -> bool
+    ensures { result ≡ is_class_shape shape.now }
+{
+    match shape {
+        Shape::Set(members) => members.contains(b'[') && members.contains(b':'),
+        Shape::Int(_) | Shape::Text | Shape::Chars | Shape::Float | Shape::Count => false,
+    }
+}
+
+/// Whether two directives are what a class of POSIX makes in a scan format: such a set, and a `]`.
+fn are_class(first: Option<&Directive>, next: Option<&Directive>) -> bool
+    ensures { result ≡ are_class (option_map (λ given. given.now) first.entry) (option_map (λ given. given.now) next.entry) }
+{
+    match (first, next) {
+        (Some(Directive::Conv(conversion)), Some(Directive::Byte(b))) => {
+            *b == b']' && is_class_shape(&conversion.shape)
+        }
+        _ => false,
+    }
+}
+
+/// Whether a class of POSIX stands at the directive with this number.
+pub(crate) fn is_class(directives: &[Directive], number: u16) -> bool
+    ensures { result ≡ is_class directives.now number }
+{
+    let next = usize::from(number);
+    are_class(directives.get(next.saturating_sub(1)), directives.get(next))
+}
+
+/// Whether a conversion takes a text up to white space, however long.
+fn is_open_text(conversion: &Conversion) -> bool
+    ensures { result ≡ is_open_text conversion.now }
+{
+    matches!(conversion.shape, Shape::Text) && conversion.width.is_none()
+}
+
+/// The byte that has to stand after such a text, where the two directives are these.
+fn byte_of_text(first: Option<&Directive>, next: Option<&Directive>) -> Option<u8>
+    ensures { result ≡ byte_of_text (option_map (λ given. given.now) first.entry) (option_map (λ given. given.now) next.entry) }
+{
+    match (first, next) {
+        (Some(Directive::Conv(conversion)), Some(Directive::Byte(b))) if is_open_text(conversion) =>
+            { Some(*b) }
+        _ => None,
+    }
+}
+
+/// The same at the directive with this number.
+pub(crate) fn byte_after_text(directives: &[Directive], number: u16) -> Option<u8>
+    ensures { result ≡ byte_after_text directives.now number }
+{
+    let next = usize::from(number);
+    byte_of_text(
+        directives.get(next.saturating_sub(2)),
+        directives.get(next.saturating_sub(1)),
+    )
+}
