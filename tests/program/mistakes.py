@@ -46,6 +46,7 @@ sf: value 1: bad escape at 2
   \d is no escape: after a backslash stands one of \ n t v f r, or x and two hexadecimal digits
   "C:\\data"
      ^
+  with --raw values are taken as they stand
 """),
     (r"scan 'total 5%'", """
 sf: scan format: F1 Truncated at 8
@@ -76,6 +77,60 @@ sf: scan format: F4 UnknownLetter at 1
   "-": a flag stands first in a conversion, and in a print format alone; of two formats the print format comes first
   "%-5d"
     ^
+"""),
+    (r"scan -p3 '%5.2f'", """
+sf: scan format: F4 UnknownLetter at 2
+  ".": a scan format has no precision: write %5f, and not %5.2f
+  "%5.2f"
+     ^
+"""),
+    (r"scan -p3 '%5?d'", """
+sf: scan format: F4 UnknownLetter at 2
+  "?": what may be missing has a ? before its width, in a scan format and by --profile 3: write %?5d
+  "%5?d"
+     ^
+"""),
+    (r"scan -p3 '%?*d'", """
+sf: scan format: F4 UnknownLetter at 2
+  "*": a star stands before a ? and a width: write %*?5d
+  "%?*d"
+     ^
+"""),
+    (r"scan %b", """
+sf: scan format: F4 UnknownLetter at 1
+  "b": base 2 is read and printed by --profile 2
+  "%b"
+    ^
+"""),
+    (r"print %b 5", """
+sf: print format: F4 UnknownLetter at 1
+  "b": base 2 is read and printed by --profile 2
+  "%b"
+    ^
+"""),
+    (r"scan %D", """
+sf: scan format: F4 UnknownLetter at 1
+  "D": the length l makes long integers: write %ld, %lo or %lu
+  "%D"
+    ^
+"""),
+    (r"scan -p3 %Lf", """
+sf: scan format: F5 LeftOut at 1
+  %L: long double is not part of sf; %lf is a double
+  "%Lf"
+    ^
+"""),
+    (r"scan -l --print '%x\n' %d", """
+sf: print format: value 1 is u32, the scan format gives i32
+  u32 is read by %u, and i32 is printed by %d
+"""),
+    (r"scan --print '%s\n' %d", """
+sf: print format: value 1 is text, the scan format gives i32
+  text is read by %s, and i32 is printed by %d
+"""),
+    (r"scan -p3 -l --print '%.1f\n' %d", """
+sf: print format: value 1 is f64, the scan format gives i32
+  f64 is read by %lf, and i32 is printed by %d
 """),
     (r"scan '%ls'", """
 sf: scan format: F5 LeftOut at 2
@@ -213,6 +268,19 @@ sf: pair: Q2 KindDiffers at 1
   scan format, directive 1: "%8u", u u32 width 8 slot 1
   print format, directive 1: x u32 flags "" width - precision - slot 1
 """),
+    (r"copy -p3 '%.2f;' '%8f;'", """
+sf: pair: Q2 KindDiffers at 1
+  the kinds or the letters of the two conversions differ: the scan format has f32, write %lf
+  scan format, directive 1: "%8f", f f32 width 8 slot 1
+  print format, directive 1: f f64 flags "" width - precision 2 slot 1
+"""),
+    (r"copy -p3 '%#g.' '%30lf.'", """
+sf: pair: Q6 RunsOn at 1
+  what is written next could be read by this directive too: write a byte between them at which it stops; \
+before . x X a float with # or with zeros in front is refused, though it reads back
+  scan format, directive 1: "%30lf", f f64 width 30 slot 1
+  print format, directive 1: g f64 flags "#" width - precision - slot 1
+"""),
     (r"copy '%2$d-%1$d\n' '%11d-%11d%*1[\n]'", """
 sf: pair: Q3 NumberDiffers at 1
   the two conversions are of different values
@@ -306,6 +374,47 @@ sf: line 2: matching failure at 2, used 1, assigned 1
     (r"scan --lines --whole %d", "1\n2 x\n", """
 sf: line 2: left over at 1
   there stood " x"
+"""),
+    (r"scan -lw '%d'", "1\r\n", r"""
+sf: line 1: left over at 1
+  there stood "\x0d"
+  the line ends with a carriage return: a space at the format's end takes it
+"""),
+    (r"scan -l '%s,%d'", "a,1\n", """
+sf: line 1: input failure at 2, used 3, assigned 1
+  directive 2: ",", byte ","
+  the input ended there
+  %s takes all up to white space: a text that ends before the next byte of the format is "%[^,]"
+"""),
+    (r"scan -l '%d %s:%s'", "1 a:b c\n", """
+sf: line 1: matching failure at 4, used 5, assigned 2
+  directive 4: ":", byte ":"
+  there stood " c"
+  %s takes all up to white space: a text that ends before the next byte of the format is "%[^:]"
+"""),
+    (r"scan -l '%[[:digit:]]'", "12\n", """
+sf: line 1: matching failure at 1, used 0, assigned 0
+  directive 1: "%[[:digit:]", [ text width - slot 1 members 6
+  there stood "12"
+  classes as [:digit:] are not part of scanf: write %[0-9]
+"""),
+    (r"scan -l '%d'", "\ufeff1\n", r"""
+sf: line 1: matching failure at 1, used 0, assigned 0
+  directive 1: "%d", d i32 width - slot 1
+  there stood "\xef\xbb\xbf1"
+  a byte order mark stands there: sed '1s/^\xef\xbb\xbf//' takes it away
+"""),
+    (r"scan -p3 -l '%f'", "1e39\n", """
+sf: line 1: out of range at 1, used 4, assigned 0
+  directive 1: "%f", f f32 width - slot 1
+  directive 1 wants a number from -3.4028235e38 to 3.4028235e38
+  the input ended there
+"""),
+    (r"scan -p3 -l '%lf'", "-1e309\n", """
+sf: line 1: out of range at 1, used 6, assigned 0
+  directive 1: "%lf", f f64 width - slot 1
+  directive 1 wants a number from -1.7976931348623157e308 to 1.7976931348623157e308
+  the input ended there
 """),
     (r"scan --lines %hhu", "300\n", """
 sf: line 1: out of range at 1, used 3, assigned 0
@@ -629,6 +738,11 @@ class Mistakes(unittest.TestCase):
     def test_a_file_that_cannot_be_opened(self):
         for words in (["scan", "%d", "/gone"], ["scan", "--lines", "%d", "/gone"], ["copy", "%d;", "%11d;", "/gone"]):
             self.reasons(words, "sf: /gone: can't be opened\n", GONE)
+        first = "  the format stands before the files\n"
+        quotes = "  a format with spaces stands between quotes, and after -e each word is a file\n"
+        self.reasons(["scan", "/gone", "/%d"], "sf: /%d: can't be opened\n", GONE + first)
+        self.reasons(["scan", "%d", "/%d"], "sf: /%d: can't be opened\n", GONE + quotes)
+        self.reasons(["scan", "-l", "/%d %d", "-e", "%d"], "sf: /%d %d: can't be opened\n", GONE + quotes)
         name = "/" + "n" * 300
         self.reasons(["scan", "%d", name], f"sf: {name}: can't be opened\n", LONG)
         both = f"sf: /gone: can't be opened\n{GONE}sf: /lost: can't be opened\n{GONE}"

@@ -4,7 +4,7 @@ use std::alloc::Global;
 use std::test::Fail;
 
 /// Words, between which bars stand, and the order that they make.
-static ORDERS: [(&str, &str); 99] = [
+static ORDERS: [(&str, &str); 106] = [
     ("show|%3d,%*s", "Show 1048576 |%3d,%*s"),
     ("scan|%d,%d", "Scan 1048576 |%d,%d"),
     ("scan|--limit|3|%s", "Scan 3 |%s"),
@@ -186,10 +186,26 @@ static ORDERS: [(&str, &str); 99] = [
         "Scan 1048576 lines skip 0 keep-going quiet |%d print=%d ignore=#",
     ),
     ("print|--raw|%s|a\\q", "Print 1048576 |%s |a\\q raw"),
+    ("scan|-lw|%d", "Scan 1048576 lines skip 0 whole |%d"),
+    (
+        "scan|-lwke|-w|%d",
+        "Scan 1048576 lines skip 0 whole keep-going |-w file=%d",
+    ),
+    (
+        "scan|-l|--ignore|--%*s|%d",
+        "Scan 1048576 lines skip 0 |%d ignore=--%*s",
+    ),
+    ("scan|--print|-%d|%d", "Scan 1048576 |%d print=-%d"),
+    ("print|%d|-5", "Print 1048576 |%d |-5"),
+    ("print|%d %s|-5|--raw", "Print 1048576 |%d %s |-5 |--raw"),
+    (
+        "print|-p|2|--raw|%d|-5|-x",
+        "Print 1048576 profile-2 |%d |-5 |-x raw",
+    ),
     ("check|%d\\n", "Check 1048576 |%d\\n"),
     ("check|--|-%d", "Check 1048576 |-%d"),
     ("check|--width|20|%s", "Check 1048576 |%s width=20"),
-    ("check|%s|--width=255", "Check 1048576 |%s width=255"),
+    ("check|%s|--width=65535", "Check 1048576 |%s width=65535"),
     ("check|--width|001|%s", "Check 1048576 |%s width=1"),
     ("scan|%d|a|-|b", "Scan 1048576 |%d file=a file=- file=b"),
     ("scan|%d|", "Scan 1048576 |%d file="),
