@@ -55,13 +55,9 @@ holds_all wide narrow =
     if is_text narrow then is_text wide else
     not (is_text wide) && (is_signed wide || not (is_signed narrow)) && nat_le (bits_of narrow) (bits_of wide)
 
--- `int` where the print format has `long`: the one widening that isn't taken
-abbrev pub is_int_for_long : Kind → Kind → Bool
-is_int_for_long kind.I64 kind.I32 = true
-is_int_for_long _ _ = false
-
+-- a value of the second kind may be printed as one of the first
 abbrev pub suit : Option Kind → Option Kind → Bool
-suit (Some printed_kind) (Some scanned) = holds_all printed_kind scanned && not (is_int_for_long printed_kind scanned)
+suit (Some printed_kind) (Some scanned) = holds_all printed_kind scanned
 suit _ _ = false
 
 -- what the print format prints with the slot has each value that the scan format gives it, and isn't `long` for `int`

@@ -3,7 +3,7 @@ ghost use Rattle.std.specs.Prelude.{◌≡◌, ◌≤◌, ◌<◌, ◌+◌, Some
 ghost use Rattle.sf_format.specs.Proper.{destinations_of};
 ghost use Rattle.sf_format.specs.Units.{is_signed, is_text, values_of};
 ghost use Rattle.sf_forms.specs.makers.Prints.{IsMismatch, IsPrintable, bits_of, holds_all, holds_floats, is_float};
-ghost use Rattle.sf_forms.specs.makers.Prints.{is_int_for_long, suit, suits};
+ghost use Rattle.sf_forms.specs.makers.Prints.{suits};
 
 use sf_base::Kind;
 use sf_format::{PrintFormat, ScanFormat};
@@ -14,7 +14,7 @@ pub enum PrintMismatch {
     /// It prints so many values, and the scan format gives so many.
     Count { values: u8, destinations: u8 },
     /// The lowest value that doesn't suit: it prints one kind there, which doesn't hold each value of the kind that the
-    /// scan format gives, or is i64 where that gives i32. Slots are counted from 1.
+    /// scan format gives. Slots are counted from 1.
     Kinds { slot: u8, print: Kind, scan: Kind },
 }
 
@@ -76,20 +76,6 @@ pub(crate) fn holds_all(wide: Kind, narrow: Kind) -> bool
     !is_text(wide) && (is_signed(wide) || !is_signed(narrow)) && bits_of(narrow) <= bits_of(wide)
 }
 
-/// Whether the print format has `long` where the scan format gives `int`.
-fn is_int_for_long(print: Kind, scan: Kind) -> bool
-    ensures { result ≡ is_int_for_long print scan }
-{
-    matches!((print, scan), (Kind::I64, Kind::I32))
-}
-
-/// Whether a value of one kind may be printed as another kind.
-fn suits(print: Kind, scan: Kind) -> bool
-    ensures { result ≡ suit (Some print) (Some scan) }
-{
-    holds_all(print, scan) && !is_int_for_long(print, scan)
-}
-
 /// Why the value with a slot doesn't suit.
 fn mismatch_at(print: &PrintFormat, scan: &ScanFormat, slot: u8) -> Option<PrintMismatch>
     requires counted { 1 ≤ slot }
@@ -101,7 +87,7 @@ fn mismatch_at(print: &PrintFormat, scan: &ScanFormat, slot: u8) -> Option<Print
 {
     match (print.kind(slot), scan.kind(slot)) {
         (Some(print), Some(scan)) => {
-            if suits(print, scan) {
+            if holds_all(print, scan) {
                 None
             } else {
                 Some(PrintMismatch::Kinds { slot, print, scan })
@@ -113,7 +99,7 @@ fn mismatch_at(print: &PrintFormat, scan: &ScanFormat, slot: u8) -> Option<Print
 
 /// Whether the print format can print the records of the scan format: it prints as many values as that gives, and each
 /// of a kind that has each value of the kind that is given there, as i16 has each of i8 and of u8, and f64 each of f32.
-/// But i32 isn't taken for i64. Else the counts, or the lowest value that doesn't suit. It takes no memory.
+/// Else the counts, or the lowest value that doesn't suit. It takes no memory.
 pub fn check_print(print: &PrintFormat, scan: &ScanFormat) -> Result<(), PrintMismatch>
     ensures printable { IfOk result (λ _. IsPrintable print.now scan.now) }
     ensures mismatch { IfErr result (λ why. IsMismatch print.now scan.now why) }
