@@ -4,7 +4,7 @@ import subprocess
 
 from made import ROOT, SECONDS, Clone, written
 
-ALL = "42 passed, 0 failed, 0 skipped"
+ALL = "48 passed, 0 failed, 0 skipped"
 SAME = "The program that was proved and built here is the prebuilt one, byte for byte: its tests have run, and count once."
 
 
@@ -26,7 +26,7 @@ class Gate(Clone):
 
     def test_a_program_that_can_not_be_linked_is_a_failure(self):
         written(self.clone + "/prebuilt/finish", "exit 1")
-        lines = self.expect(1, "42 passed, 1 failed, 0 skipped", "--prove")
+        lines = self.expect(1, "48 passed, 1 failed, 0 skipped", "--prove")
         self.assertIn("  prebuilt/finish: crates/sf/out/sf could not be linked", lines)
 
     def test_each_wrong_body_is_tried_where_that_is_asked_for(self):
@@ -37,9 +37,19 @@ class Gate(Clone):
         self.expect(0, ALL, "--prove")
         self.assertEqual(len(self.calls("program")), 1)
 
+    def test_what_wants_the_program_that_rt_made_runs_over_what_was_built(self):
+        self.expect(0, ALL, "--prove")
+        first, second = self.calls("hostile")
+        self.assertTrue(first.endswith("/sf --but refusals: "), first)
+        self.assertEqual(second, "--only refusals:  --sf crates/sf/out/sf")
+        os.remove(self.room + "/calls")
+        self.rt("another program")
+        self.ran("--prove")
+        self.assertEqual(self.calls("hostile")[1], "--sf crates/sf/out/sf")
+
     def test_what_ran_over_another_program_runs_again_and_counts_once(self):
         self.rt("another program")
-        lines = self.expect(0, ALL, "--prove")
+        lines = self.expect(0, "45 passed, 0 failed, 0 skipped", "--prove")
         self.assertNotIn(SAME, lines)
         first, second = self.calls("program")
         self.assertNotEqual(first, second)
@@ -66,7 +76,7 @@ class Gate(Clone):
 
     def test_it_goes_on_where_that_is_asked_for_and_forgets_no_failure(self):
         self.says("library", "2 passed, 1 failed", status=1)
-        self.expect(1, "41 passed, 1 failed, 0 skipped", "--prove", "--keep-going")
+        self.expect(1, "47 passed, 1 failed, 0 skipped", "--prove", "--keep-going")
         self.assertEqual(self.proofs(), ["ci"])
 
     def test_a_prebuilt_program_of_other_sources_ends_it_before_the_proofs(self):
@@ -94,7 +104,7 @@ class Gate(Clone):
 
     def test_proofs_that_fail_are_a_failure(self):
         self.rt("another program", last="4 passed, 1 failed")
-        self.expect(1, "41 passed, 1 failed, 0 skipped", "--prove")
+        self.expect(1, "44 passed, 1 failed, 0 skipped", "--prove")
 
     def test_a_program_that_is_not_built_is_a_failure(self):
         written(self.bin + "/rt", "echo '5 passed, 0 failed'")
@@ -105,7 +115,7 @@ class Gate(Clone):
                     "the prebuilt program was built with a kit, and the kit here is none"):
             with self.subTest(why):
                 self.says("program", f"passed over: a row: {why}", "2 passed, 0 failed, 1 skipped")
-                lines = self.expect(1, "41 passed, 1 failed, 1 skipped", "--prove", "--keep-going")
+                lines = self.expect(1, "47 passed, 1 failed, 1 skipped", "--prove", "--keep-going")
                 self.assertIn(f"  tests/program: the gate may not pass over a row: {why}", lines)
 
     def test_what_no_base_has_and_what_the_machine_forbids_may_be_and_is_counted(self):
@@ -114,7 +124,7 @@ class Gate(Clone):
                     "the prebuilt program was linked with gcc 1, libc.a 12ab, and the linker here is rt"):
             with self.subTest(why):
                 self.says("refusals", f"passed over: a row: {why}", "2 passed, 0 failed, 1 skipped")
-                lines = self.expect(0, "41 passed, 0 failed, 1 skipped", "--prove")
+                lines = self.expect(0, "47 passed, 0 failed, 1 skipped", "--prove")
                 self.assertTrue(any(line.startswith(f"  tests/refusals, a row: {why}") for line in lines))
 
     def test_ci_runs_the_gate(self):

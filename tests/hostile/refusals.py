@@ -1,12 +1,14 @@
 """Each refusal in turn: the Nth allocation, the Nth read and the Nth write fails; reads and writes move a byte at a time.
 
-refusals.c stands between the program and the C library. A refused allocation ends the call with status 4 and a front of
+refusals.c stands between the program and the C library of the system. A program that is linked statically has none: then
+what rt made of the same object is called, which lies beside it as NAME.dynamic. A refused allocation ends the call with status 4 and a front of
 its output, or changes nothing; a failing read or write ends it with status 3, at that byte.
 """
 import errno
 import itertools
 import os
 import shutil
+import struct
 import subprocess
 import tempfile
 from unittest import SkipTest
@@ -39,24 +41,41 @@ CALLS = [
     ("no pair", ["copy", "%d", "%3d"], b""),
 ]
 
+# The kind of a program's part that names a loader.
+LOADER = 3
+
 # Where a call has more allocations than this, some of those amid them are left out.
 MOST = 60
 
 
+def is_dynamic(path):
+    """Whether one of the parts of a program names a loader, which brings the C library."""
+    with open(path, "rb") as file:
+        data = file.read(4096)
+    start, (size, count) = struct.unpack_from("<Q", data, 32)[0], struct.unpack_from("<HH", data, 54)
+    return LOADER in [struct.unpack_from("<I", data, start + at * size)[0] for at in range(count)]
+
+
+def with_library():
+    """The program over the C library of the system, or None."""
+    return next((it for it in (program.path, program.path + ".dynamic") if os.access(it, os.X_OK) and is_dynamic(it)), None)
+
+
 class Refusals:
-    """The library that refuses, built once; None where there is no C compiler."""
+    """The library that refuses, built once where there is a C compiler, and the program that it stands before."""
 
     def __init__(self):
         compiler = os.environ.get("CC") or shutil.which("cc")
         self.folder = tempfile.TemporaryDirectory(prefix="sf_refusals_")
         self.library = os.path.join(self.folder.name, "refusals.so")
         self.is_built = compiler is not None
+        self.path = with_library()
         if self.is_built:
             subprocess.run([compiler, "-O1", "-shared", "-fPIC", "-o", self.library, os.path.join(HERE, "refusals.c")], check=True)
 
     def run(self, words, text, **what):
         environment = {"LD_PRELOAD": self.library, "PATH": os.environ["PATH"], **{name: str(it) for name, it in what.items()}}
-        return program.run(*words, stdin=text, env=environment)
+        return program.run_command([self.path, *words], text, env=environment)
 
     def counts(self, words, text):
         """How many allocations, reads and writes the call makes."""
@@ -151,14 +170,17 @@ def reads(refusals, words, text, lines, name=b"record"):
     return check
 
 
-def left_out():
-    raise SkipTest("there is no cc")
+def left_out(why):
+    def check():
+        raise SkipTest(why)
+    return check
 
 
 def checks():
     refusals = Refusals()
+    why = "there is no cc" if not refusals.is_built else "" if refusals.path else "what rt made of the program isn't here"
     for name, call in checks_by(refusals):
-        yield name, call if refusals.is_built else left_out
+        yield name, left_out(why) if why else call
 
 
 def checks_by(refusals):
