@@ -419,6 +419,12 @@ class Builds(Launcher):
         self.command("find", "#!/bin/sh\nexit 1\n")
         self.expect_older("first", builds=1)
 
+    def test_where_a_folder_can_not_be_looked_through_after_a_build_no_sum_is_noted(self):
+        find = shutil.which("find")
+        self.command("find", f"#!/bin/sh\n[ \"$1\" != crates.txt ] || exit 1\nexec {find} \"$@\"\n")
+        self.assertEqual(self.call("--build")[0], 0)
+        self.assertFalse(os.path.exists(self.clone + "/crates/sf/out/SUM"))
+
     def test_a_current_program_is_found_by_one_find(self):
         self.build(1)
         self.expect("first", builds=1)
