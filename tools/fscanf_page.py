@@ -21,7 +21,7 @@ import sys
 
 ROOT = os.path.dirname(os.path.dirname(os.path.abspath(__file__)))
 PAGE = "docs/FSCANF.md"
-COLUMNS = 116
+COLUMNS = 118
 # What the theorem of the scan says, as its calls do.
 ROOTS = [("crates/sf_report/specs/Limits.antt", "RunTold"), ("crates/sf_report/specs/Runs.antt", "c_return"), ("crates/sf_report/specs/Laws.antt", "EachHasOneReport")]
 BLOCK = re.compile(r"^```(antt|rust)\n(?:--|//) (\S+)\n(.*?)^```$", re.MULTILINE | re.DOTALL)
@@ -219,7 +219,8 @@ def quoted_anew(block):
         for name in DEFINITION.findall(part) or part.split():
             if at.parts[name] not in parts:
                 parts.append(at.parts[name])
-    lines = "\n\n".join(parts).split("\n")
+    text = re.sub(r"^( *-- (?!-).*)\n *-- (?!-)", r"\1 ", "\n\n".join(parts), flags=re.MULTILINE)
+    lines = re.sub(r"^( *-- (?!-).*)\n *-- (?!-)", r"\1 ", text, flags=re.MULTILINE).split("\n")
     return f"```{kind}\n-- {path}\n" + "\n".join(it for line in lines for it in folded(line)) + "\n```"
 
 

@@ -1,4 +1,4 @@
-"""No package is wanted but python3's own library: what the tests import is there, or stands in tests/."""
+"""No package is wanted but python3's own library: what the tests and tools import is there, or stands in tests/ or tools/."""
 import ast
 import glob
 import os
@@ -10,9 +10,13 @@ from made import ROOT
 
 
 def sources():
-    """The sources of the tests in Python, and of ./test."""
+    """The sources of the tests and the tools in Python, and of ./test."""
     runners = [it for it in glob.glob(f"{ROOT}/tests/*/run") if "python3" in first_line(it)]
-    return [f"{ROOT}/test", *runners, *glob.glob(f"{ROOT}/tests/**/*.py", recursive=True)]
+    return [f"{ROOT}/test", *runners, *modules()]
+
+
+def modules():
+    return glob.glob(f"{ROOT}/tests/**/*.py", recursive=True) + glob.glob(f"{ROOT}/tools/*.py")
 
 
 def first_line(path):
@@ -32,8 +36,8 @@ def imported(path):
 
 
 def foreign(path):
-    """Those that are neither python3's own nor of the tests."""
-    ours = {os.path.basename(it)[:-3] for it in glob.glob(f"{ROOT}/tests/**/*.py", recursive=True)}
+    """Those that are neither python3's own nor of the tests or the tools."""
+    ours = {os.path.basename(it)[:-3] for it in modules()}
     return sorted(set(imported(path)) - set(sys.stdlib_module_names) - ours)
 
 

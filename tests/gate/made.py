@@ -15,7 +15,7 @@ SECONDS = 60
 
 SUM = "sources 12ab\n"
 PROGRAM = "the program"
-TOOLS = ("rt", "gcc", "cc", "git", "make", "valgrind", "gzip", "fish", "zsh", "groff", "mandoc", "mlr", "parallel", "xxd")
+TOOLS = ("rt", "gcc", "cc", "git", "make", "valgrind", "gzip", "fish", "zsh", "groff", "mandoc", "mlr", "musl-gcc", "parallel", "xxd")
 TESTS = ("bench", "cookbook", "edits", "gate", "hostile", "layout", "library", "prebuilt", "program", "refusals")
 
 

@@ -1,12 +1,14 @@
 """The program beside tools/fscanf.py, which shares nothing with it.
 
-On each case of tests/program that scans or shows and that needs nothing else of the command: what the table says is what the
-reference gives. On formats and inputs by chance, always the same ones: what the program says is. And the reference beside
+On each case of tests/program that scans or shows and that needs nothing else of the command, and on each row of crates/sf_rows: what
+the table says is what the reference gives. On formats and inputs by chance, always the same ones: what the program says is. And the reference beside
 the C libraries that are there: where these differ from it, docs/LIBCS.md says why.
 """
+import ast
 import decimal
 import os
 import random
+import re
 import shutil
 import sys
 import tempfile
@@ -222,6 +224,82 @@ def of_table(turn, turns):
     return check
 
 
+# ---- the rows of crates/sf_rows
+
+ROW = re.compile(
+    r"ScanRow \{\s*profile: Profile::(\w+),\s*format: (b\".*\"),\s*limit: (\w+),\s*text: (.*),\s*"
+    r"told: Told::(\w+)\(((?s:.*?))\),\s*values: &\[((?s:.*?))\],\s*at_once"
+)
+FAULT = re.compile(r"\((b\".*\"), (\d+), FormatWhy::(\w+)\)")
+PROFILES = {"One": 1, "Two": 2, "Three": 3}
+# Which parts of a report a row has, in its order; what else it has of them follows.
+TOLD = {
+    "Done": ("assigned", "used", "met"),
+    "Counted": ("assigned", "converted", "used", "met"),
+    "Failed": ("status", "at", "assigned", "used", "met"),
+    "FailedAfter": ("status", "at", "assigned", "converted", "used", "met"),
+}
+
+
+def source(name):
+    with open(os.path.join(program.ROOT, "crates", "sf_rows", "src", name), encoding="utf-8") as file:
+        return file.read()
+
+
+def bytes_at(text):
+    """The bytes of a literal, or of one byte that is repeated."""
+    many = re.fullmatch(r"&\[(b'.*'); (\d+)\]", text)
+    return ast.literal_eval(many[1]) * int(many[2]) if many else ast.literal_eval(text)
+
+
+def report_in(row, told, values):
+    """The report of a row, with each value at its slot."""
+    has = dict(zip(TOLD[row], (it.strip().rpartition(":")[2] for it in told.split(","))))
+    shown = [bytes_at(it) if kind == "Text" else int(it) for kind, it in re.findall(r'Value::(\w+)\((b".*?"|-?\d+)\)', values)]
+    counts = {it: int(has.get(it, has["assigned"] if it == "converted" else "0")) for it in ("at", "assigned", "converted", "used")}
+    met = "End" if has["met"] == "End" else None
+    return fscanf.Report(has.get("status", "Done"), met=met, values=dict(enumerate(shown, 1)), **counts)
+
+
+def rows():
+    """What is wrong with a row of a scan, if anything is; and how many rows there are."""
+    wrong, count = [], 0
+    for name in sorted(os.listdir(os.path.join(program.ROOT, "crates", "sf_rows", "src"))):
+        for profile, format_, limit, text, *told, values in ROW.findall(source(name)):
+            directives = scan_formats.directives_of(bytes_at(format_), PROFILES[profile])
+            report = fscanf.run(directives, bytes_at(text), LIMIT if limit == "LIMIT" else int(limit))
+            got, due = report._replace(values=dict(report.values)), report_in(*told, values)
+            count += 1
+            if got != due:
+                wrong.append(f"{name}: {format_} of {text}: {got}, must be {due}")
+    return wrong, count
+
+
+def of_rows():
+    wrong, count = rows()
+    if count != source_count():
+        wrong.append(f"{count} rows were read, and there are {source_count()}")
+    return "; ".join(wrong)
+
+
+def source_count():
+    names = os.listdir(os.path.join(program.ROOT, "crates", "sf_rows", "src"))
+    return sum(source(it).count("    ScanRow {") for it in names if it.endswith("_scans.rt"))
+
+
+def of_faults():
+    table_, wrong = source("fault_rows.rt").partition("static PRINT_FAULTS")[0], []
+    found = FAULT.findall(table_)
+    for text, at, why in found:
+        try:
+            got = f"no fault: {scan_formats.directives_of(ast.literal_eval(text))}"
+        except scan_formats.Fault as fault:
+            got = f"{fault.why.split()[1]} at {fault.at}"
+        if got != f"{why} at {at}":
+            wrong.append(f"{text}: {got}, must be {why} at {at}")
+    return "; ".join(wrong) or ("" if len(found) == table_.count("FormatWhy::") else "a row was not read")
+
+
 # ---- formats and inputs by chance
 
 # How many checks there are, how many formats each has, and on how many lines and how many whole inputs each is tried.
@@ -326,6 +404,8 @@ def checks():
     for name in libcs.COMPILERS:
         for seed in (1, 2):
             yield f"beside {name} {seed}", beside(name, seed)
+    yield "the rows of scans", of_rows
+    yield "the rows of faults", of_faults
     for turn in range(8):
         yield f"cases {turn}", of_table(turn, 8)
     for seed in range(ROUNDS):
