@@ -4,7 +4,8 @@
  * writes a line: what fscanf returns, how many bytes it has consumed, and what each destination holds then, in
  * hexadecimal digits. Each byte of a destination was 0xA5 before.
  */
-#define _GNU_SOURCE
+/* for fmemopen; by _GNU_SOURCE later versions of glibc read as C23, in which %i takes 0b */
+#define _POSIX_C_SOURCE 200809L
 #include <stdio.h>
 #include <stdlib.h>
 #include <string.h>

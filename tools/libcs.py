@@ -95,7 +95,7 @@ UNTOUCHED = b"\xa5"
 def built(compiler, room):
     """tools/libcs.c as a compiler builds it."""
     program = os.path.join(room, re.sub(r"\W", "_", compiler))
-    subprocess.run([*compiler.split(), "-O1", "-w", "-o", program, os.path.join(HERE, "libcs.c")], check=True)
+    subprocess.run([*compiler.split(), "-std=c11", "-O1", "-w", "-o", program, os.path.join(HERE, "libcs.c")], check=True)
     return program
 
 
