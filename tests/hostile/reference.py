@@ -231,6 +231,7 @@ ROW = re.compile(
     r"told: Told::(\w+)\(((?s:.*?))\),\s*values: &\[((?s:.*?))\],\s*at_once"
 )
 FAULT = re.compile(r"\((b\".*\"), (\d+), FormatWhy::(\w+)\)")
+RETURN = re.compile(r"\((b\"[^\"]*\"), (-?\d+)\)")
 PROFILES = {"One": 1, "Two": 2, "Three": 3}
 # Which parts of a report a row has, in its order; what else it has of them follows.
 TOLD = {
@@ -285,6 +286,13 @@ def of_rows():
 def source_count():
     names = os.listdir(os.path.join(program.ROOT, "crates", "sf_rows", "src"))
     return sum(source(it).count("    ScanRow {") for it in names if it.endswith("_scans.rt"))
+
+
+def of_returns():
+    """What C's function returns for texts by `%d %d`."""
+    directives, found = scan_formats.directives_of(b"%d %d"), RETURN.findall(source("scan_rows.rt"))
+    wrong = [(text, due) for text, due in found if fscanf.c_return(fscanf.run(directives, ast.literal_eval(text))) != int(due)]
+    return f"{wrong}" if wrong or len(found) < 5 else ""
 
 
 def of_faults():
@@ -405,6 +413,7 @@ def checks():
         for seed in (1, 2):
             yield f"beside {name} {seed}", beside(name, seed)
     yield "the rows of scans", of_rows
+    yield "the rows of what C returns", of_returns
     yield "the rows of faults", of_faults
     for turn in range(8):
         yield f"cases {turn}", of_table(turn, 8)
