@@ -19,6 +19,7 @@ import glob
 import os
 import re
 
+from about import About, Head, blocks_of, owner_at
 from same import is_same
 
 # Comments, strings and characters.
@@ -47,9 +48,14 @@ def closing(text, at):
     return len(text) - 1
 
 
+@functools.lru_cache(maxsize=None)
 def bodies(text):
-    """The name of each function of a source, and the first and the last place of its body. Its clauses stand before it, in braces."""
-    text = without_text(text)
+    """The name of each function of a source, and the first and the last place of its body."""
+    return tuple(found_in(without_text(text)))
+
+
+def found_in(text):
+    """The bodies of a text without its comments and strings. The clauses of a function stand before its body, in braces."""
     for head in re.finditer(r"\bfn\s+(\w+)", text):
         at, is_clause = head.end(), False
         while at < len(text) and text[at] != ";":
@@ -251,9 +257,15 @@ class Edit:
         inside = [it for it in bodies(was) if it[1] < first and end <= it[2]]
         if not inside and not any(opens <= first and end <= closes for opens, closes in definitions(was)):
             raise BadEdit("what it changes is neither the body of one function nor a definition")
-        if inside and is_same(*(text[inside[0][1] : inside[0][2] + 1 + len(text) - len(was)] for text in (was, now))):
-            raise BadEdit("it changes no value: the expression is the same as before")
+        if inside and self.is_harmless(was, now, *inside[0]):
+            raise BadEdit("it changes no value: the body comes to the same as before")
         return (file, inside[0][0]) if inside else None
+
+    def is_harmless(self, was, now, name, opens, closes):
+        """Whether the body is known to come to the same as before."""
+        head = Head(head_of(was, name, opens), owner_at(blocks_of(without_text(was)), opens))
+        bodies_of_both = (text[opens : closes + 1 + len(text) - len(was)] for text in (was, now))
+        return is_same(*bodies_of_both, about(self.folder), head if head.is_read else None)
 
     def asked(self):
         """What a check must judge, by the name that it prints."""
@@ -295,6 +307,11 @@ class Edit:
         found = types_of(self.folder).get(name, [])
         return found[0] if len(found) == 1 else None
 
+    def has_answers(self):
+        """Whether the function that is changed has hand-written answers; of one whose name is not known, any of its name."""
+        path = self.asks.split("::")[1:] if self.is_function else ["**", self.place[1]]
+        return bool(glob.glob("/".join([glob.escape(self.folder), "proofs", *path, "Answers.antt"]), recursive=True))
+
     def names(self):
         """What a check may call the function, and what stands inside it; of one whose name is not known, for any type of its module."""
         if not self.place or self.is_function:
@@ -305,6 +322,19 @@ class Edit:
     def goes_with(self, other):
         """Whether a round can have both: they change different functions, and what a check says of the one can't be taken for the other."""
         return self.place != other.place or self.is_function and other.is_function and self.asks != other.asks
+
+
+@functools.lru_cache(maxsize=None)
+def about(folder):
+    """What the sources of a crate say of its names."""
+    files = sorted(glob.glob(f"{folder}/src/**/*.rt", recursive=True))
+    return About(without_text(read(it)) for it in files)
+
+
+def head_of(text, name, opens):
+    """The head of the function whose body begins at a place."""
+    text = without_text(text)[:opens]
+    return text[[it.start() for it in re.finditer(rf"\bfn\s+{re.escape(name)}\b", text)][-1] :]
 
 
 def is_named(text, name, opens, wanted):

@@ -5,9 +5,10 @@ The crate is taken as `rt ci` leaves one: proved, with nothing kept of its proof
 import os
 
 import itself_kept
+import itself_same
 import kit
 from edit import edits_in
-from judge import is_own
+from judge import CITES, UNCLEAR, Judged, is_own
 from rounds import Tries
 from same import is_same
 
@@ -135,7 +136,8 @@ returns-clause-within c = omega (arith, c.if-n-gt10.false)
 # `width` one is of a trait for a type, one of that trait for a number, and the last has another name than the runner finds.
 EDITS = {
     "lib.next.twice": ("in: next\nold: n + 1\nnew: n * 1", "low::next: "),
-    "lib.after_next.same": ("old: let following = next(n);\nnew: let following: u8 = next(n);", "NOT REFUSED"),
+    "lib.after_next.same": ("old: let following = next(n);\nnew: let (following, _) = (next(n), 0);", "NOT REFUSED"),
+    "lib.after_next.same_by_type": ("old: let following = next(n);\nnew: let following: u8 = next(n);", "BAD EDIT: it changes no value"),
     "lib.third.no_such_name": ("old: let following = after_next(n);\nnew: let following = no_such_name(n);", "BAD EDIT"),
     "lib.third.text_is_gone": ("old: n + 7\nnew: n", "BAD EDIT"),
     "lib.third.text_is_there_twice": ("old: next(following)\nnew: following", "BAD EDIT"),
@@ -159,8 +161,12 @@ EDITS |= {
         ("eleven", "old: return 10;\nnew: return 11;\nopen: within", "low::steps::bounded: "),
         ("eleven_for_another", "old: return 10;\nnew: return 11;\nopen: own", "NOT REFUSED for own"),
         ("eleven_for_a_misspelled", "old: return 10;\nnew: return 11;\nopne: within", "BAD EDIT: it has a line of no known kind"),
-        ("ten_by_name", "old: return 10;\nnew: let ten = 10; return ten;", "NOT REFUSED"),
-        ("test_by_name", "old: if n > 10 {\nnew: let is_more = n > 10; if is_more {", "BAD EDIT: its proof cites what the edit renamed"),
+        ("ten_by_name", "old: return 10;\nnew: let ten = 10; return ten;", "BAD EDIT: it changes no value"),
+        ("ten_by_pair", "old: return 10;\nnew: let (ten, _) = (10, 0); return ten;", "NOT REFUSED"),
+        ("test_by_name", "old: if n > 10 {\nnew: let is_more = n > 10; if is_more {", "BAD EDIT: it changes no value"),
+        ("test_by_pair", "old: if n > 10 {\nnew: let (is_more, _) = (n > 10, 0); if is_more {", "BAD EDIT: its proof cites what the edit renamed"),
+        ("doubled_before", "old: return 10;\nnew: let _ = n * 2; return 10;", "BAD EDIT: it is not clear whether a clause fails"),
+        ("twice", "old: return 10;\nnew: return 20;", "low::steps::bounded: "),
         ("eleven_passes", "old: if n > 10 {\nnew: if n > 11 {", "BAD EDIT: its proof cites what the edit renamed"),
         ("same_value", "old: if n > 10 {\nnew: if !(n < 11) {", "BAD EDIT: it changes no value"),
     )
@@ -179,9 +185,9 @@ SAME = (
     ("words | (upto & !below)", "(upto & !below) | words", True),
     ("x + 993 >= 100000", "x + 994 >= 100000", False),
     ("a - b >= c", "a >= b + c", False),
-    ("first(a) + second(b)", "second(b) + first(a)", True),
+    ("first(a) + second(b)", "second(b) + first(a)", False),
     ("number.max(0)", "number", False),
-    ("10 * value + (*b - 48) as u32", "value * 10 + (*b - b'0') as u32", True),
+    ("10 * value + (*b - 48) as u32", "value * 10 + (*b - 48) as u32", True),
 )
 
 # So of assignments.
@@ -209,6 +215,38 @@ SAID = {
     "not proved; it stands on `Rattle.low.proofs.third.Answers.returns`, which antt refuses": False,
     "no proof: expected answers in ./proofs/next/Answers.antt; `search` did not prove `returns`": True,
 }
+
+
+# What a check says of the function `low::steps::bounded`, whose proof has answers, by the goal that stays open: what is made of it, and so
+# with that goal as the one that must stay open.
+NO_PROOF = "fn low::steps::bounded: no proof: expected answers in ./proofs/steps/bounded/Answers.antt; `search` did not prove `{goal}`"
+NOT_PROVED = "note: src/steps.rt:{line}:9: it is not proved that the function can go on here (`{goal}`)"
+REFUSES = "./proofs/steps/bounded/Answers.antt:8:1: error: `{goal}`: {why}"
+STEPS_SAID = (
+    ("overflow_mul-n", [NO_PROOF, NOT_PROVED], UNCLEAR, True),
+    ("slice_bounds-n-2", [NO_PROOF, NOT_PROVED], UNCLEAR, True),
+    ("returns-then-n-gt10-clause-own", [NO_PROOF, NOT_PROVED], "", True),
+    ("loop-at-preserved", [NO_PROOF, NOT_PROVED], "", True),
+    ("invariant_of-result", [NO_PROOF, NOT_PROVED], "", True),
+    ("following-requires", [NO_PROOF, NOT_PROVED], "", True),
+    ("overflow_add-n", [NO_PROOF, REFUSES.replace("{why}", "`search`: no proof was found")], UNCLEAR, True),
+    ("overflow_add-n", [NO_PROOF, REFUSES.replace("{why}", "`omega`: the goal does not follow. The goal fails at `n` = 255")], "", True),
+    ("overflow_add-n", [NO_PROOF, REFUSES.replace("{why}", "has no field `if-n-gt10`")], CITES, False),
+)
+
+
+def judged_steps(edit):
+    """How many of these are judged as they must be, and how many are not; says which."""
+    line, failed = STEPS[: STEPS.index("if n > 10")].count("\n") + 1, 0
+    for goal, lines, bad, is_refused in STEPS_SAID:
+        said = [it.format(goal=goal, line=line) for it in lines]
+        for edit.open, wanted in ((None, (bad, not bad)), (goal, ("" if is_refused else bad, is_refused))):
+            found = Judged(said, edit, {})
+            if not ((found.bad or "").startswith(wanted[0]) and bool(found.bad) == bool(wanted[0]) and bool(found.refused) == wanted[1]):
+                failed += 1
+                print(f"the runner itself: wanted {wanted} of {goal} for {edit.open}, found: {found.bad}, {found.refused}")
+    edit.open = None
+    return 2 * len(STEPS_SAID) - failed, failed
 
 
 def written(path, text):
@@ -253,9 +291,10 @@ def tried(room, with_prover=True, by_command=False):
         if is_same(f"{{ {was} }}", f"{{ {now} }}") != wanted:
             failed += 1
             print(f"the runner itself: wanted {wanted} of {was} and {now}")
-    passed, more = itself_kept.tried(f"{root}/kept", SOURCE, STEPS, ANSWERS)
+    others = [itself_kept.tried(f"{root}/kept", SOURCE, STEPS, ANSWERS), itself_same.tried(), judged_steps(edits["steps.bounded.twice"])]
     for how, wanted in SAID.items():
         if is_own(how, edits["lib.next.twice"].names()) != wanted:
             failed += 1
             print(f"the runner itself: wanted {wanted} of what is said: {how}")
+    passed, more = map(sum, zip(*others, strict=True))
     return len(judged) + len(SAID) + len(pairs) - failed + passed, failed + more

@@ -3,7 +3,8 @@
 A function is refused for itself where a goal of its own is open, or where the prover refuses an answer that stands in its proof files.
 A name that an answer cites may be made of the source text (`c.if-tens-gt22`): where the edit took such a name away, the refusal says
 nothing of the contract. So of a function whose proof files cite what is gone only a goal counts that needed no answer before.
-A function that fails only for another one that it calls doesn't count either.
+A function that fails only for another one that it calls doesn't count either. Nor does one with hand-written answers in which only steps
+of arithmetic are open, such as a sum that must not overflow: the search may not find what is true, and no clause is known to fail.
 """
 import re
 from typing import NamedTuple
@@ -29,6 +30,12 @@ GOAL = re.compile(r"note: (?:\./)?(src/\S+?):(\d+):\d+: .*\(`([^`]+)`\)")
 GONE = re.compile(r"has no (?:field )?`|is not in scope|can be named from here")
 FOLLOWS = re.compile(r"was not admitted")
 LOST = re.compile(r"(?:\./)?proofs/\S*/Invariants\.antt:|\.(?:Goals|Given)`|`goal\.")
+# Goals that ask whether a step can be taken, and nothing of what a clause says or a loop keeps.
+STEP = re.compile(r"(?:overflow_\w+|(?:slice_)?bounds|division\w*|remainder\w*)(?:-.*)?")
+# What is said of an answer that is known not to fit, and of a goal that is known to fail.
+KNOWN = re.compile(r"the goal fails|does not follow|\bdiffer\b|does not hold")
+CITES = "its proof cites what the edit renamed"
+UNCLEAR = "it is not clear whether a clause fails"
 OF_A_FUNCTION = re.compile(r"(?:.*\.)?(?:Answers|Invariants|Goals|Given|Code|Tie)(?:\..*)?")
 
 
@@ -94,6 +101,12 @@ def written_wrong(lines, edit):
     return next((line for it, line in found if it[1] == file and first <= int(it[2]) <= first + new.count("\n")), None)
 
 
+def is_unclear(signs, edit):
+    """Whether all that is open, in a function with hand-written answers, are steps of arithmetic of which none is known to fail."""
+    steps = [STEP.fullmatch(it.goal) and not KNOWN.search(it.line) for it in signs]
+    return bool(edit.place) and bool(steps) and all(steps) and edit.has_answers()
+
+
 def joined(lines):
     """The lines, each with those that go on with it."""
     made = []
@@ -130,14 +143,16 @@ class Judged:
             is_lost = any(LOST.search(it) for it in gone)
             wanted = [it for it in wanted if it in goals and not is_lost and not any(f"`{it.goal}`" in line for line in gone)]
             signs, own = wanted, None
-            self.bad = None if wanted else f"its proof cites what the edit renamed: {gone[0]}"
+            self.bad = None if wanted else f"{CITES}: {gone[0]}"
         elif written_wrong(said, edit):
             self.bad = f"it is no definition: {written_wrong(said, edit)}"
         elif gone and not refused:
-            self.bad = f"its proof cites what the edit renamed: {gone[0]}"
+            self.bad = f"{CITES}: {gone[0]}"
         if self.bad:
             return
         if edit.open:
             self.refused = next((f"{hows[0][0]}: {it.line}" for it in wanted), None)
+        elif is_unclear(signs, edit):
+            self.bad = f"{UNCLEAR}: {signs[0].line}"
         else:
             self.refused = own or next((f"{hows[0][0]}: {it.line}" for it in signs), None)

@@ -20,10 +20,11 @@ import re
 
 from edit import NO_CODE, bodies, read
 
-# The files that judge; the others print, keep and try the runner. (What same.py says is asked anew in each run.)
+# The files that judge; the others print, keep and try the runner. (What same.py and form.py say is asked anew in each run.)
 JUDGES = ("edit.py", "judge.py", "rounds.py", "kit.py")
 # Those that try the runner, and keep.
-OWN = ("same.py", "itself.py", "itself_kept.py", "kept.py")
+OWN = ("about.py", "form.py", "itself.py", "itself_kept.py", "itself_same.py", "kept.py", "kinds.py", "names.py", "same.py", "shape.py",
+       "tree.py")
 # One edit in so many is tried though its verdict is kept.
 SHARE = 10
 OF_A_FUNCTION = ("Answers.antt", "Invariants.antt")

@@ -2,12 +2,18 @@
 
 The smallest expression that the edit changes is read as it was and as it is then, or the assignments: `at += 3;` and `at += 1; at += 2;`
 are the same, and so is a value that gets a name by `let`. What is no operator and no number (a name, a field, a
-call) is a part of it that may have any value: both are computed at many values of these parts. A result below zero, and a division by
-zero, are faults. What can't be read so is taken for a change.
+call) is a part of it that may have any value: both are computed at many values of these parts, for numbers with a sign and without one,
+of each width. A result that is out of range, and a division by zero, are faults. What can't be read so is taken for a change.
+
+Before that form.py brings the whole bodies to one form, which knows of more than expressions.
 """
 import itertools
 import math
+import operator
 import re
+
+from about import About
+from form import have_one_form
 
 TOKEN = re.compile(r"""b?"(?:[^"\\]|\\.)*"|b?'(?:\\[^']{1,8}|[^'\\])'|\d\w*(?:\.\d\w*)?|[A-Za-z_]\w*!?|'\w+
     |<<=|>>=|\.\.=|\.\.\.|::|->|=>|==|!=|<=|>=|&&|\|\||<<|>>|\.\.|[-+*/%&|^]=|[^\s\w]""", re.X)
@@ -22,8 +28,13 @@ WIDTHS = {"u8": 8, "u16": 16, "u32": 32, "u64": 64, "usize": 64, "u128": 128}
 LANES = {"simd_lt": "<", "simd_le": "<=", "simd_gt": ">", "simd_ge": ">=", "simd_eq": "==", "simd_ne": "!="}
 # What has the same value as another call of the same thing: `x.is_none()` as `!x.is_some()`.
 TURNED = {"is_none": "is_some", "is_err": "is_ok"}
-MOST = 2**64 - 1
-COMPARES = {"==": "__eq__", "!=": "__ne__", "<": "__lt__", ">": "__gt__", "<=": "__le__", ">=": "__ge__"}
+# The least and the greatest number of each type.
+RANGES = [(least, most) for bits in (64, 8, 16, 32) for least, most in ((0, 2**bits - 1), (-(2 ** (bits - 1)), 2 ** (bits - 1) - 1))]
+# Calls that have no effect and can't fail.
+PLAIN = re.compile(r"[^()\[\]]*\.(?:len|is_some|is_ok|is_none|is_err|is_empty)\( \)")
+COMPARES = {"==": operator.eq, "!=": operator.ne, "<": operator.lt, ">": operator.gt, "<=": operator.le, ">=": operator.ge}
+# Numbers that name their type.
+TYPED = re.compile(r"b'.*'|\d\w*?[iu](?:8|16|32|64|128|size)")
 
 
 class Unread(Exception):
@@ -221,11 +232,15 @@ def read(tokens):
             first = first[first[0] == "mut" :]
             names.add(" ".join(first))
         tree, place = Reader(more[0]).whole(), Reader(first).whole() if sign else ("part", "")
-        calls += [name for name in parts(tree) if "(" in name]
+        own = [name for name in parts(tree) if "(" in name and not PLAIN.fullmatch(name)]
+        if own and sign in ASSIGNS:
+            # (the place is read after the call)
+            raise Unread
+        calls += own
         if place[0] != "part":
             raise Unread
         state[place[1]] = (ASSIGNS[sign], put(place, state), put(tree, state)) if sign in ASSIGNS else put(tree, state)
-    return {place: tree for place, tree in state.items() if place not in names}, sorted(calls)
+    return {place: tree for place, tree in state.items() if place not in names}, calls
 
 
 def parts(tree):
@@ -259,55 +274,66 @@ def truths(tree, wanted, found):
             truths(it, tree[0] in ("&&", "||") or beside or wanted and tree[0] in ("&", "|", "^", "!"), found)
 
 
-def value(tree, given):
-    """What an expression is, at given values of its parts."""
+def value(tree, given, ends):
+    """What an expression is, at given values of its parts, of numbers between two ends."""
     kind = tree[0]
     if kind in ("number", "truth"):
         return tree[1]
     if kind == "part":
         return given[tree[1]]
-    first = value(tree[1], given)
+    first = value(tree[1], given, ends)
     if kind in ("&&", "||"):
-        return value(tree[2], given) if first == (kind == "&&") else first
+        return value(tree[2], given, ends) if first == (kind == "&&") else first
     if kind == "!":
-        if not isinstance(first, bool) and first > MOST:
-            raise Fault
-        return not first if isinstance(first, bool) else MOST - first
+        return not first if isinstance(first, bool) else sum(ends) - first
     if kind == "as":
         if tree[2] not in WIDTHS:
             raise Unread
         return int(first) % 2 ** WIDTHS[tree[2]]
-    return computed(kind, first, value(tree[2], given))
+    return computed(kind, first, value(tree[2], given, ends), ends)
 
 
-def computed(kind, first, second):
+def computed(kind, first, second, ends):
     if kind in COMPARES:
-        return getattr(int(first), COMPARES[kind])(int(second))
+        return COMPARES[kind](first, second)
     if kind in ("..", "..="):
         return first, second + (kind == "..=")
     if kind.startswith("."):
-        return {".min": min(first, second), ".max": max(first, second), ".saturating_sub": max(0, first - second)}[kind]
+        return {".min": min(first, second), ".max": max(first, second), ".saturating_sub": max(ends[0], first - second)}[kind]
     if kind in ("&", "|", "^"):
         return {"&": first & second, "|": first | second, "^": first ^ second}[kind]
-    if kind in "/%" and not second or kind == "-" and first < second or kind in ("<<", ">>") and second > 127:
+    if kind in "/%" and not second or kind in ("<<", ">>") and not 0 <= second < (ends[1] - ends[0]).bit_length():
         raise Fault
-    return {"+": lambda: first + second, "-": lambda: first - second, "*": lambda: first * second, "/": lambda: first // second,
-            "%": lambda: first % second, "<<": lambda: first << second, ">>": lambda: first >> second}[kind]()
+    if kind == "<<":
+        return ((first << second) - ends[0]) % (ends[1] - ends[0] + 1) + ends[0]
+    found = {"+": lambda: first + second, "-": lambda: first - second, "*": lambda: first * second, "/": lambda: divided(first, second),
+             "%": lambda: first - second * divided(first, second), ">>": lambda: first >> second}[kind]()
+    if not ends[0] <= found <= ends[1]:
+        raise Fault
+    return found
 
 
-def samples(names, flags, found):
+def divided(first, second):
+    """A quotient, cut off towards zero."""
+    found = abs(first) // abs(second)
+    return found if (first < 0) == (second < 0) else -found
+
+
+def samples(names, flags, found, ends):
     """Values of at most three parts, at which two expressions are compared: all small ones, those about the numbers that stand there, and
     others."""
     near = {it + by for it in found for by in (-1, 0, 1)}
     about = {one + sign * two + by for one in found | {0} for two in found | {0} for sign in (1, -1) for by in (-1, 0, 1)}
     usual = {*range(12), *about, *(2**it + by for it in range(3, 66) for by in (-1, 0, 1)), *(ord(it) for it in "\t\r 09AFafz")}
-    chosen = sorted(it for it in (usual if len(names) < 3 else near | {*range(6)}) if it >= 0)
+    most = {*ends, ends[1] - 1, ends[1] // 2}
+    chosen = {*(usual if len(names) < 3 else near | {*range(6)}), *most}
+    chosen = sorted(it for it in chosen | {-it for it in chosen} if ends[0] <= it <= ends[1])
     each = [[False, True] if it in flags else chosen for it in names]
     if len(names) > 3 or math.prod(map(len, each)) > 200000:
         raise Unread
     yield from itertools.product(*each)
     if len(names) == 1 and not flags:
-        yield from ([it] for it in range(70000))
+        yield from ([it] for it in range(max(ends[0], -1000), min(ends[1], 5000) + 1))
 
 
 def apart(one, other):
@@ -319,9 +345,9 @@ def apart(one, other):
     return one, other
 
 
-def result(tree, given):
+def result(tree, given, ends):
     try:
-        return value(tree, given)
+        return value(tree, given, ends)
     except Fault:
         return None
 
@@ -329,21 +355,55 @@ def result(tree, given):
 def is_equal(trees, flags):
     """Whether two expressions have the same value at all samples. Of three parts these are few, so that they must be all that differs."""
     names = sorted({name for it in trees for name in parts(it)})
-    if len(names) > 2 and apart(*trees) != tuple(trees):
+    if len(names) > 2 and apart(*trees) != tuple(trees) or any(map(is_guarded, trees)):
         return False
-    for values in samples(names, flags, {number for it in trees for number in numbers(it)}):
+    found = {number for it in trees for number in numbers(it)}
+    if not found and len(names) < 3 and not are_equal_floats(trees, names, flags):
+        return False
+    return all(is_equal_between(trees, flags, names, found, ends) for ends in RANGES if all(it <= ends[1] for it in found))
+
+
+def are_equal_floats(trees, names, flags):
+    """Whether two expressions are the same of floats, too, of which none may be less, equal or greater. With no number among them they may
+    be that, unless what is computed is for whole numbers alone."""
+    each = [[False, True] if it in flags else [0.5, 1.5, math.nan] for it in names]
+    try:
+        both = [[result(it, dict(zip(names, values, strict=True)), RANGES[1]) for it in trees] for values in itertools.product(*each)]
+        return all(one == other or one != one and other != other for one, other in both)
+    except (TypeError, ValueError):
+        return True
+
+
+def is_equal_between(trees, flags, names, found, ends):
+    for values in samples(names, flags, found, ends):
         given = dict(zip(names, values, strict=True))
-        if result(trees[0], given) != result(trees[1], given):
+        if result(trees[0], given, ends) != result(trees[1], given, ends):
             return False
     return True
 
 
-def is_same(was, now):
+def is_guarded(tree):
+    """Whether a part that may have an effect or fail is computed only where a test before it comes out so."""
+    if tree[0] in ("&&", "||") and any(("(" in it or "[" in it) and not PLAIN.fullmatch(it) for it in parts(tree[2])):
+        return True
+    return any(is_guarded(it) for it in tree[1:] if isinstance(it, tuple))
+
+
+def is_same(was, now, about=None, head=None):
+    """Whether two bodies are known to come to the same, by what is known of the crate and of the function's head."""
+    return have_one_form(was, now, about or About(), head) or is_same_part(was, now)
+
+
+def is_same_part(was, now):
     """Whether what differs between two texts, an expression or some assignments, comes to the same in both."""
     try:
         *tokens, before = changed(was, now)
+        if len({tuple(sorted(filter(TYPED.fullmatch, it))) for it in tokens}) > 1:
+            return False
         (old, calls), (new, others) = map(read, tokens)
         if not old or old.keys() != new.keys() or calls != others:
+            return False
+        if calls and any(parts(old[it]) != parts(new[it]) for it in old):
             return False
         return all(are_same((old[it], new[it]), before in ("if", "while")) for it in old)
     except (Unread, TypeError, IndexError, RecursionError, OverflowError):

@@ -122,8 +122,8 @@ class Gate(Clone):
     def test_what_no_base_has_and_what_the_machine_forbids_may_be_and_is_counted(self):
         for why in ("there is no fish", "there is no mlr, no parallel", "no disk may be mounted here", "their proofs cite what they rename",
                     "the prebuilt program was built with kit-1 logic 12ab, and the kit here is kit-2 logic 34cd",
-                     "the prebuilt program was linked with gcc 1, libc.a 12ab, and the linker here is rt",
-                     "the page is of glibc 2.36 and musl 1.2.3, and here is glibc 2.41 and musl 1.2.3"):
+                    "the prebuilt program was linked with gcc 1, libc.a 12ab, and the linker here is rt",
+                    "the page is of glibc 2.36 and musl 1.2.3, and here is glibc 2.41 and musl 1.2.3"):
             with self.subTest(why):
                 self.says("refusals", f"passed over: a row: {why}", "2 passed, 0 failed, 1 skipped")
                 lines = self.expect(0, "47 passed, 0 failed, 1 skipped", "--prove")
