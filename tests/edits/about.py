@@ -1,13 +1,15 @@
-"""What the sources of a crate say of its names: the types of fields, constants and results, and which functions compute and do no more.
+"""What the sources of a crate say of its names: the types of fields, constants and results, the numbers of constants, and which functions
+compute and do no more.
 
-Of a name that has several meanings nothing is known.
+Of a name that has several meanings, or comes from another crate, nothing is known.
 """
 import re
 
-from tree import Tokens, Unread, tokens_of
+from tree import Tokens, Unread, number_of, tokens_of
 
 STRUCT = re.compile(r"\bstruct\s+(\w+)")
 CONSTANT = re.compile(r"\b(?:static|const)\s+([A-Z]\w*)\s*:\s*([^=;]*(?:\[[^\]]*\][^=;]*)?)=")
+IMPORT = re.compile(r"\buse\s+(?!crate\b|self\b|super\b|Rattle\b)([^;]*);")
 FUNCTION = re.compile(r"\bfn\s+(\w+)")
 BLOCK = re.compile(r"^[ \t]*impl\b(?P<generics>\s*<(?:[^<>]|<[^<>]*>)*>)?\s+(?:[\w:<>', &\[\]]+?\s+for\s+)?(?P<type>\w+)[^{;]*\{", re.M)
 PLAIN = re.compile(r"(?:[iu](?:8|16|32|64|128|size)|bool|char)")
@@ -79,18 +81,26 @@ class About:
     """What is known of a crate, by the texts of its sources without comments and strings. Functions are known by their type and name."""
 
     def __init__(self, texts=()):
-        self.fields, self.constants, self.heads, self.names = {}, {}, {}, set()
+        self.fields, self.constants, self.values, self.heads, self.names, self.foreign = {}, {}, {}, {}, set(), set()
         for text in texts:
             self.add(text)
+            self.foreign |= {name for it in IMPORT.finditer(text) for name in re.findall(r"\w+", it[1])}
+        for table in (self.fields, self.constants, self.values):
+            table.update(dict.fromkeys(table.keys() & self.foreign))
 
     @staticmethod
     def put(table, key, it):
         """Of what has two meanings nothing is known."""
         table[key] = it if table.get(key, it) == it else None
 
+    @staticmethod
+    def is_number(text, at):
+        return bool(re.match(r"\s*\w+\s*;", text[at:]))
+
     def add(self, text):
         for it in CONSTANT.finditer(text):
             self.put(self.constants, it[1], re.sub(r"'\w+ |\s", "", it[2]))
+            self.put(self.values, it[1], number_of(re.match(r"\s*(\w*)", text[it.end() :])[1]) if self.is_number(text, it.end()) else None)
         for it in STRUCT.finditer(text):
             self.structure(it[1], text, it.end())
         blocks = blocks_of(text)
@@ -158,4 +168,4 @@ class About:
     def head(self, owner, name):
         """The head of a function of a type (or of none), where it is the only one of that name and can be read."""
         found = self.heads.get((owner, name))
-        return found if found and found.is_read else None
+        return found if found and found.is_read and (owner or name) not in self.foreign else None

@@ -91,6 +91,11 @@ class Form:
     def form_text(self, it, at):
         return it
 
+    def form_path(self, it, at):
+        """A name of the crate; of a constant that is a number, that."""
+        value, known = self.about.values.get(it[1]), self.about.constants.get(it[1])
+        return (*value[:2], known) if value and known in INTEGERS else it
+
     def form_local(self, it, at):
         return self.put.get(it[1], it)
 

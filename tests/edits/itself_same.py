@@ -6,6 +6,9 @@ from about import About, Head
 from same import is_same
 
 CRATE = """
+use other::{MOST, first, second, Wide};
+const MOST: usize = 16;
+fn second(n: u32) -> u32 { }
 const LANES: usize = 16;
 const LEAST: u8 = 3;
 struct Step { width: u8, depth: i32, used: usize }
@@ -102,6 +105,7 @@ SAME = (
     ("a + 1_000", "a + 1000u32"),
     ("0xff", "255"),
     ("a % 64 + b / 8", "(a & 63) + (b >> 3)"),
+    ("if n >= LANES { 1 } else { 2 }", "if n > 15 { 1 } else { 2 }"),
     ("a + 0", "a"),
     ("a * 1", "a"),
     ("a + 2 + 3", "a + 5"),
@@ -180,7 +184,7 @@ NEAR = (
     # (arms that overlap: the first one counts)
     ("match x { 9..=20 => 1, 15..=30 => 2, _ => 3 }", "match x { 15..=30 => 2, 9..=20 => 1, _ => 3 }"),
     ("match x { it if it > 9 => 1, 20 => 2, _ => 3 }", "match x { 20 => 2, it if it > 9 => 1, _ => 3 }"),
-    # (a constant may be any number, and `Self` may be the other type)
+    # (a constant may be the number, and `Self` the other type)
     ("match x { LEAST => 1, 3 => 2, _ => 3 }", "match x { 3 => 2, LEAST => 1, _ => 3 }"),
     ("match kind { Kind::Text => 1, Self::Text => 2, _ => 3 }", "match kind { Self::Text => 2, Kind::Text => 1, _ => 3 }"),
     ("match x { b'a' | b'b' => 1, _ => 3 }", "match x { b'a' | b'c' => 1, _ => 3 }"),
@@ -203,6 +207,8 @@ NEAR = (
     ("shown(1u64 << 40)", "shown(1 << 40)"),
     ("(s % 64) as u32", "(s & 63) as u32"),
     ("a % 63", "a & 62"),
+    ("if n >= LANES { 1 } else { 2 }", "if n > 16 { 1 } else { 2 }"),
+    ("if n >= MOST { 1 } else { 2 }", "if n >= 16 { 1 } else { 2 }"),
     ("a + 0", "a + 1"),
     ("a * 0", "a"),
     ("(a as u8) as u32", "a"),
