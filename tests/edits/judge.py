@@ -67,7 +67,11 @@ def place(text, number):
         return 0, 0
     name, opens, closes = found[number]
     heads = [it.start() for it in re.finditer(rf"\bfn\s+{name}\b", text[:opens])]
-    return text.count("\n", 0, heads[-1]) + 1, text.count("\n", 0, closes) + 1
+    # (what is said of the whole function stands at its first attribute)
+    lines, first = text.splitlines(), text.count("\n", 0, heads[-1])
+    while first and lines[first - 1].strip().startswith("#["):
+        first -= 1
+    return first + 1, text.count("\n", 0, closes) + 1
 
 
 def open_goals(lines, edit, texts):
