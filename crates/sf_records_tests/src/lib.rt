@@ -5,6 +5,7 @@
 mod between;
 #[cfg(test)]
 mod by_lines;
+pub mod copied;
 #[cfg(test)]
 mod copies;
 #[cfg(test)]
@@ -21,6 +22,9 @@ mod numbers;
 mod prints;
 #[cfg(test)]
 mod random;
+#[cfg(test)]
+mod read_again;
 pub mod reading_back;
+pub mod silent;
 #[cfg(test)]
 mod texts;
