@@ -25,6 +25,7 @@ mod random;
 #[cfg(test)]
 mod read_again;
 pub mod reading_back;
+pub mod shown;
 pub mod silent;
 #[cfg(test)]
 mod texts;
