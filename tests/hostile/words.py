@@ -86,7 +86,7 @@ def others():
     yield "100,000 files", answers("scan", "%d", *["%d"] * 99999, err=b"sf: %d: can't be opened\n" * 99999, status=3)
     for word in (b"\xff", b"\x80abc", b"%d\xc3", b"\xed\xa0\x80", b"\xf8\x88\x80\x80\x80"):
         for words in ([b"scan", word], [word], [b"print", b"%s", word], [b"check", b"%d;", word]):
-            yield f"words {words} are no text", answers(*words, err="a word is not UTF-8; any byte can be written as \\xHH", status=2)
+            yield f"words {words} are no text", answers(*words, err="a word is not UTF-8: a format has such a byte as \\xHH, and < FILE reads such a file", status=2)
 
 
 def checks():

@@ -71,7 +71,33 @@ class Words(unittest.TestCase):
 
     def test_words_that_are_no_text_are_refused_clearly(self):
         for words in ([b"\xff"], [b"scan", b"%[\xe9]"], [b"print", b"%s", b"\xc3"]):
-            self.assertRegex(self.refused(*words), r"\Asf: [^\n]*UTF-8[^\n]*\\xHH[^\n]*\n\Z")
+            self.assertRegex(self.refused(*words), r"\Asf: [^\n]*UTF-8[^\n]*\\xHH[^\n]* < FILE [^\n]*\n\Z")
+
+    def test_the_page_on_formats(self):
+        """One screen that has each letter of both grammars with its profile; each help ends with its name."""
+        text = self.asked_for("help", "formats")
+        lines = text.splitlines()
+        self.assertLessEqual(len(lines), 45)
+        self.assertLessEqual(max(map(len, lines)), 80)
+        for said in (
+            r"  d +a number of base 10, [^\n]*? +1$",
+            r"  b +a number of base 2 +2$",
+            r"  f e g a +a float: [^\n]*? +3 ",
+            r"  \[a-z_\] +text of these bytes",
+            r"  n +nothing: it counts the bytes",
+            r"  N\$ +the place of the value",
+            r"  \* +drops what it takes",
+            r"  \? +what may be missing: '%d,%\?d' +3$",
+            r"  WIDTH +the most bytes",
+        ):
+            self.assertRegex(text, rf"(?m)^{said}")
+        self.refused("help", "formats", "more")
+
+    def test_the_help_is_narrow_and_names_the_page_on_formats(self):
+        for words in (["help"], *(["help", verb] for verb in VERBS)):
+            lines = self.asked_for(*words).splitlines()
+            self.assertLessEqual(max(map(len, lines)), 80, words)
+            self.assertIn("'man sf' and 'sf help formats'", lines[-1])
 
 
 class Examples(unittest.TestCase):

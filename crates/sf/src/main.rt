@@ -22,7 +22,9 @@ fn unread_words(rt: &impl Eprint, error: &io::Error) -> ExitCode {
     if error.kind() == ErrorKind::OutOfMemory {
         return stopped(rt, CommandFault::Memory);
     }
-    let _ = rt.eprintln("sf: a word is not UTF-8; any byte can be written as \\xHH");
+    let _ = rt.eprintln(
+        "sf: a word is not UTF-8: a format has such a byte as \\xHH, and < FILE reads such a file",
+    );
     ExitCode::from(USAGE)
 }
 

@@ -40,13 +40,13 @@ pub(crate) const SCAN_USAGE: &str = "sf scan [OPTIONS] <FORMAT> [FILE]...
 
 /// The end of the help of `sf scan`.
 pub(crate) const SCAN: &str = "Examples:
-  sf scan -lw '%d,%d' < points              two numbers, and no more, of each line
+  sf scan -lw '%d,%d' < points              two numbers and no more of a line
   sf scan -lwp3 '%lf,%?lf' < points         floats, of which the second may miss
   sf scan -l -o json --names x,y '%d,%d' < points  an object of each line
   sf scan -l -s1 -e '%d,%d' -e '%d' < points  after a header, one or two numbers
   sf scan -l --print '%2$d %1$d\\n' '%d,%d' < points  in the other order
   sf scan -l --matching '%d,%d' < points    the lines that the format reads
-  sf scan -l --ignore ' ' --ignore '#' --ignore '#%*[^\\n]' '%d' < points  comments
+  sf scan -l --ignore '#' --ignore '#%*[^\\n]' '%d' < points  no comments
   sf scan --limit 80 '%s' < words           records: lines don't count
 
 Exit status:
@@ -95,7 +95,7 @@ Exit status:
 
 /// The end of the help of `sf copy`.
 pub(crate) const COPY: &str = "Examples:
-  sf copy '%d,%s\\n' '%11d,%20s%*1[\\n]' < table  without needless blanks and zeros
+  sf copy '%d,%s\\n' '%11d,%20s%*1[\\n]' < table  without needless zeros
   sf copy '%+d;' '%3d;' < numbers               each number with its sign
   sf copy -lk '%d\\n' '%11d%*1[\\n]' < numbers    with a report of the other lines
 

@@ -122,7 +122,7 @@ fn scan<'a>(alloc: Global) -> Result<Command<'a>, AllocError>
         alloc,
         Verb::Scan,
         "scan",
-        "Scan standard input or files by a format: a line of values for each record",
+        "Scan standard input or files by a format, a line for each record",
         help::SCAN,
     )?
     .override_usage(help::SCAN_USAGE)
@@ -159,7 +159,7 @@ fn check<'a>(alloc: Global) -> Result<Command<'a>, AllocError>
         alloc,
         Verb::Check,
         "check",
-        "Say whether SCAN reads back what PRINT writes, or write a format that does",
+        "Say whether SCAN reads back what PRINT writes, or write a SCAN",
         help::CHECK,
     )?
     .arg(word(alloc, "PRINT", "The print format"))?

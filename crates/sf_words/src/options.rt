@@ -211,7 +211,7 @@ static OPTIONS: [CommandOption; 19] = [
             default: Some("1"),
         },
         of: OptionOf::All,
-        help: "1: as in C; 2: base 2, too; 3: floats and ?, too",
+        help: "1: as in C; 2: and base 2; 3: and floats",
     },
     CommandOption {
         name: "limit",
