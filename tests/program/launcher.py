@@ -551,6 +551,14 @@ class Links(Launcher):
         self.expect_built("first", builds=2)
         self.assertFalse(os.path.exists(self.bin + "/met"))
 
+    def test_what_is_linked_already_is_not_taken_for_what_rt_made(self):
+        self.build(1)
+        before = [self.made(name) for name in ("sf", "sf.dynamic", "SUM")]
+        sources = re.search("^sources (.*)$", before[2], re.MULTILINE)[1]
+        how = {"env": {"PATH": self.path}, "timeout": SECONDS, "check": True}
+        subprocess.run([self.clone + "/prebuilt/finish", sources], **how)
+        self.assertEqual([self.made(name) for name in ("sf", "sf.dynamic", "SUM")], before)
+
     def test_without_gcc_or_libc_it_is_what_rt_made(self):
         self.only_tools()
         for builds, name in enumerate(("libc.a", "gcc"), 1):
