@@ -7,14 +7,15 @@ A block `antt` or `rust` of the page has a file's path in its first line, after 
 
 - each part stands there word for word and whole, whatever its lines; of sources without docstrings. Parts are apart by an
   empty line.
-- what ROOTS rest on is all on the page; so is each word that a quoted definition has of another module, or it is in one
-  of the page's tables of words
-- each word of these tables is cited by a definition of the page, and each module in them has it.
+- what ROOTS rest on is all on the page; so is each word that a definition or a clause on it has of another module, or it
+  is in one of the page's tables of words
+- each word of these tables is cited on the page, and each module in them has it.
 
 With --write each part `antt` is quoted anew, by the names in it: a part may be such a name alone. Without it, what is wrong
 is printed, and the status is 1 if anything is.
 """
 import argparse
+import glob
 import os
 import re
 import sys
@@ -76,10 +77,17 @@ def path_of(module):
     return "crates/" + "/".join(module.split(".")[1:]) + ".antt"
 
 
+def handed_on(module, name):
+    """The module of a crate below that a crate hands on under its own name, as sf_run hands on Limits of sf_report."""
+    rest = module.partition(".specs.")[2].replace(".", "/")
+    paths = (os.path.relpath(it, ROOT) for it in glob.glob(f"{ROOT}/crates/*/specs/{rest}.antt"))
+    return next((module_at(it) for it in paths if module_at(it).has(name)), None)
+
+
 def found_in(module, name):
     """The file that has a name which is had from a module, and the definition; the name of the module where that is none of specs/."""
     if module.startswith("Rattle.sf_") and ".declared." not in module:
-        at = module_at(path_of(module))
+        at = module_at(path_of(module)) or handed_on(module, name)
         if at and at.has(name):
             return at.path, at.has(name)
         if at and name in at.imported:
@@ -88,7 +96,7 @@ def found_in(module, name):
 
 
 def cited(path, name):
-    """What a definition has from elsewhere, and of its own module: files with definitions, and other modules with names."""
+    """What a definition has from elsewhere and of its own module: a file with a definition, or another module with a name."""
     at = module_at(path)
     for word, field in WORD.findall(re.sub(r'--.*|"[^"]*"', "", at.parts[name])):
         if at.has(word):
@@ -97,6 +105,17 @@ def cited(path, name):
             yield found_in(*at.imported[word])
         elif word in at.modules and field:
             yield found_in(at.modules[word], field)
+
+
+def cited_in_clauses(path, part):
+    """What the clauses of a call have from elsewhere, as its source imports it."""
+    imported = {}
+    for module, names in re.findall(r"ghost use ([\w.]+?)\.\{(.*?)\};", text_of(path), re.DOTALL):
+        for name, other in re.findall(r"([^\s,]+)(?: as (\w+))?", names):
+            imported[other or name] = module, name
+    for word, _ in WORD.findall(part.partition("ensures")[2]):
+        if word in imported:
+            yield found_in(*imported[word])
 
 
 def resting(roots):
@@ -167,26 +186,44 @@ def type_of(module):
     return module.removesuffix(".TheVariants").rsplit(".", 1)[1]
 
 
+def is_there(module, word):
+    """Whether a module of a table has the word: a definition, or a type that the crate declares."""
+    if ".declared." not in module:
+        return found_in(f"Rattle.{module}", word)[0].endswith(".antt")
+    sources = glob.glob(f"{ROOT}/crates/{module.partition('.')[0]}/src/**/*.rt", recursive=True)
+    return any(re.search(rf"pub (?:enum|struct) {word}\b", text_of(os.path.relpath(it, ROOT))) for it in sources)
+
+
+def citations(page):
+    """What the page has from elsewhere: where it stands, by a name of which definition or call, and the word."""
+    for kind, path, parts in blocks(page):
+        for part in parts:
+            for name in DEFINITION.findall(part) if kind == "antt" else ():
+                if module_at(path) and module_at(path).has(name):
+                    yield from ((name, *it) for it in cited(path, name))
+            if kind == "rust":
+                name = (re.findall(r"\bfn (\w+)", part) or [path])[0]
+                yield from ((name, *it) for it in cited_in_clauses(path, part))
+
+
 def missing(page):
     """What the definitions on the page rest on and the page lacks, and what it has and is gone."""
     here, listed, shown, used = quoted(page), dict(tables(page)), types(page), set()
     for path, name in sorted(resting(ROOTS) - here):
         yield f"{name} of {path} is not on the page"
-    for path, name in sorted(here):
-        if not module_at(path) or not module_at(path).has(name):
-            continue
-        for where, word in cited(path, name):
-            used.add(word)
-            if ".declared." in where and type_of(where) not in shown and type_of(where) not in listed:
-                yield f"{name}: the type {type_of(where)} is not on the page"
-            elif where.endswith(".antt") and (where, word) not in here and word not in listed:
-                yield f"{name}: {word} of {where} is neither on the page nor in a table"
-            elif where.startswith(("Rattle.std.", "Prim.")) and word not in listed:
-                yield f"{name}: {word} of {where} is in no table"
+    for name, where, word in citations(page):
+        is_type = ".declared." in where
+        used.add(type_of(where) if is_type else word)
+        if is_type and type_of(where) not in shown and type_of(where) not in listed:
+            yield f"{name}: the type {type_of(where)} is not on the page"
+        elif where.endswith(".antt") and (where, word) not in here and word not in listed:
+            yield f"{name}: {word} of {where} is neither on the page nor in a table"
+        elif where.startswith(("Rattle.std.", "Prim.")) and word not in listed:
+            yield f"{name}: {word} of {where} is in no table"
     for word, where in sorted(listed.items()):
-        if word not in used and word not in {type_of(it) for it, _ in (c for d in here if module_at(d[0]).has(d[1]) for c in cited(*d)) if ".declared." in it}:
-            yield f"{word} is in a table, and no definition on the page has it"
-        if where.startswith("sf_") and found_in(f"Rattle.{where}", word)[0] == f"Rattle.{where}" and ".declared." not in where:
+        if word not in used:
+            yield f"{word} is in a table, and nothing on the page has it"
+        if where.startswith("sf_") and not is_there(where, word):
             yield f"{where} has no {word}"
 
 
