@@ -19,7 +19,8 @@ use sf_run::{Outcome, Scanned, quick_run};
 use std::alloc::Global;
 
 /// Runs the format over a record that is held whole, as `sf_read::fscan_held` does, and counts the newlines that the
-/// run consumes. It answers wherever that does and the record has some byte; where it answers None nothing was consumed.
+/// run consumes. It answers wherever that does and the record has some byte; where it answers None nothing was
+/// consumed.
 #[inline(always)]
 pub(crate) fn take_held<S: Source, const N: usize>(
     store: &mut HeapStore,

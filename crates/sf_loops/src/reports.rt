@@ -108,8 +108,8 @@ impl<'f, S: Source, const N: usize> Reports<'f, S, N> {
         })
     }
 
-    /// Goes on to the next record wherever that is held whole and is Done, as most are, and its texts are no longer than
-    /// the format's width sum. Else the report alone has changed.
+    /// Goes on to the next record wherever that is held whole and is Done, as most are, and its texts are no longer
+    /// than the format's width sum. Else the report alone has changed.
     #[inline(always)]
     fn advance_at_once(&mut self) -> bool
         ensures next { result ≡ true → IsNext S.to_come S.reads S.failures N self.old self.new (Ok true) }

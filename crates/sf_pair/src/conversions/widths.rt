@@ -35,9 +35,9 @@ fn extremes(kind: Kind) -> Option<(Value<'static>, Value<'static>)>
 /// least width of a conversion that reads each of them, as 11 for `%d` and 314 for `%.3f`. Of the kind of doubles that
 /// is of the finite ones. None of a text.
 ///
-/// A `-` pads with blanks after the number, which are counted, as 15 for `%-15d`; and the precision 0 prints no digit of
-/// the integer 0. No scan reads such a conversion back. Of an integer, the length is that of the least or of the greatest
-/// number of the kind, whatever flags there are.
+/// A `-` pads with blanks after the number, which are counted, as 15 for `%-15d`; and the precision 0 prints no digit
+/// of the integer 0. No scan reads such a conversion back. Of an integer, the length is that of the least or of the
+/// greatest number of the kind, whatever flags there are.
 pub fn longest_len(conv: &PrintConv) -> Option<u32>
     ensures none { MatchOption result ((bounds_of conv.now.kind ≡ None) × (is_double conv.now.kind ≡ false))
         (λ n. (bounds_of conv.now.kind ≢ None) ⊎ (is_double conv.now.kind ≡ true)) }

@@ -48,6 +48,7 @@ returns-then-not-ends_at-clause-answers c d within few =
 
 pub returns-clause-numeral : goal.returns-clause-numeral
 returns-clause-numeral c =
+    let joined = c.signed-negative.ensures.joined in
     let sign = c.signed-negative.result.0 in
     let piece : List ℕ = c.args.piece.now in
     let body : List ℕ = c.signed-negative.result.1.now in
@@ -65,12 +66,12 @@ returns-clause-numeral c =
     let bytes : ℕ = c.from.result + point + 1 + places in
     let long : bytes ≡ length (sign_text sign) + point + 1 + places = ap (λ (n : ℕ). n + point + 1 + places)
     (c.from.ensures ∙ sign_long sign) in
-    let is = numeral_is sign piece body after point places c.signed-negative.ensures.joined inside (dot.point refl) then behind bytes long some
+    let is = numeral_is sign piece body after point places joined inside (dot.point refl) then behind bytes long some
     whole.all digits.all c.digits_after-whole.result.0 c.digits_after-digits.result.0 whole.number digits.number in
     record {
-      behind = within_so sign piece body after point places c.signed-negative.ensures.joined inside (dot.point refl) then behind bytes long;
+      behind = within_so sign piece body after point places joined inside (dot.point refl) then behind bytes long;
       numeral = is;
       matches = decimal_float (take bytes piece) sign c.digits_after-digits.result.0 places is;
-      ends = ends_there sign piece body after point places c.signed-negative.ensures.joined inside (dot.point refl) then behind bytes long some
+      ends = ends_there sign piece body after point places joined inside (dot.point refl) then behind bytes long some
           whole.all digits.all (end.digit refl) (end.letter refl) (end.capital refl);
     }
