@@ -106,17 +106,6 @@ class Gate(Clone):
         self.rt("another program", last="4 passed, 1 failed")
         self.expect(1, "44 passed, 1 failed, 0 skipped", "--prove")
 
-    def test_a_step_that_the_kit_lost_is_made_once_more_and_only_once(self):
-        self.loses_a_step(1)
-        lines = self.expect(0, ALL, "--prove")
-        self.assertIn("rt ci: once more, since a step of the kit's own was lost", lines)
-        self.assertEqual(self.proofs(), ["ci", "ci"])
-
-    def test_a_step_that_the_kit_loses_twice_is_a_failure(self):
-        self.loses_a_step(2)
-        self.assertEqual(self.ran("--prove")[0], 1)
-        self.assertEqual(self.proofs(), ["ci", "ci"])
-
     def test_a_program_that_is_not_built_is_a_failure(self):
         written(self.bin + "/rt", "echo '5 passed, 0 failed'")
         self.assertEqual(self.ran("--prove")[0], 1)

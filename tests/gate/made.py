@@ -72,14 +72,6 @@ class Clone(unittest.TestCase):
         made = f"mkdir -p {out}; printf '{program}' >{out}/sf; chmod +x {out}/sf"
         written(self.bin + "/rt", f"{self.noting('rt')}\n[ \"$1\" != ci ] || {{ {made}; echo '{last}'; }}\n[ \"$1\" != version ] || echo kit-1")
 
-    def loses_a_step(self, times):
-        """The rt that stands there, whose gate ends so many times with what the kit says of a step that it lost."""
-        os.rename(self.bin + "/rt", self.bin + "/whole-rt")
-        lost = "rattle: `low` is proved, but antt could not write its statements (no part of it): help: please report this"
-        few = f"[ \"$(grep -cx 'rt ci' '{self.room}/calls')\" -ge {times} ]"
-        says = f"{self.noting('rt')}; echo '{lost}'; echo '4 passed, 1 failed'; exit 1"
-        written(self.bin + "/rt", f"[ \"$1\" != ci ] || {few} 2>/dev/null || {{ {says}; }}\nexec '{self.bin}/whole-rt' \"$@\"")
-
     def without(self, *tools):
         for tool in tools:
             os.remove(f"{self.bin}/{tool}")

@@ -134,34 +134,24 @@ class Run:
     def note(self, name, outcome):
         self.outcomes.setdefault(name, []).append(outcome)
 
-    def command(self, name, *words, once_more=None):
-        """Runs a command, shows what it prints, and notes its outcome. Answers the seconds by the clock and of the processors.
-
-        Where it fails and one of its lines has the pattern `once_more`, it runs once more, and the second outcome counts."""
-        began, used = time.monotonic(), processor_seconds()
+    def command(self, name, *words):
+        """Runs a command, shows what it prints, and notes its outcome. Answers the seconds by the clock and of the processors."""
+        began, used, lines = time.monotonic(), processor_seconds(), []
+        how = {"stdin": subprocess.DEVNULL, "stdout": subprocess.PIPE, "stderr": subprocess.STDOUT, "errors": "replace"}
         try:
-            lines, status = self.shown(words)
-            if once_more and read(lines, status).failed and any(map(once_more.search, lines)):
-                print(f"{name}: once more, since a step of the kit's own was lost", flush=True)
-                lines, status = self.shown(words)
+            self.running = subprocess.Popen(words, start_new_session=True, **how)
         except OSError as fault:
             print(fault, flush=True)
             self.note(name, Outcome(failed=1, complaints=[str(fault)]))
             return 0.0, 0.0
-        outcome = read(lines, status)
+        for line in self.running.stdout:
+            print(line, end="", flush=True)
+            lines.append(line.rstrip("\n"))
+        outcome = read(lines, self.running.wait())
         if outcome.failed:
             outcome.complaints += [it for it in lines if COMPLAINT.match(it)][:MOST_COMPLAINTS]
         self.note(name, outcome)
         return time.monotonic() - began, processor_seconds() - used
-
-    def shown(self, words):
-        """Runs a command and shows what it prints. Answers its lines and its status."""
-        how = {"stdin": subprocess.DEVNULL, "stdout": subprocess.PIPE, "stderr": subprocess.STDOUT, "errors": "replace"}
-        self.running, lines = subprocess.Popen(words, start_new_session=True, **how), []
-        for line in self.running.stdout:
-            print(line, end="", flush=True)
-            lines.append(line.rstrip("\n"))
-        return lines, self.running.wait()
 
     def part(self, part, name, *words):
         self.parts.add(part, *self.command(name, *words))
