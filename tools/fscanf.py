@@ -30,7 +30,7 @@ from scan_formats import Byte, Conversion, Fault, Percent, Space, WHITE, directi
 
 def greatest(most, holds):
     """IsGreatest: the greatest number up to `most` with a property that 0 has, and each number below one that has it."""
-    least = 0
+    least = most if holds(most) else 0
     while least < most:
         half = (least + most + 1) // 2
         least, most = (half, most) if holds(half) else (least, half - 1)

@@ -30,9 +30,9 @@ ESCAPES = dict(zip(b"\\ntvfr", b"\\\n\t\v\f\r"))
 STATUSES = {"InputFailure": "input failure", "MatchingFailure": "matching failure", "OutOfRange": "out of range", "TooLong": "too long"}
 LIMIT = 1048576
 # The options that are made here: those with a value, and those without.
-WITH = {"--profile": "profile", "-p": "profile", "--limit": "limit", "-e": "formats", "--skip": "skip", "-s": "skip"}
+WITH = {"--profile": "profile", "-p": "profile", "--limit": "limit", "-e": "formats", "--ignore": "ignored", "--skip": "skip", "-s": "skip"}
 WITHOUT = {"--lines": "lines", "-l": "lines", "--keep-going": "keep_going", "-k": "keep_going", "--whole": "whole", "--quiet": "quiet", "-q": "quiet",
-           "--matching": "matching", "--line-buffered": "line_buffered", "--no-explain": "no_explain"}
+           "--matching": "matching", "--line-buffered": "line_buffered", "--explain": "explain", "--no-explain": "no_explain"}
 
 
 class Elsewhere(Exception):
@@ -70,7 +70,7 @@ def directives_of(word, profile):
 def order_of(args):
     """The verb of a call, its options and its words."""
     verb, rest = args[0].decode("latin-1"), list(args[1:])
-    given = {"formats": [], "profile": 1, "limit": LIMIT, "skip": 0}
+    given = {"formats": [], "ignored": [], "profile": 1, "limit": LIMIT, "skip": 0}
     words = []
     while rest:
         word = rest.pop(0)
@@ -80,7 +80,7 @@ def order_of(args):
             break
         if name in WITH and (equals or rest):
             key, value = WITH[name], value.encode("latin-1") if equals else rest.pop(0)
-            if key == "formats":
+            if key in ("formats", "ignored"):
                 given[key].append(value)
             elif value.isdigit():
                 given[key] = int(value)
@@ -165,6 +165,8 @@ def lines(formats, text, given):
             continue
         if len(line) > given["limit"]:
             fault = "too long"
+        elif any(judged([it], line, True)[2] == "" for it in given["ignored"]):
+            continue
         else:
             directives, report, fault = judged(formats, line, given.get("whole"))
             if not fault:
@@ -182,6 +184,7 @@ def answered(args, text):
     """The status, the output and the error text of a call, by the reference."""
     verb, given, words = order_of(args)
     try:
+        given["ignored"] = [directives_of(it, given["profile"]) for it in given["ignored"]]
         formats = [directives_of(it, given["profile"]) for it in words]
     except Refused as refused:
         return 2, b"", f"sf: {refused}\n".encode("latin-1")
@@ -194,7 +197,7 @@ def answered(args, text):
 # ---- the cases of tests/program
 
 # How many of them there are at least: fewer would mean that this file has lost its way.
-LEAST_CASES = 1200
+LEAST_CASES = 1500
 
 
 def cases():
@@ -216,7 +219,8 @@ def of_table(turn, turns):
         chosen = list(cases())
         wrong = [f"there are {len(chosen)} cases"] if len(chosen) < LEAST_CASES else []
         for place, words, case in chosen[turn::turns]:
-            due = (case.get("status", 0), table.data(case.get("stdout", "")), table.data(case.get("stderr", "")))
+            said = re.sub(rb"(?m)^  .*\n", b"", table.data(case.get("stderr", "")))  # (what --explain says more)
+            due = (case.get("status", 0), table.data(case.get("stdout", "")), said)
             found = difference(answered(words, table.data(case.get("stdin", ""))), due)
             if found:
                 wrong.append(f"{place}: {found}")
