@@ -9,5 +9,6 @@ pub mod HexRounding
 pub mod PatternLemmas
 pub mod Rounding
 pub mod RoundingCases
+pub mod ShortStored
 pub mod StoredBits
 pub mod StoredComputed

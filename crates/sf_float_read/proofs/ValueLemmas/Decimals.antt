@@ -13,11 +13,11 @@ use Rattle.sf_float_read.specs.item.Parts.{AreDigits, IsSign, IsNumeral}
 use Rattle.sf_float_read.proofs.ItemLemmas.Decimals.{is_digit}
 use Rattle.sf_float_read.specs.value.Values.{IsStored, stored}
 
-are_digits : (ds : List ℕ) → AllDigits 10 ds → AreDigits Ten ds
+pub are_digits : (ds : List ℕ) → AllDigits 10 ds → AreDigits Ten ds
 are_digits [] all = tt
 are_digits (d ∷ ds) all = (is_digit d all.0, are_digits ds all.1)
 
-sign_is : (negative : Bool) → IsSign (sign_text negative)
+pub sign_is : (negative : Bool) → IsSign (sign_text negative)
 sign_is true = inr (inr refl)
 sign_is false = inl refl
 

@@ -2,6 +2,10 @@
 use Rattle.std.specs.Prelude.{◌≡◌, ℕ, ◌≤◌, ◌<◌, ◌^◌, Bool, List, Option, Some, None, ⊤, T, to_bits}
 use Rattle.std.specs.Float.{is_sign_negative}
 use Rattle.std.specs.Float.Ieee.{Float, Format, fits, binary32, binary64}
+use Rattle.sf_base.specs.declared.real.Real as real
+use Rattle.sf_float.specs.fewest.Digits.{format_of, number_of}
+use Rattle.sf_float.specs.fewest.Laid.{shortest_text}
+use Rattle.sf_float.specs.fewest.Laws.{IsPattern}
 use Rattle.sf_float.specs.Hexadecimal.{IsHexadecimalText}
 use Rattle.sf_float_read.specs.item.Sequences.{IsFloat}
 use Rattle.sf_float_read.specs.value.Values.{IsHexValue, IsStored}
@@ -39,3 +43,7 @@ width binary64 = 64
 abbrev pub StoredBits : Type 0
 StoredBits = (f : Format) (item : List ℕ) (bits : ℕ) → IsStored f item (Some bits)
     → (bits < 2 ^ width f) × ((x : Float) × T (fits f x) × (bits ≡ to_bits f x))
+
+-- of the shortest text of a float the pattern of that float is stored; of that of a NaN the one of the one NaN
+abbrev pub ShortIsStored : Type 0
+ShortIsStored = (r : real.Real) → IsPattern r → IsStored (format_of r) (shortest_text r) (Some (to_bits (format_of r) (number_of r)))

@@ -1,7 +1,7 @@
 //! Laws of the definitions that the contracts cite.
 //! None of these functions does anything: its contract is the law.
 ghost use Rattle.sf_float_read.specs.value.Laws.{HexadecimalReadsBack, OneHexValue, OneStored, StoredBits};
-ghost use Rattle.sf_float_read.specs.value.Laws.{StoredIsComputed};
+ghost use Rattle.sf_float_read.specs.value.Laws.{ShortIsStored, StoredIsComputed};
 
 /// What `%a` prints of a finite float, without a precision or with 13 digits or more, is read as that float.
 pub fn hexadecimal_reads_back()
@@ -27,3 +27,10 @@ pub fn stored_is_computed()
 pub fn stored_bits()
     ensures { StoredBits }
 {}
+
+/// The shortest text of a float is a matching sequence, and what is stored of it is the pattern of that float.
+pub fn short_is_stored()
+    ensures { ShortIsStored }
+{
+    sf_float::fewest::laws::reads_back();
+}
