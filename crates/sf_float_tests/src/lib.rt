@@ -1,6 +1,7 @@
 //! Tests of `sf_float` and `sf_float_read`, by examples of C11 and what glibc answers.
 #![tactic(auto)]
 
+mod short;
 #[cfg(test)]
 mod shortest;
 #[cfg(test)]
@@ -9,3 +10,5 @@ mod texts;
 mod values;
 #[cfg(test)]
 mod written;
+
+pub use short::{short_f32, short_f64};

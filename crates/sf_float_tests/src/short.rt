@@ -1,0 +1,33 @@
+//! Shortest texts, read again, as a caller sees it by the laws.
+ghost use Rattle.std.specs.Prelude.{◌≡◌, Some, to_bits};
+ghost use Rattle.std.specs.Float.Ieee.{binary32, binary64};
+ghost use Rattle.std.specs.Prelude.{from_bits};
+
+use sf_base::Real;
+use sf_float::write_shortest;
+use sf_float_read::value::laws::{one_stored, short_is_stored, stored_is_computed};
+use sf_float_read::{value_f32, value_f64};
+
+/// What `%lf` stores of the shortest text of a double: its pattern, and of a NaN the one of the one NaN.
+pub fn short_f64(bits: u64) -> Option<u64>
+    ensures { result ≡ Some (to_bits binary64 (from_bits binary64 bits)) }
+{
+    short_is_stored();
+    stored_is_computed();
+    one_stored();
+    let mut text = [0; 32];
+    let end = write_shortest(Real::F64(bits), &mut text);
+    value_f64(&text[..end])
+}
+
+/// What `%f` stores of the shortest text of a float: its pattern, and of a NaN the one of the one NaN.
+pub fn short_f32(bits: u32) -> Option<u32>
+    ensures { result ≡ Some (to_bits binary32 (from_bits binary32 bits)) }
+{
+    short_is_stored();
+    stored_is_computed();
+    one_stored();
+    let mut text = [0; 32];
+    let end = write_shortest(Real::F32(bits), &mut text);
+    value_f32(&text[..end])
+}
