@@ -1,9 +1,10 @@
 //! Shortest texts, read again, as a caller sees it by the laws.
-ghost use Rattle.std.specs.Prelude.{◌≡◌, Some, to_bits};
+ghost use Rattle.std.specs.Prelude.{◌≡◌, Some, to_bits, true};
 ghost use Rattle.std.specs.Float.Ieee.{binary32, binary64};
 ghost use Rattle.std.specs.Prelude.{from_bits};
 
 use sf_base::Real;
+use sf_float::fewest::laws::one_float;
 use sf_float::write_shortest;
 use sf_float_read::value::laws::{one_stored, short_is_stored, stored_is_computed};
 use sf_float_read::{value_f32, value_f64};
@@ -30,4 +31,15 @@ pub fn short_f32(bits: u32) -> Option<u32>
     let mut text = [0; 32];
     let end = write_shortest(Real::F32(bits), &mut text);
     value_f32(&text[..end])
+}
+
+/// Whether two doubles have one shortest text. If they have, they are one float.
+pub fn share_text(one: u64, other: u64) -> bool
+    ensures { result ≡ true → from_bits binary64 one ≡ from_bits binary64 other }
+{
+    one_float();
+    let (mut text, mut last) = ([0; 32], [0; 32]);
+    let end = write_shortest(Real::F64(one), &mut text);
+    let other_end = write_shortest(Real::F64(other), &mut last);
+    text[..end] == last[..other_end]
 }
