@@ -1,3 +1,4 @@
 pub mod DoneRuns
 pub mod Faults
 pub mod PairRuns
+pub mod Carrying

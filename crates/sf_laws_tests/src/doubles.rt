@@ -7,7 +7,9 @@ ghost use Rattle.sf_format.specs.declared.unit.PrintConv.{PrintConv};
 ghost use Rattle.sf_format.specs.Proper.{has_optional, may_miss};
 ghost use Rattle.sf_format.specs.Units.{values_of};
 ghost use Rattle.sf_pair.specs.Doubles.{CarriesDoubles};
-ghost use Rattle.sf_pair.specs.Fits.{conversions, assigned_conversions};
+ghost use Rattle.sf_base.specs.Data.{Real};
+ghost use Rattle.sf_base.specs.declared.real.Real.TheVariants.{F64};
+ghost use Rattle.sf_pair.specs.Fits.{conversions, assigned_conversions, fits};
 
 use sf_base::Value;
 use sf_format::ScanFormat;
@@ -17,10 +19,11 @@ use sf_pair::laws::{aligned_is_accepted, aligned_is_whole, finite_doubles_fit, f
 /// Whether a double fits a pair of one conversion: each finite one does, where the conversion writes 17 digits and the
 /// scan has room for them.
 pub fn double_fits(pair: &Pair<'_>, bits: u64) -> bool
-    ensures { (c : PrintConv) (s : Conversion) → conversions pair.now.print ≡ c ∷ []
+    ensures finite { (c : PrintConv) (s : Conversion) → conversions pair.now.print ≡ c ∷ []
         → assigned_conversions pair.now.scan ≡ s ∷ []
         → length (values_of pair.now.print) ≡ 1 → c.slot ≡ 1 → CarriesDoubles c s
         → float_is_finite (from_bits binary64 bits) ≡ true → result ≡ true }
+    ensures test { result ≡ fits pair.now.print pair.now.scan (Real (F64 bits) ∷ []) }
 {
     aligned_is_accepted();
     fits_is_fit();

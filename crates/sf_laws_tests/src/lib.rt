@@ -8,6 +8,7 @@ mod pairs;
 mod prints;
 mod runs;
 mod scans;
+mod there;
 
 pub use doubles::{double_fits, whole_scan};
 pub use formats::{
@@ -18,3 +19,4 @@ pub use pairs::{read_again, read_back, refused_pair};
 pub use prints::{refused_print, written_number};
 pub use runs::{computed, has_row, on_longer_inputs, open_is_used, scanned_twice};
 pub use scans::two_scans;
+pub use there::{Lost, carried, through};
