@@ -181,7 +181,8 @@ module _ (fill_slots : EachDoneRunFillsSlots) (have_rows : EachDoneRunHasItsRow)
     are = all.are;
     values = all.values;
     kinds = all.kinds;
-    texts = λ form. ap (λ (rows : List (List (Option Datum))). flat_map (given_row_text form) rows) all.are ∙ sym (texts_given form all.given);
+    texts = λ form. ap (λ (rows : List (List (Option Datum))). flat_map (given_row_text form) rows) all.are
+        ∙ sym (texts_given form all.given);
     table = tsv_back (kinds_of ds) all.given all.values all.kinds;
   }
 
@@ -256,7 +257,8 @@ module _ (fill_slots : EachDoneRunFillsSlots) (have_rows : EachDoneRunHasItsRow)
 
 pub records_back : {S : Type 0} (to_come : S → Option (List ℕ)) → EachDoneRunFillsSlots → EachDoneRunHasItsRow → HeadedRecordsAreGiven
     → Laws → TsvReadsBack → RecordsReadBack to_come
-records_back to_come fill_slots have_rows headed_given laws tsv_back h ds accepted m t bytes now failures failures' before after answer loop =
+records_back to_come fill_slots have_rows headed_given laws tsv_back h ds accepted m t bytes now failures failures' before after answer
+    loop =
     by loop.told
   where
     bytes_in : (failed : Bool) → AreBytes (input_by failed loop.consumed t)

@@ -42,9 +42,9 @@ pub fn copied_twice()
 }
 
 /// What `run_records` wrote by an accepted format, with a maker of records in a form, of the records of an input of
-/// bytes, is the records of what the input's runs gave to the slots. They read back as that: the texts of the values from
-/// a table or from rows of comma-separated values, and the values from JSON. The names, and the column of the format's
-/// number, are read too. Where the sink failed, a part of one more record follows.
+/// bytes, is the records of what the input's runs gave to the slots. They read back as that: the texts of the values
+/// from a table or from rows of comma-separated values, and the values from JSON. The names, and the column of the
+/// format's number, are read too. Where the sink failed, a part of one more record follows.
 pub fn records_read_back<S: Source>()
     ensures { RecordsReadBack S.to_come }
 {

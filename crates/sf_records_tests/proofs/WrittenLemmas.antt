@@ -81,7 +81,8 @@ named_rows names ds m x ending text answer back bytes before after head is =
       count = back.count;
       read = back.reads (word_bytes, bytes)
           ∙ ap (λ (rows : List (List (Option Datum))). Some ((codes "format" ∷ names) ∷ map (map text_given) rows)) back.columns_are
-          ∙ ap (λ (rows : List (List (List ℕ))). Some ((codes "format" ∷ names) ∷ rows)) (mapped_twice tagged_first (map text_given) back.rows);
+          ∙ ap (λ (rows : List (List (List ℕ))). Some ((codes "format" ∷ names) ∷ rows))
+          (mapped_twice tagged_first (map text_given) back.rows);
     }
 
 pub named_read : (h : Heading) (names : List (List ℕ)) → h ≡ numbered names → (ds : List Directive) (m : ℕ) (x : List ℕ) (ending : Ending)

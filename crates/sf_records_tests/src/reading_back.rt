@@ -1,6 +1,7 @@
 //! What a scan wrote reads back as its values, as a caller sees it by the laws.
 ghost use Rattle.std.specs.Prelude.{◌==◌};
-ghost use Rattle.std.specs.Prelude.{◌≡◌, ◌≤◌, ◌<◌, ◌++◌, ℕ, List, [], ◌∷◌, false, codes, length, map, pos, Option, Some, IfSome};
+ghost use Rattle.std.specs.Prelude.{◌≡◌, ◌≤◌, ◌<◌, ◌++◌, ℕ, List, [], ◌∷◌, false, codes, length, map, pos};
+ghost use Rattle.std.specs.Prelude.{Option, Some, IfSome};
 ghost use Rattle.std.specs.Io.KnownBytes.{Appends};
 ghost use Rattle.std.specs.List.{flat_map, slice_split};
 ghost use Rattle.sf_base.specs.Data.{Datum, Number};
@@ -46,9 +47,9 @@ pub struct LinesWritten {
     pub end: LinesEnd,
 }
 
-/// Writes the records of a text as a table. The sink took the records of rows, some values of which may be missing, and,
-/// where the sink failed, a part of one more. The table reads as the texts of the rows; and as the rows themselves,
-/// where no value may be missing.
+/// Writes the records of a text as a table. The sink took the records of rows, some values of which may be missing,
+/// and, where the sink failed, a part of one more. The table reads as the texts of the rows; and as the rows
+/// themselves, where no value may be missing.
 pub fn write_table<K: Sink>(alloc: Global, text: &[u8], format: &ScanFormat, to: &mut K) -> ToolEnd
     ensures texts { (rows : List (List (Option Datum))) × (part : List ℕ)
         × Appends (K.contents to.old) (K.contents to.new) (flat_map (given_row_text Tsv) rows ++ part)

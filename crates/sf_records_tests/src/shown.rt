@@ -49,7 +49,8 @@ fn record_in<S: Store>(
 }
 
 /// The record of the values that a text gives a format, in three forms. Each reads back: as what the slots were given,
-/// and, where no value may be missing, as the row of their values. None where the run isn't Done, or memory was refused.
+/// and, where no value may be missing, as the row of their values. None where the run isn't Done, or memory was
+/// refused.
 pub fn show_record(alloc: Global, text: &[u8], format: &ScanFormat) -> Option<Shown>
     ensures given { IfSome result (λ shown. (row : List (Option Datum))
         × (csv_rows shown.csv.items ≡ Some (map text_given row ∷ []))

@@ -58,7 +58,7 @@ LinesReadBack {S} to_come =
     → AllByRecursion IsAccepted formats → length formats < 2 ^ 64 → (t : List ℕ) → AreBytes t
     → (now : Ahead S) (failures failures' : ℕ) (before after : Option (List ℕ)) (silent : Bool) (told told' : Option (List ℕ))
     (answer : LinesEnd)
-    (loop : Loops (work_of options ignored formats (writing_under h) telling) to_come t now failures failures' before after silent told told'
-    answer)
+    (loop : Loops (work_of options ignored formats (writing_under h) telling) to_come t now failures failures' before after silent told
+    told' answer)
     → LinesReadAsRows h (work_of options ignored formats (writing_under h) telling)
     (lines_by (ending_by loop.failed) (input_by loop.failed loop.consumed t)) loop.done

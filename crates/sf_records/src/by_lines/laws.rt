@@ -13,9 +13,9 @@ pub fn lines_have_one_turn()
     ensures { LinesHaveOneTurn }
 {}
 
-/// What `run_lines` wrote by accepted formats, with a maker of records in a form, of the lines of an input of bytes, is
-/// the records of what each line that matches gave to the slots of the format that counts on it. They read back as that,
-/// as `records_read_back` has it of the records of an input; the column of the format's number is read too.
+/// What `run_lines` wrote by accepted formats, with a maker of records in a form, of the lines of an input of bytes,
+/// is the records of what each line that matches gave to the slots of the format that counts on it. They read back as
+/// that, as `records_read_back` has it of the records of an input; the column of the format's number is read too.
 pub fn lines_read_back<S: Source>()
     ensures { LinesReadBack S.to_come }
 {

@@ -43,6 +43,7 @@ returns-clause-rows c = λ none.
       has.row,
       csv_row rows n r has.row is_row are c.csv_reads_back.ensures c.in_ok-csv.csv.items c.in_ok-csv.ensures,
       json_row rows n r has.row is_row are c.json_reads_back.ensures c.in_ok-json.json.items c.in_ok-json.ensures,
-      table_row rows n r has.row is_row are c.tsv_reads_back.ensures (kinds_of ds) has.kinds c.in_ok-table.table.items c.in_ok-table.ensures,
+      table_row rows n r has.row is_row are c.tsv_reads_back.ensures (kinds_of ds) has.kinds c.in_ok-table.table.items
+          c.in_ok-table.ensures,
       json_text rows n r has.row is_row are c.json_is_utf8.ensures c.in_ok-json.json.items c.in_ok-json.ensures,
     )

@@ -9,4 +9,5 @@ loop-format-preserved c =
     l.invariant c.destinations-destinations.ensures.accepted
 
 pub returns-clause-accepted : goal.returns-clause-accepted
-returns-clause-accepted c = all_taken IsAccepted c.args.formats.now c.loop-format.format-index c.loop-format-test.false c.loop-format.invariant
+returns-clause-accepted c =
+    all_taken IsAccepted c.args.formats.now c.loop-format.format-index c.loop-format-test.false c.loop-format.invariant
