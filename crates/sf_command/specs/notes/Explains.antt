@@ -182,6 +182,7 @@ Explains profile print verb texts place rest (Record (Read number)) notes = note
 Explains profile print verb texts place rest (Values fault) notes =
     OfWord (λ word said. said ≡ value_notes word fault) (value_word texts fault) notes
 Explains profile print verb texts place rest (Pair fault) notes = OfBoth (SaysPair profile) texts notes
+Explains profile print verb texts place rest (Unprintable mismatch) notes = notes ≡ mismatch_notes mismatch
 Explains profile print verb texts place rest _ notes = notes ≡ []
 
 -- where there is an exit status: of a check, why the formats are no pair

@@ -374,6 +374,7 @@ fn of_fault(
         ) => input_notes(alloc, left.place),
         CommandFault::Values(fault) => of_value(alloc, value_word(order, fault), fault),
         CommandFault::Pair(fault) => of_pair_fault(alloc, profile, job, fault),
+        CommandFault::Unprintable(mismatch) => mismatch_notes(alloc, mismatch),
         _ => Ok(Vec::new(alloc)),
     }
 }
