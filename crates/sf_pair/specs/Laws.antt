@@ -156,10 +156,15 @@ abbrev pub OpenEndsAreOpen : Type 0
 OpenEndsAreOpen = (us : List PrintUnit) (ds : List Directive) → AreAccepted us → IsAccepted ds → (f : PairFault) → pair_fault us ds ≡ Some f
     → f.why ≡ why.OpenEnd → IsOpenAt us ds f.at
 
--- a literal that follows a conversion is taken too, after the text of some value that fits, where it isn't spare; what
+-- a byte that isn't refused for safety alone: after a float with `#` the check refuses `.`, `x` and `X`, and after one with zeros in
+-- front `x` and `X`, though no text of it goes on so
+abbrev pub MayGoOn : PrintConv → Conversion → ℕ → Type 0
+MayGoOn c s b = is_spare s.shape c b ≡ false
+
+-- a literal that follows a conversion is taken too, after the text of some value that fits, where a text may go on with it; what
 -- else follows is left out
 abbrev pub RunsInto : Directive → List PrintUnit → Type 0
-RunsInto (directive.Conv s) (unit.Conv c ∷ unit.Byte b ∷ us) = is_spare s.shape c b ≡ false → TakesInto c s b
+RunsInto (directive.Conv s) (unit.Conv c ∷ unit.Byte b ∷ us) = MayGoOn c s b → TakesInto c s b
 RunsInto _ us = Unit {0}
 
 -- where the walk stops, the literal that follows there, if one does, is taken too
