@@ -1,4 +1,4 @@
-"""`make install`, `make uninstall` and `make dist`."""
+"""`make install`, `make uninstall`, `make dist` and `make library`."""
 import gzip
 import io
 import os
@@ -183,3 +183,63 @@ class Dist(Clone):
         self.make("dist")
         name = program.version().replace(" ", "-")
         self.assertEqual(os.listdir(self.clone + "/dist"), [name + "-x86_64-linux.tar.gz"])
+
+
+@unittest.skipUnless(all(map(shutil.which, ("make", "gzip", "git"))), "there is no make or no gzip or no git")
+class Library(Clone):
+    NAME = "sf-library-1.2.3"
+    CRATES = "# crates\nsf_base: num_traits\nsf_scanf: sf_base\nsf_more: sf_base\nexample_sum: sf_scanf anyhow\n"
+    # What a crate has, of which the archive holds the first three.
+    PARTS = ("src/lib.rt", "specs/Lib.antt", "proofs/Lib.antt", "out/rlib/stamp", "must-fail/x.edit")
+
+    def setUp(self):
+        super().setUp()
+        for name in ("tools/vendor", "prebuilt/README.library", "HANDLES"):
+            os.makedirs(os.path.dirname(f"{self.clone}/{name}"), exist_ok=True)
+            shutil.copy(f"{program.ROOT}/{name}", f"{self.clone}/{name}")
+        self.write("crates.txt", self.CRATES)
+        for crate in ("sf_base", "sf_scanf", "sf_more"):
+            for part in self.PARTS:
+                os.makedirs(os.path.dirname(f"{self.clone}/crates/{crate}/{part}"), exist_ok=True)
+                self.write(f"crates/{crate}/{part}", part)
+        shutil.copytree(program.ROOT + "/crates/example_sum", self.clone + "/crates/example_sum", ignore=shutil.ignore_patterns("out"))
+
+    def archive(self):
+        self.make("library")
+        self.assertEqual(os.listdir(self.clone + "/dist"), [self.NAME + ".tar.gz"])
+        with open(f"{self.clone}/dist/{self.NAME}.tar.gz", "rb") as file:
+            return gzip.decompress(file.read())
+
+    def test_it_holds_what_a_program_stands_on_and_no_more(self):
+        with tarfile.open(fileobj=io.BytesIO(self.archive())) as archive:
+            found = {it.name.removeprefix(self.NAME + "/") for it in archive.getmembers() if it.isfile()}
+            lines = archive.extractfile(f"{self.NAME}/crates.txt").read().decode()
+        crates = {f"crates/{crate}/{part}" for crate in ("sf_base", "sf_scanf") for part in self.PARTS[:3]}
+        example = {f"crates/example_sum/{it}" for it in ("src/main.rt", "stdin", "stdout")}
+        self.assertEqual(found, {"HANDLES", "LICENSE", "README", "crates.txt", "tools/vendor", *crates, *example})
+        self.assertEqual(lines, "sf_base: num_traits\nsf_scanf: sf_base\nexample_sum: sf_scanf anyhow\n")
+
+    def test_it_is_always_the_same(self):
+        first = self.archive()
+        os.utime(self.clone + "/crates/sf_base/src/lib.rt", (1, 1))
+        self.addCleanup(os.umask, os.umask(0o077))
+        self.assertEqual(self.archive(), first)
+
+    def test_a_second_call_of_vendor_puts_newer_crates_in_place_and_keeps_the_rest(self):
+        program.output(self.clone + "/tools/vendor", self.place, "mine")
+        with open(self.place + "/crates.txt", "a", encoding="ascii") as file:
+            file.write("other: sf_base\n")
+        self.write("crates/sf_base/src/lib.rt", "newer")
+        os.remove(self.clone + "/crates/sf_base/specs/Lib.antt")
+        program.output(self.clone + "/tools/vendor", self.place, "mine")
+        with open(self.place + "/crates.txt", encoding="ascii") as file:
+            self.assertEqual(sorted(file), sorted(["sf_base: num_traits\n", "sf_scanf: sf_base\n", "mine: sf_scanf anyhow\n", "other: sf_base\n"]))
+        with open(self.place + "/crates/sf_base/src/lib.rt", encoding="ascii") as file:
+            self.assertEqual(file.read(), "newer")
+        self.assertFalse(os.path.exists(self.place + "/crates/sf_base/specs/Lib.antt"))
+
+    def test_vendor_refuses_what_is_no_crate(self):
+        for words in ((), (self.place,), (self.place, "mine", "sf_none")):
+            how = {"capture_output": True, "check": False, "timeout": program.SECONDS}
+            self.assertEqual(subprocess.run([self.clone + "/tools/vendor", *words], **how).returncode, 2)
+        self.assertFalse(os.path.exists(self.place))
