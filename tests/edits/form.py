@@ -15,7 +15,8 @@ from tree import UNIT, Unread, read
 TURNED = {"==": "!=", "!=": "==", "<": ">=", ">=": "<", ">": "<=", "<=": ">"}
 MIRRORED = {">": "<", ">=": "<="}
 TESTS = {"Some": ("is_some", True), "None": ("is_some", False), "Ok": ("is_ok", True), "Err": ("is_ok", False)}
-OTHER = {"Some": ("value", ("path", "None")), "Ok": ("of", "Err", (("any",),)), "Err": ("of", "Ok", (("any",),)), "None": ("of", "Some", (("any",),))}
+OTHER = {"Some": ("value", ("path", "None")), "None": ("of", "Some", (("any",),)),
+         "Ok": ("of", "Err", (("any",),)), "Err": ("of", "Ok", (("any",),))}
 TRUE, FALSE = ("truth", True), ("truth", False)
 MOST = {**{name: 2 ** (bits - 1) - 1 for name, bits in SIGNED.items()}, **{name: 2**bits - 1 for name, bits in UNSIGNED.items()}}
 
@@ -342,7 +343,8 @@ class Form:
         known = self.kinds.type_of(place)
         if self.kinds.is_fixed(place) and sign not in ("<<=", ">>="):
             value = self.settled(value, known)
-        if sign != "=" and self.kinds.is_pure((place, value)) and (known in INTEGERS or known == "bool" or self.kinds.type_of(value) in INTEGERS):
+        is_plain = known in INTEGERS or known == "bool" or self.kinds.type_of(value) in INTEGERS
+        if sign != "=" and is_plain and self.kinds.is_pure((place, value)):
             return ("assign", "=", place, self.form(("bin", sign[:-1], it[2], it[3])))
         return ("assign", sign, place, value)
 
@@ -454,7 +456,7 @@ class Form:
             return made
         if kind == "range_of":
             return self.is_within(pattern, it)
-        name = pattern[1] if kind == "of" and pattern[2] == (("any",),) else pattern[1][1] if kind == "value" and pattern[1][0] == "path" else ""
+        name = whole_variant(pattern)
         if name in TESTS and TESTS[name][0] not in self.about.names:
             found = method(it[2] if it[:2] == ("un", "&") else it, TESTS[name][0])
             return found if TESTS[name][1] else self.negated(found)
@@ -625,10 +627,16 @@ def binds(pattern):
     return "('bind'," in repr(pattern)
 
 
+def whole_variant(pattern):
+    """The variant that a pattern is of, whatever is in it; of another pattern, nothing."""
+    if pattern[0] == "of" and pattern[2] == (("any",),):
+        return pattern[1]
+    return pattern[1][1] if pattern[0] == "value" and pattern[1][0] == "path" else ""
+
+
 def is_rest(first, second):
     """Whether a pattern is what another one leaves."""
-    names = [it[1] if it[0] == "of" and it[2] == (("any",),) else it[1][1] if it[0] == "value" and it[1][0] == "path" else "" for it in (first, second)]
-    if {*names} in ({"Some", "None"}, {"Ok", "Err"}):
+    if {*map(whole_variant, (first, second))} in ({"Some", "None"}, {"Ok", "Err"}):
         return True
     return {first, second} == {("value", TRUE), ("value", FALSE)}
 

@@ -164,7 +164,7 @@ EDITS |= {
         ("ten_by_name", "old: return 10;\nnew: let ten = 10; return ten;", "BAD EDIT: it changes no value"),
         ("ten_by_pair", "old: return 10;\nnew: let (ten, _) = (10, 0); return ten;", "NOT REFUSED"),
         ("test_by_name", "old: if n > 10 {\nnew: let is_more = n > 10; if is_more {", "BAD EDIT: it changes no value"),
-        ("test_by_pair", "old: if n > 10 {\nnew: let (is_more, _) = (n > 10, 0); if is_more {", "BAD EDIT: its proof cites what the edit renamed"),
+        ("test_by_pair", "old: if n > 10 {\nnew: let (is_more, _) = (n > 10, 0); if is_more {", "BAD EDIT: its proof cites"),
         ("doubled_before", "old: return 10;\nnew: let _ = n * 2; return 10;", "BAD EDIT: it is not clear whether a clause fails"),
         ("twice", "old: return 10;\nnew: return 20;", "low::steps::bounded: "),
         ("eleven_passes", "old: if n > 10 {\nnew: if n > 11 {", "BAD EDIT: its proof cites what the edit renamed"),

@@ -19,8 +19,8 @@ fn has_room(b: u8) -> bool requires { b < 9 } { }
 fn taken(from: &mut Reader) -> bool { }
 fn twice(n: u32) -> u32 { }
 """
-HEAD = """fn judged(a: u32, b: u32, c: u32, n: usize, m: usize, x: u8, y: u8, s: i32, t: i32, ratio: f64, yes: bool, no: bool, some: Option<u8>,
-    other: Option<u8>, list: &[u8], kind: Kind, step: &Step, left: &mut Step, from: &mut Reader, size: &mut usize) -> u32"""
+HEAD = """fn judged(a: u32, b: u32, c: u32, n: usize, m: usize, x: u8, y: u8, s: i32, t: i32, ratio: f64, yes: bool, no: bool,
+    some: Option<u8>, other: Option<u8>, list: &[u8], kind: Kind, step: &Step, left: &mut Step, from: &mut Reader, size: &mut usize) -> u32"""
 
 # Bodies that come to the same.
 SAME = (

@@ -5,8 +5,8 @@ Expressions:
     ("call", it, args) ("index", it, at) ("try", it) ("un", sign, it) ("bin", sign, a, b) ("as", it, type) ("range", a, b, sign)
     ("assign", sign, place, it) ("if", test, then, other) ("is", pattern, it) ("match", it, arms) ("arm", pattern, guard, body)
     ("loop", label, body) ("while", label, test, body) ("for", label, pattern, it, body) ("return", it) ("break", label, it)
-    ("continue", label) ("closure", patterns, body) ("macro", name, tokens) ("tuple", parts) ("array", parts) ("repeat", it, count) ("struct", words, fields, base)
-    ("block", statements, last) ("let", pattern, type, it, otherwise) ("do", it) ("with", name, it)
+    ("continue", label) ("closure", patterns, body) ("macro", name, tokens) ("tuple", parts) ("array", parts) ("repeat", it, count)
+    ("struct", words, fields, base) ("block", statements, last) ("let", pattern, type, it, otherwise) ("do", it) ("with", name, it)
 Patterns:
     ("any",) ("rest",) ("bind", name, is_mutable, by_reference, inside) ("range_of", first, end) ("value", it) ("one_of", patterns)
     ("of", words, patterns) ("of_fields", words, fields, has_more) ("of_tuple", patterns) ("of_slice", patterns) ("lent", pattern)
@@ -20,8 +20,8 @@ COMMENT = re.compile(r"""//[^\n]*|/\*.*?\*/|(b?"(?:[^"\\]|\\.)*"|b?'(?:\\[^\n]{1
 NUMBER = re.compile(r"(0x[0-9a-fA-F_]+?|0b[01_]+|0o[0-7_]+|\d[\d_]*)((?:[iu](?:8|16|32|64|128|size))?)")
 NAME = re.compile(r"[A-Za-z_]\w*")
 ESCAPES = {"\\n": 10, "\\t": 9, "\\r": 13, "\\0": 0, "\\\\": 92, "\\'": 39, '\\"': 34}
-WORDS = {"as", "break", "const", "continue", "crate", "dyn", "else", "enum", "extern", "fn", "for", "ghost", "if", "impl", "in", "let", "loop",
-         "match", "mod", "move", "mut", "pub", "ref", "return", "static", "struct", "trait", "type", "unsafe", "use", "where", "while"}
+WORDS = {"as", "break", "const", "continue", "crate", "dyn", "else", "enum", "extern", "fn", "for", "ghost", "if", "impl", "in", "let",
+         "loop", "match", "mod", "move", "mut", "pub", "ref", "return", "static", "struct", "trait", "type", "unsafe", "use", "where", "while"}
 LEVELS = [("||",), ("&&",), ("==", "!=", "<", ">", "<=", ">="), ("|",), ("^",), ("&",), ("<<", ">>"), ("+", "-"), ("*", "/", "%")]
 ASSIGNS = {"=", *(f"{it}=" for it in ("+", "-", "*", "/", "%", "&", "|", "^", "<<", ">>"))}
 AND = 1
