@@ -38,7 +38,8 @@ fn is_class_shape(shape: &Shape) -> bool
 
 /// Whether two directives are what a class of POSIX makes in a scan format: such a set, and a `]`.
 fn are_class(first: Option<&Directive>, next: Option<&Directive>) -> bool
-    ensures { result ≡ are_class (option_map (λ given. given.now) first.entry) (option_map (λ given. given.now) next.entry) }
+    ensures { result ≡ are_class (option_map (λ given. given.now) first.entry)
+        (option_map (λ given. given.now) next.entry) }
 {
     match (first, next) {
         (Some(Directive::Conv(conversion)), Some(Directive::Byte(b))) => {
@@ -65,7 +66,8 @@ fn is_open_text(conversion: &Conversion) -> bool
 
 /// The byte that has to stand after such a text, where the two directives are these.
 fn byte_of_text(first: Option<&Directive>, next: Option<&Directive>) -> Option<u8>
-    ensures { result ≡ byte_of_text (option_map (λ given. given.now) first.entry) (option_map (λ given. given.now) next.entry) }
+    ensures { result ≡ byte_of_text (option_map (λ given. given.now) first.entry)
+        (option_map (λ given. given.now) next.entry) }
 {
     match (first, next) {
         (Some(Directive::Conv(conversion)), Some(Directive::Byte(b))) if is_open_text(conversion) =>

@@ -4,7 +4,8 @@ ghost use Rattle.sf_messages.specs.Sentences.{escape_sentence, left_out_sentence
 ghost use Rattle.sf_messages.specs.Sentences.{lone_newline_sentence, newline_taken_sentence, over_newline_sentence};
 ghost use Rattle.sf_messages.specs.Sentences.{no_value_text, pair_sentence, range_text, typed_escape, values_text};
 ghost use Rattle.sf_messages.specs.Sentences.{byte_mark_sentence, carriage_sentence, class_sentence, raw_sentence};
-ghost use Rattle.sf_messages.specs.Sentences.{printed_by_text, read_by_text, text_front, wanted_text, white_first_sentence};
+ghost use Rattle.sf_messages.specs.Sentences.{printed_by_text, read_by_text, text_front};
+ghost use Rattle.sf_messages.specs.Sentences.{wanted_text, white_first_sentence};
 ghost use Rattle.sf_messages.specs.Sentences.{wide_text_sentence};
 ghost use Rattle.sf_messages.specs.Sentences.{is_digit, is_float_after, is_float_letter, typed_text};
 ghost use Rattle.sf_messages.specs.Sentences.{unknown_sentence, why_sentence};

@@ -1,5 +1,6 @@
 -- Words after `--`.
-use Rattle.std.proofs.Common.{◌≡◌, ◌∙◌, cond, ◌<◌, ◌≤◌, ◌^◌, ℕ, Bool, true, false, nat_lt, List, [], ◌∷◌, ◌++◌, length, Some, None, is_some, refl}
+use Rattle.std.proofs.Common.{◌≡◌, ◌∙◌, cond, ◌<◌, ◌≤◌, ◌^◌, ℕ, Bool, true, false, nat_lt, List, [], ◌∷◌, ◌++◌}
+use Rattle.std.proofs.Common.{length, Some, None, is_some, refl}
 use Rattle.std.proofs.Common.{sym, ap, subst, arith, inl, inr, append-nil, codes}
 use Rattle.std.specs.Prelude.{fold}
 use Rattle.std.proofs.lemmas.Bool.{ltb-true}

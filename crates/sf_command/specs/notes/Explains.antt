@@ -19,7 +19,8 @@ use Rattle.sf_messages.specs.declared.fault.CommandFault.{CommandFault}
 use Rattle.sf_messages.specs.declared.fault.CommandFault.TheVariants.{BadEscape, Format, PrintFormat, Values, Record, Pair, Unprintable}
 use Rattle.sf_messages.specs.declared.fault.FormatName.{FormatName}
 use Rattle.sf_messages.specs.declared.fault.FormatName.TheVariants as name
-use Rattle.sf_messages.specs.Notes.{escape_notes, failed_notes, format_notes, input_notes, line_notes, mismatch_notes, pair_notes, value_notes}
+use Rattle.sf_messages.specs.Notes.{escape_notes, failed_notes, format_notes, input_notes, line_notes}
+use Rattle.sf_messages.specs.Notes.{mismatch_notes, pair_notes, value_notes}
 use Rattle.sf_pair.specs.declared.fault.PairFault.{PairFault}
 use Rattle.sf_messages.specs.declared.places.place.Place.{Place}
 use Rattle.sf_records.specs.declared.end.ToolFault.TheVariants.{Failed, Stalled, Unfit, Read}
