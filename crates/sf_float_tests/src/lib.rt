@@ -11,4 +11,4 @@ mod values;
 #[cfg(test)]
 mod written;
 
-pub use short::{share_text, short_f32, short_f64};
+pub use short::{share_text, short_f32, short_f64, shortest_of};
