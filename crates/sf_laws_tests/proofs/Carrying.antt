@@ -1,7 +1,7 @@
 -- A double that a pair writes and reads.
 use Rattle.std.proofs.Common.{◌≡◌, ◌≤◌, ◌<◌, ◌++◌, ℕ, Bool, true, false, if◌then◌else◌, List, [], ◌∷◌, length, Option, Some, None}
 use Rattle.std.proofs.Common.{Result, Ok, Err, inl, inr, refl, sym, ◌∙◌, arith, eq-zero-or-pos, true≢false, ◌-◌}
-use Rattle.std.specs.Prelude.{is_err}
+use Rattle.std.specs.Prelude.{is_err, is_ok}
 use Rattle.std.specs.Option.{option_map}
 use Rattle.sf_base.specs.Data.{Real, datum_at, datum_of}
 use Rattle.sf_base.specs.declared.real.Real.TheVariants as reals
@@ -61,3 +61,7 @@ short_enough text r ok long = elim (eq-zero-or-pos (length text - 2147483647)) [
   | inl z ↦ omega (arith, z)
   | inr p ↦ absurd (true≢false (sym (long (omega (arith, p))) ∙ ok))
 ]
+
+pub no_error : {A E : Type 0} (r : Result A E) → is_ok r ≡ true → is_err r ≡ false
+no_error (Ok done) e = refl
+no_error (Err why) e = absurd cc

@@ -1,5 +1,5 @@
 -- What a checked pair reads, by its laws.
-use Rattle.std.proofs.Common.{false, ◌≡◌, ◌<◌, ◌≤◌, inl, ℕ, List, [], ◌++◌, length, Some, sym, ap, subst, ◌∙◌, arith, append-nil}
+use Rattle.std.proofs.Common.{false, ◌≡◌, ◌<◌, ◌≤◌, inl, ℕ, List, [], ◌∷◌, ◌++◌, length, Some, sym, ap, subst, ◌∙◌, arith, append-nil}
 use Rattle.std.proofs.Common.{length-append}
 use Rattle.sf_base.specs.Data.{Datum}
 use Rattle.sf_format.specs.declared.directive.Directive.{Directive}
@@ -8,6 +8,7 @@ use Rattle.sf_format.specs.Proper.{may_miss}
 use Rattle.sf_format.specs.Widths.{width_sum}
 use Rattle.std.specs.Prelude.{IsSome}
 use Rattle.sf_print.specs.Printed.{printed}
+use Rattle.sf_run.specs.outcome.Ending.{Ending}
 use Rattle.sf_run.specs.outcome.Ending.TheVariants.{End}
 use Rattle.sf_run.specs.outcome.Status.TheVariants.{InputFailure}
 use Rattle.sf_report.specs.Laws.{EachHasOneReport}
@@ -17,6 +18,7 @@ use Rattle.sf_report.specs.Runs.{RunReport}
 use Rattle.sf_pair.specs.Fits.{Fit}
 use Rattle.sf_pair.specs.Formats.{IsChecked}
 use Rattle.sf_pair.specs.Groups.{IsAligned}
+use Rattle.sf_pair.specs.Joined.{JoinedRoundTrip, RunsInTurn, joined}
 use Rattle.sf_pair.specs.Laws.{AlignedEndsOnNothing, AlignedIsBounded, AlignedMissesNone, AlignedSlotsAgree, PrintsSome, ReadWithin}
 use Rattle.sf_pair.specs.Laws.{RoundTrip, read_back}
 use Rattle.sf_pair.specs.Walk.{AlignedIsAccepted}
@@ -66,3 +68,14 @@ module _ (us : List PrintUnit) (ds : List Directive) (checked : IsChecked us ds)
       let own = one ds checked.scanned.proper 1000 (printed us values ++ []) End in
       own.only report (subst (λ x. RunWithin ds 1000 x End report) (is ∙ sym (append-nil (printed us values))) run)
       ∙ sym (own.only (read_back us ds values) (inl (omega (arith, low, ap length is), trip)))
+
+  -- two texts, one after the other
+  pub rows : JoinedRoundTrip → (one other : List Datum) → Fit us ds one → Fit us ds other → (empty first both : List ℕ) → empty ≡ []
+      → first ≡ empty ++ printed us one → both ≡ first ++ printed us other → (z : List ℕ) (ending : Ending)
+      → RunsInTurn ds (both ++ z) ending (read_back us ds one ∷ read_back us ds other ∷ []) z
+  rows law one other fit other_fit empty first both none first_is both_is z ending =
+      let is : both ≡ joined us (one ∷ other ∷ []) =
+      both_is ∙ ap (λ (t : List ℕ). t ++ printed us other) (first_is ∙ ap (λ (t : List ℕ). t ++ printed us one) none)
+      ∙ ap (λ (t : List ℕ). printed us one ++ t) (sym (append-nil (printed us other))) in
+      subst (λ (t : List ℕ). RunsInTurn ds (t ++ z) ending (read_back us ds one ∷ read_back us ds other ∷ []) z) (sym is)
+          (law us ds checked.printed checked.scanned aligned (one ∷ other ∷ []) (fit, (other_fit, tt)) z ending).runs

@@ -15,8 +15,10 @@ pub use formats::{
     both_profiles, faulted_twice, has_slot, in_their_order, one_profile, parsed_again,
     parsed_and_refused, parsed_twice, print_parsed_twice, spelled_or_faulty,
 };
-pub use pairs::{read_again, read_back, refused_pair};
+pub use pairs::{read_again, read_back, refused_pair, written_rows};
 pub use prints::{refused_print, written_number};
-pub use runs::{computed, has_row, on_longer_inputs, open_is_used, scanned_twice};
+pub use runs::{
+    computed, has_row, on_longer_inputs, open_is_used, over_two_stores, scanned_twice,
+};
 pub use scans::two_scans;
 pub use there::{Lost, carried, through};

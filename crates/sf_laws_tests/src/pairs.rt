@@ -1,5 +1,5 @@
 //! Laws of pairs.
-ghost use Rattle.std.specs.Prelude.{◌≡◌, ◌<◌, ◌≤◌, ◌++◌, ℕ, List, [], length, map, true, Some, None, IfOk, IfErr};
+ghost use Rattle.std.specs.Prelude.{◌≡◌, ◌<◌, ◌≤◌, ◌++◌, ◌∷◌, ℕ, List, [], length, map, true, Some, None, IfOk, IfErr};
 ghost use Rattle.std.specs.Prelude.{IfSome};
 ghost use Rattle.sf_base.specs.Data.{Datum, datum_of};
 ghost use Rattle.sf_base.specs.stores.Kept.{texts_in};
@@ -9,19 +9,22 @@ ghost use Rattle.sf_format.specs.Widths.{width_sum};
 ghost use Rattle.sf_format.specs.Proper.{destinations_of};
 ghost use Rattle.sf_print.specs.Printed.{printed};
 ghost use Rattle.sf_run.specs.outcome.Status.TheVariants as status;
+ghost use Rattle.sf_run.specs.outcome.Ending.{Ending};
 ghost use Rattle.sf_run.specs.outcome.Ending.TheVariants as ending;
 ghost use Rattle.sf_report.specs.Rows.{AreRowOf};
 ghost use Rattle.sf_pair.specs.Fits.{Fit, fits};
+ghost use Rattle.sf_pair.specs.Joined.{RunsInTurn};
 ghost use Rattle.sf_pair.specs.Laws.{IsOpenAt, IsRunInto, StopsAt, read_back};
 
 use sf_base::{HeapStore, Value};
 use sf_format::{PrintFormat, ScanFormat};
 use sf_pair::laws::{
     aligned_is_accepted, aligned_is_bounded, ends_on_nothing, fits_is_fit, held_is_bounded,
-    literals_are_run_into, open_ends_are_open, prints_some, read_within, round_trip, slots_agree,
+    joined_round_trip, literals_are_run_into, open_ends_are_open, prints_some, read_within, round_trip, slots_agree,
     stops_are_one,
 };
 use sf_pair::{Pair, PairFault, PairWhy};
+use sf_print::ListSink;
 use sf_read::sscan;
 use sf_report::laws::one_report;
 use sf_run::Scanned;
@@ -103,4 +106,42 @@ pub fn read_again(
         return None;
     };
     Some(scanned)
+}
+
+/// Writes a row of values by a pair. Answers whether it fits, and was written.
+fn write_row(pair: &Pair<'_>, to: &mut ListSink, values: &[Value<'_>]) -> bool
+    ensures { result ≡ true → Fit pair.now.print pair.now.scan (map datum_of values.now)
+        × (to.new.bytes ≡ to.old.bytes ++ printed pair.now.print (map datum_of values.now)) }
+{
+    fits_is_fit();
+    if !pair.fits(values) {
+        return false;
+    }
+    pair.write(to, values).is_ok()
+}
+
+/// Writes two rows of values by a pair, one after the other. Whatever follows their texts, runs of the scan format give
+/// both rows back, one after the other, and leave what follows. None where a row doesn't fit, or memory was refused.
+pub fn written_rows(
+    alloc: Global,
+    pair: &Pair<'_>,
+    one: &[Value<'_>],
+    other: &[Value<'_>],
+) -> Option<ListSink>
+    ensures { IfSome result (λ text. (z : List ℕ) (ending : Ending)
+        → RunsInTurn pair.now.scan (text.bytes ++ z) ending
+        (read_back pair.now.print pair.now.scan (map datum_of one.now)
+        ∷ read_back pair.now.print pair.now.scan (map datum_of other.now) ∷ []) z) }
+{
+    aligned_is_accepted();
+    joined_round_trip();
+    let _print = pair.print();
+    let mut text = ListSink::new(alloc);
+    if !write_row(pair, &mut text, one) {
+        return None;
+    }
+    if !write_row(pair, &mut text, other) {
+        return None;
+    }
+    Some(text)
 }

@@ -11,7 +11,7 @@ ghost use Rattle.sf_report.specs.Rows.{FillsSlots, HasRow};
 ghost use Rattle.sf_report.specs.Runs.{IsOpen, report_of, values};
 ghost use Rattle.sf_run.specs.outcome.Status.TheVariants.{Done};
 
-use sf_base::HeapStore;
+use sf_base::{FixedStore, HeapStore};
 use sf_format::ScanFormat;
 use sf_read::sscan;
 use sf_report::laws::{
@@ -19,6 +19,8 @@ use sf_report::laws::{
     steps_are_computed,
 };
 use sf_report::{Ending, Scanned};
+use sf_run::Scanner;
+use sf_run::laws::stores_report_alike;
 use std::alloc::Global;
 
 /// The limit of these runs.
@@ -103,4 +105,37 @@ pub fn computed(alloc: Global, format: &ScanFormat, text: &[u8]) -> Option<Scann
         return None;
     };
     Some(scanned)
+}
+
+/// A text that is fed to two scanners, one over a store that grows and one over a store of fixed capacity, has one
+/// report. None where memory was refused, or the format asks for more than the fixed store has.
+pub fn over_two_stores(
+    alloc: Global,
+    format: &ScanFormat,
+    text: &[u8],
+) -> Option<(Scanned<HeapStore>, Scanned<FixedStore<64, 8>>)>
+    ensures { IfSome result (λ both. both.0.report ≡ both.1.report) }
+{
+    stores_report_alike();
+    let _directives = format.directives();
+    let Some(_sum) = format.width_sum() else {
+        return None;
+    };
+    let Ok(mut growing) = Scanner::new(alloc, format, LIMIT) else {
+        return None;
+    };
+    let Ok(mut fixed) = Scanner::<FixedStore<64, 8>>::fixed(format, LIMIT) else {
+        return None;
+    };
+    growing.feed(text);
+    growing.end(Ending::End);
+    fixed.feed(text);
+    fixed.end(Ending::End);
+    let Ok(first) = growing.into_scanned() else {
+        return None;
+    };
+    let Ok(second) = fixed.into_scanned() else {
+        return None;
+    };
+    Some((first, second))
 }
