@@ -1,3 +1,4 @@
 pub mod CopyLemmas
+pub mod NamedLemmas
 pub mod ShownLemmas
 pub mod WrittenLemmas

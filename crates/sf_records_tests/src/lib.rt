@@ -16,6 +16,7 @@ mod errors;
 mod forms;
 #[cfg(test)]
 mod memory;
+pub mod named;
 #[cfg(test)]
 mod numbers;
 #[cfg(test)]
