@@ -78,4 +78,4 @@ module _ (us : List PrintUnit) (ds : List Directive) (checked : IsChecked us ds)
       both_is ∙ ap (λ (t : List ℕ). t ++ printed us other) (first_is ∙ ap (λ (t : List ℕ). t ++ printed us one) none)
       ∙ ap (λ (t : List ℕ). printed us one ++ t) (sym (append-nil (printed us other))) in
       subst (λ (t : List ℕ). RunsInTurn ds (t ++ z) ending (read_back us ds one ∷ read_back us ds other ∷ []) z) (sym is)
-          (law us ds checked.printed checked.scanned aligned (one ∷ other ∷ []) (fit, (other_fit, tt)) z ending).runs
+      (law us ds checked.printed checked.scanned aligned (one ∷ other ∷ []) (fit, (other_fit, tt)) z ending).runs

@@ -20,8 +20,8 @@ use sf_base::{HeapStore, Value};
 use sf_format::{PrintFormat, ScanFormat};
 use sf_pair::laws::{
     aligned_is_accepted, aligned_is_bounded, ends_on_nothing, fits_is_fit, held_is_bounded,
-    joined_round_trip, literals_are_run_into, open_ends_are_open, prints_some, read_within, round_trip, slots_agree,
-    stops_are_one,
+    joined_round_trip, literals_are_run_into, open_ends_are_open, prints_some, read_within,
+    round_trip, slots_agree, stops_are_one,
 };
 use sf_pair::{Pair, PairFault, PairWhy};
 use sf_print::ListSink;

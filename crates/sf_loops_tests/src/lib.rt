@@ -4,6 +4,7 @@
 
 #[cfg(test)]
 mod answers;
+mod in_turn;
 #[cfg(test)]
 mod lines;
 #[cfg(test)]
@@ -12,3 +13,5 @@ mod missing;
 mod pairs;
 #[cfg(test)]
 mod records;
+
+pub use in_turn::{only_line, two_lines, two_records};

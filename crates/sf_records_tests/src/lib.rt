@@ -14,6 +14,7 @@ mod devices;
 mod errors;
 #[cfg(test)]
 mod forms;
+pub mod lines_again;
 #[cfg(test)]
 mod memory;
 pub mod named;

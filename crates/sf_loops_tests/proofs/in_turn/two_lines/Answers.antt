@@ -1,0 +1,34 @@
+use Rattle.std.proofs.Common.{ℕ, List, [], ◌∷◌, Some, Ok, ap, refl, subst, ◌∙◌}
+use Rattle.sf_format.specs.declared.directive.Directive.{Directive}
+use Rattle.sf_read.specs.field.Rows.{slots_by}
+use Rattle.sf_loops.specs.LineLaws.{AreAnswersOf}
+use Rattle.sf_loops.specs.Lines.{IsNextLineRow}
+use Rattle.sf_loops_tests.proofs.Turned.{line_goes}
+use Rattle.sf_loops_tests.proofs.in_turn.two_lines.Goals as goal
+
+pub returns : goal.returns
+returns g c =
+    let begun = c.in-Ok.ensures in
+    let kinds = g.T.Row.kinds in
+    let given = slots_by g.T.Row.given g.T.Row.listed in
+    let old = c.in-Ok.lines in
+    let mid = c.next.new.self in
+    let new = c.next-2.new.self in
+    let first = c.in-Ok-Some.first in
+    let second = c.in-Ok-Some-next.second in
+    let one = subst (λ r. IsNextLineRow (λ s. Some s.to_come) (λ s. s.reads) (λ s. 0) 64 kinds given old mid r)
+    (c.in-Ok-Some.is ∙ ap Ok c.in-Ok-Some.field-0-is) (c.next.ensures.next begun.none_yet.2) in
+    let goes = line_goes (λ s. Some s.to_come) (λ s. s.reads) (λ s. 0) 64 kinds given old mid first one in
+    let other = subst (λ r. IsNextLineRow (λ s. Some s.to_come) (λ s. s.reads) (λ s. 0) 64 kinds given mid new r)
+    (c.in-Ok-Some-next.is ∙ ap Ok c.in-Ok-Some-next.field-0-is) (c.next-2.ensures.next goes) in
+    let still = line_goes (λ s. Some s.to_come) (λ s. s.reads) (λ s. 0) 64 kinds given mid new second other in
+    let rows = Ok first ∷ Ok second ∷ [] in
+    let all = c.answers_are_lines.ensures old new rows (mid, one, goes, (new, other, still, refl)) c.args.text.now
+    (rw (begun.held, begun.source, c.new.ensures) refl) in (
+      all.0,
+      all.1,
+      all.2,
+      subst (λ (ds : List Directive). AreAnswersOf kinds given ds 1000 0 all.0 rows) begun.format.0
+          (subst (λ (m : ℕ). AreAnswersOf kinds given old.format m 0 all.0 rows) begun.format.1
+          (subst (λ (n : ℕ). AreAnswersOf kinds given old.format old.limit n all.0 rows) begun.none_yet.0 all.4)),
+    )
