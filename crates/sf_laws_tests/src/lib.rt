@@ -2,6 +2,8 @@
 //! where a caller can use the law.
 #![tactic(auto)]
 
+#[cfg(test)]
+mod bit_for_bit;
 mod doubles;
 mod formats;
 mod pairs;
@@ -17,8 +19,6 @@ pub use formats::{
 };
 pub use pairs::{read_again, read_back, refused_pair, written_rows};
 pub use prints::{refused_print, written_number};
-pub use runs::{
-    computed, has_row, on_longer_inputs, open_is_used, over_two_stores, scanned_twice,
-};
+pub use runs::{computed, has_row, on_longer_inputs, open_is_used, over_two_stores, scanned_twice};
 pub use scans::two_scans;
 pub use there::{Lost, carried, through};
