@@ -67,5 +67,5 @@ pub ended_by : {S : Type 0} {to_come : S → Option (List ℕ)} (h : Heading) �
     × (after ≡ texts turns) × (answer ≡ ended turns None)
 ended_by {S} {to_come} h is options formats t {now} before after empty {silent} {told} {told'} answer loop none =
     ended_lines (work_of options [] formats (writing_under (bare Json)) no_note) t before after empty answer
-    (subst (λ (k : Heading). Loops (work_of options [] formats (writing_under k) no_note) to_come t now 0 0 (Some before) (Some after) silent
-    told told' answer) is loop) none
+    (subst (λ (k : Heading). Loops (work_of options [] formats (writing_under k) no_note) to_come t now 0 0 (Some before) (Some after)
+    silent told told' answer) is loop) none

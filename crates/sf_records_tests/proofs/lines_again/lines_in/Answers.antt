@@ -10,5 +10,5 @@ returns c =
     ap (λ k. Some (k ++ c.new-from.result.source.to_come)) c.new-from.ensures.held
     ∙ ap (λ s. Some s.to_come) (c.new-from.ensures.source ∙ c.new.ensures) in
     let loop = c.run_lines-end.ensures.loops no_note text refl input in
-    ended_by c.new-maker.result c.new-maker.ensures c.args.options c.args.formats.now text c.new-to.result.bytes c.run_lines-end.new.to.bytes
-    (ap (λ s. s.bytes) c.new-to.ensures) c.run_lines-end.result loop
+    ended_by c.new-maker.result c.new-maker.ensures c.args.options c.args.formats.now text c.new-to.result.bytes
+    c.run_lines-end.new.to.bytes (ap (λ s. s.bytes) c.new-to.ensures) c.run_lines-end.result loop
