@@ -87,6 +87,6 @@ def checks():
     yield "--explain with a value", refused("scan", "--explain=1", "%d")
     yield "--explain twice", refused("scan", "--explain", "--explain", "%d")
     yield "--explai", refused("scan", "--explai", "%d")
-    yield "a prefix of base 2 in profile 1", says(["scan", "--explain", "%b"], b"no conversion of this profile is written so", b"1")
+    yield "a prefix of base 2 in profile 1", says(["scan", "--explain", "%b"], b"base 2 is read and printed by --profile 2", b"1")
     yield "0b under %i in profile 1", says(["scan", "--explain", "%i%n%d"], b'  directive 3: "%d", d i32 width - slot 3\n  at line 1, column 2 of the input\n  there stood "b1"', b"0b1")
     yield "0b under %i in profile 2", says(["scan", "--explain", "--profile", "2", "%i%n;"], b'  directive 3: ";", byte ";"\n  at line 2, column 4 of the input\n', b"\n0b1")
