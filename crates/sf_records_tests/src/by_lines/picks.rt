@@ -267,13 +267,14 @@ static JUDGED: [(&str, &str, Option<PrintMismatch>); 11] = [
     ("%hd %hd %d", "%hhd %hhu %hu", None),
     ("%ld %d", "%u%n", None),
     ("%ld %ld", "%hd %ld", None),
+    ("%d %ld", "%d %d", None),
     (
-        "%d %ld",
         "%d %d",
+        "%d %ld",
         Some(PrintMismatch::Kinds {
             slot: 2,
-            print: Kind::I64,
-            scan: Kind::I32,
+            print: Kind::I32,
+            scan: Kind::I64,
         }),
     ),
     (
