@@ -29,6 +29,12 @@ class Gate(Clone):
         lines = self.expect(1, "48 passed, 1 failed, 0 skipped", "--prove")
         self.assertIn("  prebuilt/finish: crates/sf/out/sf could not be linked", lines)
 
+    def test_an_object_that_an_earlier_build_left_is_not_linked(self):
+        os.makedirs(self.clone + "/crates/sf/out")
+        self.write("crates/sf/out/sf.o", b"an old object")
+        self.expect(0, ALL, "--prove")
+        self.assertFalse(os.path.exists(self.clone + "/crates/sf/out/sf.o"))
+
     def test_each_wrong_body_is_tried_where_that_is_asked_for(self):
         self.expect(0, ALL, "--prove", "--all")
         self.assertEqual(self.calls("edits"), ["--list", "--after-ci"])

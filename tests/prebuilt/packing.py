@@ -5,7 +5,7 @@ import re
 import shutil
 import subprocess
 
-from launcher import LINKED, PROGRAM, SECONDS, read
+from launcher import LINKED, PROGRAM, SECONDS, read, write
 from launching import Packed
 
 
@@ -20,6 +20,31 @@ class Packing(Packed):
     def packed(self):
         with open(self.clone + "/prebuilt/sf-x86_64-linux.gz", "rb") as file:
             return gzip.decompress(file.read()).decode()
+
+    def given_back(self, text=None):
+        """Finishes what `rt ci` gives back of an earlier run: the program as rt linked it, without its object. Answers what it says."""
+        out = self.clone + "/crates/sf/out"
+        os.replace(out + "/sf.dynamic", out + "/sf")
+        for name in ("sf.o", "SUM"):
+            os.remove(f"{out}/{name}")
+        if text:
+            write(out + "/sf", text)
+        how = {"env": {"PATH": self.path, "TMPDIR": self.temporary}, "capture_output": True, "timeout": SECONDS}
+        done = subprocess.run([self.clone + "/prebuilt/finish", "12ab"], check=True, **how)
+        return done.stderr.decode()
+
+    def test_what_rt_gives_back_without_its_object_is_taken_as_it_was_packed(self):
+        self.assertEqual(self.packs(), 0)
+        self.assertEqual(self.given_back(), "")
+        self.assertEqual(read(self.clone + "/crates/sf/out/sf"), self.packed())
+        noted = re.sub("(?m)^sources .*", "sources 12ab", read(self.clone + "/prebuilt/SUM"))
+        self.assertEqual(read(self.clone + "/crates/sf/out/SUM"), noted)
+
+    def test_what_rt_gives_back_and_is_not_what_was_packed_stays_as_it_is(self):
+        self.assertEqual(self.packs(), 0)
+        self.assertIn("rt kept the program without its object", self.given_back("another program"))
+        self.assertEqual(read(self.clone + "/crates/sf/out/sf"), "another program")
+        self.assertIn("linker rt\n", read(self.clone + "/crates/sf/out/SUM"))
 
     def test_it_packs_what_is_built_here_and_the_launcher_takes_it(self):
         self.assertEqual(self.packs(), 0)
