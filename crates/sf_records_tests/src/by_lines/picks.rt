@@ -261,7 +261,7 @@ fn lines_are_printed(rt: HostRuntime) -> Result<(), Fail> {
 }
 
 /// A print format and a scan format, and why the first can't print the records of the second.
-static JUDGED: [(&str, &str, Option<PrintMismatch>); 11] = [
+static JUDGED: [(&str, &str, Option<PrintMismatch>); 12] = [
     ("%d,%s", "%d %s", None),
     ("%2$s,%1$d", "%d %s", None),
     ("%hd %hd %d", "%hhd %hhu %hu", None),
