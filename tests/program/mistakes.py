@@ -23,6 +23,18 @@ sf: scan format: F5 LeftOut at 1
   "%f"
     ^
 """),
+    (r"scan %lf", """
+sf: scan format: F5 LeftOut at 2
+  %f: floating point is left out of profiles 1 and 2; formats have it by --profile 3
+  "%lf"
+     ^
+"""),
+    (r"scan %hf", """
+sf: scan format: F5 LeftOut at 2
+  %f: floating point is left out of profiles 1 and 2; formats have it by --profile 3
+  "%hf"
+     ^
+"""),
     (r"scan '%s %5.2f'", """
 sf: scan format: F4 UnknownLetter at 5
   ".": a scan format has no precision: write %5f, and not %5.2f
@@ -41,6 +53,12 @@ sf: scan format: bad escape at 0
   "\\d+"
    ^
 """),
+    (r"scan '(\w+)'", r"""
+sf: scan format: bad escape at 1
+  \w is no escape: after a backslash stands one of \ n t v f r, or x and two hexadecimal digits
+  "(\\w+)"
+    ^
+"""),
     (r"print '%s\n' 'C:\data'", r"""
 sf: value 1: bad escape at 2
   \d is no escape: after a backslash stands one of \ n t v f r, or x and two hexadecimal digits
@@ -54,6 +72,12 @@ sf: scan format: F1 Truncated at 8
   "total 5%"
            ^
 """),
+    (r"scan %", """
+sf: scan format: F1 Truncated at 1
+  the format ends inside a conversion; %% stands for a percent sign
+  "%"
+    ^
+"""),
     (r"scan '%0d'", """
 sf: scan format: F2 ZeroWidth at 1
   a conversion of width 0 takes nothing
@@ -64,6 +88,18 @@ sf: scan format: F2 ZeroWidth at 1
 sf: scan format: F3 TooWide at 1
   a width is at most 65535
   "%70000s"
+    ^
+"""),
+    (r"scan %99999999d", """
+sf: scan format: F3 TooWide at 1
+  a width is at most 65535
+  "%99999999d"
+    ^
+"""),
+    (r"scan %q", """
+sf: scan format: F4 UnknownLetter at 1
+  "q": no conversion of this profile is written so; %% stands for a percent sign
+  "%q"
     ^
 """),
     (r"scan '5%, %d'", """
@@ -83,6 +119,12 @@ sf: scan format: F4 UnknownLetter at 2
   ".": a scan format has no precision: write %5f, and not %5.2f
   "%5.2f"
      ^
+"""),
+    (r"scan %?d", """
+sf: scan format: F4 UnknownLetter at 1
+  "?": what may be missing has a ? before its width, in a scan format and by --profile 3: write %?5d
+  "%?d"
+    ^
 """),
     (r"scan -p3 '%5?d'", """
 sf: scan format: F4 UnknownLetter at 2
@@ -114,6 +156,12 @@ sf: scan format: F4 UnknownLetter at 1
   "%D"
     ^
 """),
+    (r"scan %U", """
+sf: scan format: F4 UnknownLetter at 1
+  "U": the length l makes long integers: write %ld, %lo or %lu
+  "%U"
+    ^
+"""),
     (r"scan -p3 %Lf", """
 sf: scan format: F5 LeftOut at 1
   %L: long double is not part of sf; %lf is a double
@@ -137,6 +185,18 @@ sf: scan format: F5 LeftOut at 2
   %ls: wide characters are not part of sf
   "%ls"
      ^
+"""),
+    (r"scan %lc", """
+sf: scan format: F5 LeftOut at 2
+  %lc: wide characters are not part of sf
+  "%lc"
+     ^
+"""),
+    (r"scan %p", """
+sf: scan format: F5 LeftOut at 1
+  %p: pointers are not part of sf
+  "%p"
+    ^
 """),
     (r"scan '%ms'", """
 sf: scan format: F5 LeftOut at 1
@@ -215,6 +275,12 @@ sf: print format: F18 PrecisionTooLarge at 2
   a precision is at most 255
   "%.300d"
      ^
+"""),
+    (r"print %*d 5 5", """
+sf: print format: F5 LeftOut at 1
+  %*: a width or a precision among the values is not part of sf; of two formats the print format comes first
+  "%*d"
+    ^
 """),
 )
 
@@ -343,6 +409,10 @@ sf: value 1: expected u8
     (r"print %d 1.5", """
 sf: value 1: expected i32
   value 1: "1.5" is no decimal integer from -2147483648 to 2147483647
+"""),
+    (r"print %d 1,234", """
+sf: value 1: expected i32
+  value 1: "1,234" is no decimal integer from -2147483648 to 2147483647
 """),
     (r"print %c ab", """
 sf: value 1: expected one byte
@@ -526,6 +596,22 @@ sf: unexpected argument '--line' found
 """),
     (r"scan --skip 1 %d", """
 sf: the argument '--skip <N>' cannot be used without '--lines'
+
+"""),
+    (r"scan -e %d", """
+sf: the argument '-e <FORMAT>' cannot be used without '--lines'
+
+"""),
+    (r"scan -l --tag %d", """
+sf: the argument '--tag' cannot be used without '-e <FORMAT>'
+
+"""),
+    (r"scan -l --matching -k %d", """
+sf: the argument '--matching' cannot be used with '--keep-going'
+
+"""),
+    (r"scan --print '%d\n' -o json %d", """
+sf: the argument '--print <PRINT>' cannot be used with '--output <FORM>'
 
 """),
     (r"scan --limit 99999999999 %d", """
