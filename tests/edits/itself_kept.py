@@ -1,8 +1,9 @@
 """The keeping of verdicts, tried over a crate that is made up, and one below it: which line of KEPT stays current after which change."""
+import ast
 import os
 
 from edit import edits_in
-from kept import ITSELF, Kept, keys
+from kept import ANEW, HERE, ITSELF, JUDGES, OWN, Kept, keys, runner
 
 EDITS = """file: src/lib.rt
 
@@ -90,6 +91,7 @@ def tried(root, source, steps, answers):
     for name, (file, old, new, wanted) in CHANGES.items():
         cases[name] = stale(usual, after(root, file, old, new)) == sorted(wanted)
     cases["the runner"] = stale(usual, keys_of(root, "other judges")) == sorted([*NAMES, ITSELF])
+    cases |= of_runner(f"{root}/runner")
     cases |= of_file(f"{root}/KEPT", usual)
     failed = [name for name, holds in cases.items() if not holds]
     for it in failed:
@@ -99,6 +101,30 @@ def tried(root, source, steps, answers):
 
 def stale(usual, made):
     return sorted(it for it in usual if made.get(it) != usual[it])
+
+
+def of_runner(folder):
+    """The files that judge: a change of each makes their sum another one, and they import no other file that judges."""
+    files, cases = {it: read(f"{HERE}/{it}") for it in JUDGES}, {}
+    for name, text in files.items():
+        written(f"{folder}/{name}", text)
+    usual = runner(JUDGES, folder)
+    for name, text in files.items():
+        written(f"{folder}/{name}", text + "# more\n")
+        cases[f"{name} is changed"] = runner(JUDGES, folder) != usual
+        written(f"{folder}/{name}", text)
+        cases[f"what {name} imports"] = ours_imported(text) <= {*JUDGES, *ANEW}
+    cases["the runner as it was"] = runner(JUDGES, folder) == usual == runner(JUDGES)
+    every = {it for it in os.listdir(HERE) if it.endswith(".py")}
+    cases["each file of the runner is in a sum"] = every == {*JUDGES, *OWN}
+    return cases
+
+
+def ours_imported(text):
+    """The files of the runner that a source imports."""
+    named = [it for it in ast.walk(ast.parse(text)) if isinstance(it, (ast.Import, ast.ImportFrom))]
+    names = [one.name for it in named for one in it.names] + [it.module for it in named if isinstance(it, ast.ImportFrom)]
+    return {f"{it}.py" for it in names if it and os.path.isfile(f"{HERE}/{it}.py")}
 
 
 def of_file(path, made):

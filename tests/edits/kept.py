@@ -20,8 +20,10 @@ import re
 
 from edit import NO_CODE, bodies, read
 
-# The files that judge; the others print, keep and try the runner. (What same.py and form.py say is asked anew in each run.)
+# The files that judge; the others print, keep and try the runner.
 JUDGES = ("edit.py", "judge.py", "rounds.py", "kit.py")
+# What else they import: whether an edit changes a value, which is asked anew in each run.
+ANEW = ("about.py", "same.py")
 # Those that try the runner, and keep.
 OWN = ("about.py", "form.py", "itself.py", "itself_kept.py", "itself_same.py", "kept.py", "kinds.py", "names.py", "same.py", "shape.py",
        "tree.py")
@@ -85,9 +87,9 @@ class Crate:
 HERE = os.path.dirname(os.path.abspath(__file__))
 
 
-def runner(files):
+def runner(files, folder=HERE):
     """The sum of some files of the runner."""
-    return sum_of(*(read(f"{HERE}/{it}") for it in files))
+    return sum_of(*(read(f"{folder}/{it}") for it in files))
 
 
 def keys(root, below, found, judges=None):

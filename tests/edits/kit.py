@@ -1,4 +1,4 @@
-"""How the prover is called for a crate that is edited.
+"""How the prover is called for a crate that is edited, and for one that is an archive.
 
 `OverLibraries` uses rt's own module `rtlib`, as `rt plant` does: it takes the libraries as `rt ci` has left them, and needs no second
 proof of them. That module is no public interface: a kit whose `rtlib` lacks what is wanted gets `ByCommand`, which runs `rt check` in
@@ -121,6 +121,10 @@ class ByCommand:
             os.rename(f"{own}/out/incremental", kept)
             return said
 
+    def archive(self, crate):
+        """Proves a crate that is a static library, and builds its archive in its folder out."""
+        return Said(["rt", "lib"], self.folder(crate))
+
 
 def remembered(method):
     """A method of a crate that answers at once what it answered before: a clone's sources stay as they are while its edits are tried."""
@@ -166,8 +170,19 @@ class OverLibraries(ByCommand):
             words += ["--incremental", kept, "--progress", *flags]
             return Said([*self.rtlib.guarded(), self.rtlib.RATTLE, "check", *words], copy)
 
+    def archive(self, crate):
+        """Over the libraries as they are: `rt lib` would prove those anew that `rt ci` has left, and what stands over one of them and isn't
+        below this crate would then be over two builds of it."""
+        if not self.after_ci:
+            return super().archive(crate)
+        words = self.crates[crate].words(["--jobs", str(min(2, len(os.sched_getaffinity(0))))], keeps=False)
+        words += ["--toolchain", f"{self.rtlib.KIT}/toolchain", "--backend", "llvm", "-o", f"out/lib{crate}.a"]
+        os.makedirs(f"{self.folder(crate)}/out", exist_ok=True)
+        return Said([*self.rtlib.guarded(), self.rtlib.RATTLE, "build", *words], self.folder(crate))
 
-NEEDED = ("RATTLE", "Crate.below", "Crate.build_rlib", "Crate.is_built", "Crate.stamp", "Crate.words", "crates_below", "guarded")
+
+
+NEEDED = ("KIT", "RATTLE", "Crate.below", "Crate.build_rlib", "Crate.is_built", "Crate.stamp", "Crate.words", "crates_below", "guarded")
 
 
 def rtlib_of(rt):

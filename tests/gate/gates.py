@@ -4,7 +4,7 @@ import subprocess
 
 from made import ROOT, SECONDS, Clone, written
 
-ALL = "48 passed, 0 failed, 0 skipped"
+ALL = "54 passed, 0 failed, 0 skipped"
 SAME = "The program that was proved and built here is the prebuilt one, byte for byte: its tests have run, and count once."
 
 
@@ -19,6 +19,7 @@ class Gate(Clone):
         self.assertEqual((self.proofs(), self.calls("sf"), self.calls("refusals")), (["ci"], [], [""]))
         self.assertEqual(self.calls("edits"), ["--list", "--after-ci --kept"])
         self.assertEqual([it.split(" --sf")[0] for it in self.calls("bench")], ["--rows sf", "--rows libraries"])
+        self.assertEqual((self.calls("c"), self.calls("python")), (["--after-ci"], [""]))
 
     def test_the_program_that_was_built_is_linked_and_noted_as_the_launcher_does(self):
         self.expect(0, ALL, "--prove")
@@ -26,7 +27,7 @@ class Gate(Clone):
 
     def test_a_program_that_can_not_be_linked_is_a_failure(self):
         written(self.clone + "/prebuilt/finish", "exit 1")
-        lines = self.expect(1, "48 passed, 1 failed, 0 skipped", "--prove")
+        lines = self.expect(1, "54 passed, 1 failed, 0 skipped", "--prove")
         self.assertIn("  prebuilt/finish: crates/sf/out/sf could not be linked", lines)
 
     def test_an_object_that_an_earlier_build_left_is_not_linked(self):
@@ -55,7 +56,7 @@ class Gate(Clone):
 
     def test_what_ran_over_another_program_runs_again_and_counts_once(self):
         self.rt("another program")
-        lines = self.expect(0, "45 passed, 0 failed, 0 skipped", "--prove")
+        lines = self.expect(0, "51 passed, 0 failed, 0 skipped", "--prove")
         self.assertNotIn(SAME, lines)
         first, second = self.calls("program")
         self.assertNotEqual(first, second)
@@ -82,7 +83,7 @@ class Gate(Clone):
 
     def test_it_goes_on_where_that_is_asked_for_and_forgets_no_failure(self):
         self.says("library", "2 passed, 1 failed", status=1)
-        self.expect(1, "47 passed, 1 failed, 0 skipped", "--prove", "--keep-going")
+        self.expect(1, "53 passed, 1 failed, 0 skipped", "--prove", "--keep-going")
         self.assertEqual(self.proofs(), ["ci"])
 
     def test_a_prebuilt_program_of_other_sources_ends_it_before_the_proofs(self):
@@ -110,7 +111,7 @@ class Gate(Clone):
 
     def test_proofs_that_fail_are_a_failure(self):
         self.rt("another program", last="4 passed, 1 failed")
-        self.expect(1, "44 passed, 1 failed, 0 skipped", "--prove")
+        self.expect(1, "50 passed, 1 failed, 0 skipped", "--prove")
 
     def test_a_program_that_is_not_built_is_a_failure(self):
         written(self.bin + "/rt", "echo '5 passed, 0 failed'")
@@ -122,7 +123,7 @@ class Gate(Clone):
                     "the page is of glibc 2.36, and here is glibc 2.36"):
             with self.subTest(why):
                 self.says("program", f"passed over: a row: {why}", "2 passed, 0 failed, 1 skipped")
-                lines = self.expect(1, "47 passed, 1 failed, 1 skipped", "--prove", "--keep-going")
+                lines = self.expect(1, "53 passed, 1 failed, 1 skipped", "--prove", "--keep-going")
                 self.assertIn(f"  tests/program: the gate may not pass over a row: {why}", lines)
 
     def test_what_no_base_has_and_what_the_machine_forbids_may_be_and_is_counted(self):
@@ -132,7 +133,7 @@ class Gate(Clone):
                     "the page is of glibc 2.36 and musl 1.2.3, and here is glibc 2.41 and musl 1.2.3"):
             with self.subTest(why):
                 self.says("refusals", f"passed over: a row: {why}", "2 passed, 0 failed, 1 skipped")
-                lines = self.expect(0, "47 passed, 0 failed, 1 skipped", "--prove")
+                lines = self.expect(0, "53 passed, 0 failed, 1 skipped", "--prove")
                 self.assertTrue(any(line.startswith(f"  tests/refusals, a row: {why}") for line in lines))
 
     def test_ci_runs_the_gate(self):

@@ -1,4 +1,4 @@
-"""No package is wanted but python3's own library: what the tests and tools import is there, or stands in tests/ or tools/."""
+"""No package is wanted but python3's own library: what the tests, the tools and the package sf import is there, or stands in the repository."""
 import ast
 import glob
 import os
@@ -10,9 +10,9 @@ from made import ROOT
 
 
 def sources():
-    """The sources of the tests and the tools in Python, and of ./test."""
+    """The sources of the tests, the tools and the package in Python, and of ./test."""
     runners = [it for it in glob.glob(f"{ROOT}/tests/*/run") if "python3" in first_line(it)]
-    return [f"{ROOT}/test", *runners, *modules()]
+    return [f"{ROOT}/test", *runners, *modules(), *glob.glob(f"{ROOT}/python/sf/*.py")]
 
 
 def modules():
@@ -36,8 +36,8 @@ def imported(path):
 
 
 def foreign(path):
-    """Those that are neither python3's own nor of the tests or the tools."""
-    ours = {os.path.basename(it)[:-3] for it in modules()}
+    """Those that are neither python3's own nor of the tests or the tools, nor the package."""
+    ours = {"sf", *(os.path.basename(it)[:-3] for it in modules())}
     return sorted(set(imported(path)) - set(sys.stdlib_module_names) - ours)
 
 

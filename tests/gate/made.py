@@ -7,6 +7,8 @@ import sys
 import tempfile
 import unittest
 
+import needs
+
 HERE = os.path.dirname(os.path.abspath(__file__))
 ROOT = os.path.dirname(os.path.dirname(HERE))
 
@@ -16,7 +18,7 @@ SECONDS = 60
 SUM = "sources 12ab\n"
 PROGRAM = "the program"
 TOOLS = ("rt", "gcc", "cc", "git", "make", "valgrind", "gzip", "fish", "zsh", "groff", "mandoc", "mlr", "musl-gcc", "parallel", "xxd")
-TESTS = ("bench", "cookbook", "edits", "gate", "hostile", "layout", "library", "prebuilt", "program", "refusals")
+TESTS = ("bench", "c", "cookbook", "edits", "gate", "hostile", "layout", "library", "prebuilt", "program", "python", "refusals")
 
 
 def written(path, text):
@@ -41,7 +43,7 @@ class Clone(unittest.TestCase):
             shutil.copy(f"{HERE}/{name}", self.clone + "/tests/gate")
         for name in TESTS:
             self.says(name, "3 passed, 0 failed")
-        for tool in TOOLS:
+        for tool in {*TOOLS, *needs.PACKAGES}:
             written(f"{self.bin}/{tool}", "exit 0")
         self.launcher(f"mkdir -p crates/sf/out; printf '{PROGRAM}' >crates/sf/out/sf; chmod +x crates/sf/out/sf")
         self.rt(PROGRAM)

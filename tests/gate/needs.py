@@ -6,9 +6,10 @@ import subprocess
 
 # Without these the gate would pass over what it has to test. (gcc only recommends the headers of the C library.)
 NEEDED = {"gcc": "gcc libc6-dev", "cc": "gcc libc6-dev", "git": "git", "make": "make", "valgrind": "valgrind", "gzip": "gzip"}
-# Some rows of pages, of the manual, of completions and of the reference are tried with these, which no Debian has from the start: the gate
-# installs them where it may, and else passes over their rows.
-WANTED = {"fish": "fish", "zsh": "zsh", "groff": "groff-base", "mandoc": "mandoc", "mlr": "miller", "musl-gcc": "musl-tools", "parallel": "parallel", "xxd": "xxd"}
+# Some rows of pages, of the manual, of completions, of the reference and of the wheel are tried with these, which no Debian has from the
+# start: the gate installs them where it may, and else passes over their rows.
+WANTED = {"fish": "fish", "zsh": "zsh", "groff": "groff-base", "mandoc": "mandoc", "mlr": "miller", "musl-gcc": "musl-tools", "parallel": "parallel", "xxd": "xxd",
+          "pip3": "python3-pip"}
 PACKAGES = {**NEEDED, **WANTED}
 KIT = "the Rattle kit, with its rt in the path"
 

@@ -2,7 +2,7 @@
 from made import Clone
 
 # What passes in a clone as it is made: three rows of each test, but of tests/refusals, and twice of tests/bench and the like.
-ALL = "27 passed, 0 failed, 2 skipped"
+ALL = "33 passed, 0 failed, 2 skipped"
 
 
 class People(Clone):
@@ -13,6 +13,7 @@ class People(Clone):
         self.assertEqual(self.calls("edits"), ["--list"])
         self.assertEqual(self.calls("bench"), ["--rows sf --sf crates/sf/out/sf"])
         self.assertEqual(self.calls("program"), ["--sf crates/sf/out/sf"])
+        self.assertEqual(self.calls("c"), [""])
 
     def test_it_needs_none_of_the_tools(self):
         self.without("rt", "gcc", "cc", "git", "make", "valgrind", "gzip")
@@ -25,52 +26,52 @@ class People(Clone):
 
     def test_a_row_that_is_passed_over_is_counted_as_skipped(self):
         self.says("program", "passed over: a row: there is no valgrind", "2 passed, 0 failed, 1 skipped")
-        lines = self.expect(0, "26 passed, 0 failed, 3 skipped")
+        lines = self.expect(0, "32 passed, 0 failed, 3 skipped")
         self.assertIn("  tests/program, a row: there is no valgrind (Debian: valgrind)", lines)
 
     def test_several_rows_can_have_one_line(self):
         self.says("layout", "passed over: 9 crates, by rt fmt: there is no rt", "2 passed, 0 failed, 9 skipped")
-        lines = self.expect(0, "26 passed, 0 failed, 11 skipped")
+        lines = self.expect(0, "32 passed, 0 failed, 11 skipped")
         self.assertIn("  tests/layout, 9 crates, by rt fmt: there is no rt (the Rattle kit, with its rt in the path)", lines)
 
     def test_rows_of_one_reason_are_said_once(self):
         rows = [f"passed over: row {it}: there is no make or no gzip" for it in "abc"]
         self.says("program", *rows, "2 passed, 0 failed, 3 skipped")
-        lines = self.expect(0, "26 passed, 0 failed, 5 skipped")
+        lines = self.expect(0, "32 passed, 0 failed, 5 skipped")
         self.assertIn("  tests/program, 3 rows: there is no make or no gzip (Debian: make gzip)", lines)
 
     def test_a_test_of_which_all_is_passed_over_passes_nothing(self):
         self.says("program", "passed over: all: there is no valgrind", "0 passed, 0 failed, 1 skipped")
-        self.expect(0, "24 passed, 0 failed, 3 skipped")
+        self.expect(0, "30 passed, 0 failed, 3 skipped")
 
     def test_a_test_that_ends_without_counts_has_failed(self):
         for last in ("all is well", "3 passed", "3 passed, 0 failed, and more", ""):
             with self.subTest(last):
                 self.says("program", last)
-                self.expect(1, "24 passed, 1 failed, 2 skipped")
+                self.expect(1, "30 passed, 1 failed, 2 skipped")
 
     def test_rows_that_are_skipped_without_a_reason_have_failed(self):
         self.says("program", "3 passed, 0 failed, 1 skipped")
-        self.expect(1, "27 passed, 1 failed, 3 skipped")
+        self.expect(1, "33 passed, 1 failed, 3 skipped")
         self.says("program", "passed over: a row: there is no fish", "3 passed, 0 failed")
-        self.expect(1, "27 passed, 1 failed, 2 skipped")
+        self.expect(1, "33 passed, 1 failed, 2 skipped")
 
     def test_a_test_of_nothing_has_failed(self):
         self.says("program", "0 passed, 0 failed")
-        self.expect(1, "24 passed, 1 failed, 2 skipped")
+        self.expect(1, "30 passed, 1 failed, 2 skipped")
 
     def test_a_status_that_the_counts_do_not_explain_is_a_failure(self):
         self.says("program", "3 passed, 0 failed", status=3)
-        self.expect(1, "27 passed, 1 failed, 2 skipped")
+        self.expect(1, "33 passed, 1 failed, 2 skipped")
 
     def test_what_failed_is_said_at_the_end(self):
         self.says("program", "FAIL: a row", "2 passed, 1 failed", status=1)
-        lines = self.expect(1, "26 passed, 1 failed, 2 skipped")
+        lines = self.expect(1, "32 passed, 1 failed, 2 skipped")
         self.assertIn("  tests/program: FAIL: a row", lines[lines.index("What failed:"):])
 
     def test_without_a_program_nothing_is_tested_with_it(self):
         self.launcher("exit 1")
-        lines = self.expect(1, "15 passed, 1 failed, 6 skipped")
+        lines = self.expect(1, "21 passed, 1 failed, 6 skipped")
         self.assertIn("  tests/program, all of it: the program could not be made", lines)
         self.assertEqual((self.calls("program"), self.calls("layout")), ([], [""]))
 

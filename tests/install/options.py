@@ -40,7 +40,7 @@ def option_of(row):
     short = [] if text_of(row, "short") == "None" else ["-" + text_of(row, "short")]
     names = short + (["--" + name] if text_of(row, "has_long") == "true" else [])
     values = row.split("value:")[1]
-    default = text_of(values, "default") if kind in ("Number", "Text") else "None"
+    default = text_of(values, "default") if kind in ("Number", "LastText") else "None"
     value = {"Nothing": None, "Number": "N"}.get(kind) if kind in ("Nothing", "Number") else text_of(values, "name")
     return Option(name, tuple(names), value, None if default == "None" else default, COMMANDS[of], text_of(row, "help"))
 

@@ -88,7 +88,9 @@ class Files(Streams):
     def test_a_file_that_cannot_be_opened(self):
         self.gives(3, b"1\n2\n3\n4\n5\n6\n", UNOPENED, "scan", "%d", "ab", "gone", "cd")
         self.gives(3, b"", UNOPENED + UNOPENED, "scan", "--lines", "--matching", "%d", "gone", "gone")
-        self.gives(3, b"", b"sf: gone: record 1: stalled\n" + UNOPENED, "scan", "", "gone")
+        # a record that would take nothing of it isn't blamed
+        self.gives(3, b"", UNOPENED, "scan", "", "gone")
+        self.gives(1, b"", b"sf: empty: record 1: stalled\n", "scan", "", "empty")
 
     def test_a_name_without_a_byte_is_no_file(self):
         """As that of a variable that isn't set; standard input isn't read in its place."""

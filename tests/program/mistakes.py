@@ -276,6 +276,48 @@ sf: print format: F18 PrecisionTooLarge at 2
   "%.300d"
      ^
 """),
+    # what a shell leaves of formats between double quotes
+    (r"scan '%2 %1'", """
+sf: scan format: F4 UnknownLetter at 2
+  " ": a flag stands first in a conversion, and in a print format alone; of two formats the print format comes first
+  "%2 %1"
+     ^
+  a shell takes $ and the letters after it out of double quotes: single quotes keep them
+"""),
+    (r"scan %1,%2", """
+sf: scan format: F4 UnknownLetter at 2
+  ",": no conversion of this profile is written so; %% stands for a percent sign
+  "%1,%2"
+     ^
+  a shell takes $ and the letters after it out of double quotes: single quotes keep them
+"""),
+    (r"scan %1", """
+sf: scan format: F1 Truncated at 2
+  the format ends inside a conversion; %% stands for a percent sign
+  "%1"
+     ^
+  a shell takes $ and the letters after it out of double quotes: single quotes keep them
+"""),
+    (r"print '%2 %1\n' a b", r"""
+sf: print format: F4 UnknownLetter at 2
+  " ": a flag stands first in a conversion, and in a print format alone; of two formats the print format comes first
+  "%2 %1\x0a"
+     ^
+  a shell takes $ and the letters after it out of double quotes: single quotes keep them
+"""),
+    # what no shell leaves
+    (r"scan %5q", """
+sf: scan format: F4 UnknownLetter at 2
+  "q": no conversion of this profile is written so; %% stands for a percent sign
+  "%5q"
+     ^
+"""),
+    (r"scan '5% 5'", """
+sf: scan format: F4 UnknownLetter at 2
+  " ": a flag stands first in a conversion, and in a print format alone; of two formats the print format comes first
+  "5% 5"
+     ^
+"""),
     (r"print %*d 5 5", """
 sf: print format: F5 LeftOut at 1
   %*: a width or a precision among the values is not part of sf; of two formats the print format comes first
@@ -315,6 +357,18 @@ sf: pair: Q7 OpenEnd at 2
   nothing is written after this, so what follows could be read as more of it: end the print format with \n and the scan format with %*1[\n]
   scan format, directive 2: "\x0a", space
   print format, directive 2: byte "\x0a"
+"""),
+    (r"copy -p3 '%.2f\n' '%lf%*1[\n]'", """
+sf: pair: Q4 NoWidth at 1
+  a conversion that is read back needs a width: write %313lf
+  scan format, directive 1: "%lf", f f64 width - slot 1
+  print format, directive 1: f f64 flags "" width - precision 2 slot 1
+"""),
+    (r"copy -p3 '%020g;' '%lf;'", """
+sf: pair: Q4 NoWidth at 1
+  a conversion that is read back needs a width: write %20lf
+  scan format, directive 1: "%lf", f f64 width - slot 1
+  print format, directive 1: g f64 flags "0" width 20 precision - slot 1
 """),
     (r"copy '%s,%d\n' '%s,%11d%*1[\n]'", """
 sf: pair: Q4 NoWidth at 1
@@ -428,6 +482,75 @@ sf: expected 2 values, got 1
 """),
 )
 
+NAMES = (
+    (r"scan -o json --names a '%d %d'", """
+sf: names: expected 2, got 1
+  --names has 1 name, and a format gives 2 values: write 2 names, as --names a,b
+"""),
+    (r"scan -o csv --names a,b %d", """
+sf: names: expected 1, got 2
+  --names has 2 names, and a format gives 1 value: write 1 name, as --names a
+"""),
+    (r"scan -o tsv --names a %*d", """
+sf: names: expected 0, got 1
+  --names has 1 name, and a format gives 0 values: leave --names out
+"""),
+    (r"scan -l -o json --names a,b -e '%d %d' -e %d", """
+sf: names: expected 1, got 2
+  --names has 2 names, and a format gives 1 value: write 1 name, as --names a
+"""),
+    (r"scan -l --tag -o json --names a -e '%d %d %d'", """
+sf: names: expected 3, got 1
+  --names has 1 name, and a format gives 3 values: write 3 names, as --names a,b,c
+"""),
+    (r"scan -l -o json --names a '" + "%d" * 32 + "'", """
+sf: names: expected 32, got 1
+  --names has 1 name, and a format gives 32 values: write 32 names, as --names \
+a,b,c,d,e,f,g,h,i,j,k,l,m,n,o,p,q,r,s,t,u,v,w,x,y,z,A,B,C,D,E,F
+"""),
+    (r"scan -o csv --names a, '%d %d'", """
+sf: names: name 2 is empty
+"""),
+    (r"scan -o csv --names a,a '%d %d'", """
+sf: names: a stands twice
+"""),
+)
+
+# What is said after the line `refused: ..` on standard output.
+ALONE = (
+    (r"check '%s\n'", "refused: Q4 NoWidth at 1\n", """
+  a conversion that is read back needs a width: --width N says how many bytes the texts of %s have at most
+  print format, directive 1: s text flags "" width - precision - slot 1
+  of a print format alone, the scan format that reads it back is written: sf check PRINT SCAN judges two
+"""),
+    (r"check -p3 '%d: %s,%d\n'", "refused: Q4 NoWidth at 4\n", """
+  a conversion that is read back needs a width: --width N says how many bytes the texts of %s have at most
+  print format, directive 4: s text flags "" width - precision - slot 2
+  of a print format alone, the scan format that reads it back is written: sf check PRINT SCAN judges two
+"""),
+    (r"check --width 20 '%s%d\n'", "refused: Q6 RunsOn at 1\n", """
+  what is written next could be read by this directive too: write a byte between them at which it stops
+  print format, directive 1: s text flags "" width - precision - slot 1
+  of a print format alone, the scan format that reads it back is written: sf check PRINT SCAN judges two
+"""),
+    (r"check -p3 '%#gx'", "refused: Q6 RunsOn at 1\n", """
+  what is written next could be read by this directive too: write a byte between them at which it stops; \
+before . x X a float with # or with zeros in front is refused, though it reads back
+  print format, directive 1: g f64 flags "#" width - precision - slot 1
+  of a print format alone, the scan format that reads it back is written: sf check PRINT SCAN judges two
+"""),
+    (r"check '%d'", "refused: Q7 OpenEnd at 1\n", r"""
+  nothing is written after this, so what follows could be read as more of it: end the print format with \n and the scan format with %*1[\n]
+  print format, directive 1: d i32 flags "" width - precision - slot 1
+  of a print format alone, the scan format that reads it back is written: sf check PRINT SCAN judges two
+"""),
+    (r"check 'a\n'", "refused: Q11 NoValues at 0\n", """
+  a pair has at least one value
+  of a print format alone, the scan format that reads it back is written: sf check PRINT SCAN judges two
+"""),
+    (r"check '%d\n'", "%11d%*1[\\n]\n", "\n"),
+)
+
 # The command, what standard input holds, and what is said of it.
 RECORDS = (
     (r"scan %d,%d", "1,2\n3;4\n", r"""
@@ -449,6 +572,33 @@ sf: line 2: left over at 1
 sf: line 1: left over at 1
   there stood "\x0d"
   the line ends with a carriage return: a space at the format's end takes it
+"""),
+    (r"scan ''", "ab\n", """
+sf: record 1: stalled
+  at line 1, column 1 of the input
+  the format took no byte, so that the next record would begin where this one did
+"""),
+    (r"scan ' '", "\n\nab\n", """
+sf: record 2: stalled
+  at line 3, column 1 of the input
+  the format took no byte, so that the next record would begin where this one did
+"""),
+    (r"scan -l --ignore '#' '%d %d'", "# a\n1 2\n", r"""
+sf: line 1: matching failure at 1, used 0, assigned 0
+  directive 1: "%d", d i32 width - slot 1
+  there stood "# a"
+  --ignore passes over lines that its format reads to their end: '#' a lone #, '#%*[^\n]' a # and what follows
+"""),
+    # nothing more is said where a format that is ignored has a conversion, or blanks alone
+    (r"scan -l --ignore '#' --ignore '#%*[^\n]' '%d %d'", "# a\nx\n", """
+sf: line 2: matching failure at 1, used 0, assigned 0
+  directive 1: "%d", d i32 width - slot 1
+  there stood "x"
+"""),
+    (r"scan -l --ignore ' ' '%d %d'", "\nx\n", """
+sf: line 2: matching failure at 1, used 0, assigned 0
+  directive 1: "%d", d i32 width - slot 1
+  there stood "x"
 """),
     (r"scan -l '%s,%d'", "a,1\n", """
 sf: line 1: input failure at 2, used 3, assigned 1
@@ -634,6 +784,19 @@ sf: invalid value '-1' for '--skip <N>': -1 is not in 0..9223372036854775807
 sf: invalid value '-1' for '--profile <N>': -1 is not in 1..=3
 
 """),
+    (r"scan -o json --names 'a, b' '%d %d'", """
+sf: invalid value 'a, b' for '--names <NAMES>': a blank stands around a name: write --names 'a,b'
+
+"""),
+    ("scan -o csv --names ' first name ,b\t' '%d %d'", """
+sf: invalid value ' first name ,b\t' for '--names <NAMES>': a blank stands around a name: write --names 'first name,b'
+
+"""),
+    (r"scan -o json -o xml %d", """
+sf: invalid value 'xml' for '--output <FORM>'
+  [possible values: plain, tsv, json, csv]
+
+"""),
     (r"print %d -x", """
 sf: unexpected argument '-x' found
 
@@ -767,6 +930,25 @@ class Mistakes(unittest.TestCase):
     def test_values(self):
         self.rows(VALUES, 2)
 
+    def test_names(self):
+        self.rows(NAMES, 2)
+
+    def test_what_is_ignored_is_no_regular_expression(self):
+        """That is said once, after the first input, whether a line failed or not."""
+        said = "  --ignore takes a scan format, in which ^ stands for itself: '#%*[^\\n]' passes over lines that begin with #\n"
+        for words in (["scan", "-l", "--ignore", "^#", "%s %s"], ["scan", "-l", "--ignore", "^#", "%s %s", "-", "/dev/null"]):
+            self.assertEqual(on_terminal(words, b"# a\n"), (0, said))
+            self.assertEqual(in_pipe(words, b"# a\n"), (0, ""))
+            self.assertEqual(in_pipe([*words, "--explain"], b"# a\n"), (0, said))
+
+    def test_a_print_format_alone(self):
+        """Standard output has the line; what is said after it stands on a terminal alone."""
+        for typed, line, shown in ALONE:
+            words, status = shlex.split(typed), int(line.startswith("refused"))
+            with self.subTest(typed):
+                self.assertEqual(on_terminal(words, b""), (status, shown[1:]))
+                self.assertEqual(program.run(*words), (status, line.encode(), b""))
+
     def test_records(self):
         self.rows(RECORDS, 1)
 
@@ -824,6 +1006,7 @@ class Mistakes(unittest.TestCase):
     def test_a_file_that_cannot_be_opened(self):
         for words in (["scan", "%d", "/gone"], ["scan", "--lines", "%d", "/gone"], ["copy", "%d;", "%11d;", "/gone"]):
             self.reasons(words, "sf: /gone: can't be opened\n", GONE)
+        self.reasons(["scan", "", "/gone"], "sf: /gone: can't be opened\n", GONE)
         first = "  the format stands before the files\n"
         quotes = "  a format with spaces stands between quotes, and after -e each word is a file\n"
         self.reasons(["scan", "/gone", "/%d"], "sf: /%d: can't be opened\n", GONE + first)

@@ -2,7 +2,8 @@
 
 Each block that begins with `$ ` is one session of sh, and each after the first begins with the first one's commands: they
 install the program and go to the data. A session has a new folder, which is as a clone in which the program is current. A
-command whose status isn't 0 has to be followed by `$ echo $?`.
+command whose status isn't 0 has to be followed by `$ echo $?`. The first screen says how sf is installed, and shows a float, what
+may be missing, and a range.
 """
 import os
 import pty
@@ -17,6 +18,9 @@ from program import ROOT
 
 # Stands between the outputs of a session's commands.
 MARK = "--readme-51c8--"
+
+# How many lines a screen has, and what the first one has to show.
+SCREEN, FIRST = 40, ("`awk ", "## Install", "$ make -s install", "| sf scan -lw -p3 --print", "%lf", "%?s", "null", "out of range at")
 
 # What `make install` takes from a clone.
 PARTS = ("Makefile", "man", "completions", "crates/sf_words/src", "tests/cookbook/data")
@@ -86,6 +90,12 @@ class Readme(unittest.TestCase):
                 self.assertEqual(out, below)
                 told = turn + 1 < len(session) and session[turn + 1][0] == "echo $?"
                 self.assertTrue(status == "0" or told, f"its status is {status}, which the page doesn't say")
+
+    def test_the_first_screen(self):
+        with open(f"{ROOT}/README.md", encoding="utf-8") as text:
+            screen = "".join(text.readlines()[:SCREEN])
+        self.assertEqual([it for it in FIRST if it not in screen], [])
+        self.assertGreaterEqual(len(re.findall(r"(?m)^\$ .*\bsf scan ", screen)), 3)
 
     def test_each_command_says_what_stands_below_it(self):
         first, found = sessions()

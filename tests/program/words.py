@@ -81,8 +81,9 @@ class Words(unittest.TestCase):
         self.assertLessEqual(max(map(len, lines)), 80)
         for said in (
             r"  d +a number of base 10, [^\n]*? +1$",
+            r"  o   x   X +a number of base 8, of base 16 +1$",
             r"  b +a number of base 2 +2$",
-            r"  f e g a +a float: [^\n]*? +3 ",
+            r"  f e g a +a float: [^\n]*?; E F G A alike +3 ",
             r"  \[a-z_\] +text of these bytes",
             r"  n +nothing: it counts the bytes",
             r"  N\$ +the place of the value",

@@ -3,7 +3,7 @@
 #![tactic(auto)]
 
 use anyhow::bail;
-use sf_scanf::{Lines, Profile, ScanFormat, StdSource};
+use sf_scanf::prelude::{Lines, Match, Profile, ScanFormat, StdSource};
 use std::{env, fs};
 
 /// The most bytes that one line may have.
@@ -18,8 +18,8 @@ fn main(rt: HostRuntime) -> anyhow::Result<()> {
     let input = StdSource::new(fs::open(&rt, &name)?);
     let lines = Lines::<(Vec<u8>, i32), _, 4096>::new(alloc, input, &format, LIMIT)?;
     let mut sum: i64 = 0;
-    for row in lines {
-        match row {
+    for line in lines.matching(Match::Whole) {
+        match line {
             Ok((_name, number)) => sum = sum.saturating_add(i64::from(number)),
             Err(fault) if fault.why.goes_on() => eprintln!(rt; "{fault}")?,
             Err(fault) => return Err(fault.into()),

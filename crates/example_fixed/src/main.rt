@@ -2,10 +2,8 @@
 #![tactic(auto)]
 
 use anyhow::bail;
-use sf_scanf::{
-    Lookahead, Pair, PrintFormat, Profile, ScanFormat, StdSink, StdSource, is_done, is_end,
-    read_back_fixed,
-};
+use sf_scanf::pair::{Pair, read_back_fixed};
+use sf_scanf::prelude::{Ended, Lookahead, PrintFormat, Profile, ScanFormat, StdSink, StdSource};
 
 /// The most bytes that one record may have.
 const LIMIT: u32 = 1000;
@@ -25,10 +23,10 @@ fn main(rt: HostRuntime) -> anyhow::Result<()> {
         let report = scanned.report();
         let outcome = report.outcome();
         match (report.value(1), report.value(2)) {
-            (Some(number), Some(name)) if is_done(outcome) => {
+            (Some(number), Some(name)) if outcome.is_done() => {
                 pair.write(&mut output, &[number, name])?;
             }
-            _ if is_end(&scan, outcome) => break,
+            _ if outcome.is_end(&scan) => break,
             _ => bail!("record {record}: {outcome}"),
         }
     }

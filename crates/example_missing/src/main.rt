@@ -1,7 +1,7 @@
-//! The sum of the ages that are known, of lines whose values may be missing, and how many are not known.
+//! The sum of the heights that are known, of lines whose values may be missing, and how many are not known.
 #![tactic(auto)]
 
-use sf_scanf::{Lines, Profile, ScanFormat, StdSource};
+use sf_scanf::prelude::{Lines, Match, Profile, ScanFormat, StdSource};
 
 /// The most bytes that one line may have.
 const LIMIT: u32 = 1000;
@@ -14,15 +14,14 @@ fn main(rt: HostRuntime) -> anyhow::Result<()> {
     let format = ScanFormat::parse(alloc, Profile::Three, b"%[^,],%?u,%?lf")?;
     let input = StdSource::new(rt.stdin());
     let people = Lines::<Person, _, 4096>::new(alloc, input, &format, LIMIT)?;
-    let mut years: u64 = 0;
+    let mut metres = 0.0;
     let mut unknown: u64 = 0;
-    for person in people {
-        let (_name, age, _height) = person?;
-        match age {
-            Some(age) => years = years.saturating_add(u64::from(age)),
-            None => unknown = unknown.saturating_add(1),
+    for person in people.matching(Match::Whole) {
+        match person? {
+            (_name, _age, Some(height)) => metres += height,
+            (_name, _age, None) => unknown = unknown.saturating_add(1),
         }
     }
-    println!(rt; "{years} years, {unknown} unknown")?;
+    println!(rt; "{metres} metres, {unknown} unknown")?;
     Ok(())
 }

@@ -2,7 +2,8 @@
 #![tactic(auto)]
 
 use anyhow::bail;
-use sf_scanf::{Lookahead, Profile, ScanFormat, StdSource, fscan, is_done, is_end};
+use sf_scanf::prelude::{Ended, Lookahead, Profile, ScanFormat, StdSource};
+use sf_scanf::scan::fscan;
 
 /// The most bytes that one record may have.
 const LIMIT: u32 = 1000;
@@ -16,11 +17,11 @@ fn main(rt: HostRuntime) -> anyhow::Result<()> {
         let scanned = fscan(alloc, &mut input, &format, LIMIT)?;
         let report = scanned.report();
         let outcome = report.outcome();
-        if is_end(&format, outcome) {
+        if outcome.is_end(&format) {
             break;
         }
         match report.get::<i32>(1) {
-            Some(number) if is_done(outcome) => sum = sum.saturating_add(i64::from(number)),
+            Some(number) if outcome.is_done() => sum = sum.saturating_add(i64::from(number)),
             _ => bail!("record {record}: {outcome}"),
         }
     }

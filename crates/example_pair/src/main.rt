@@ -1,38 +1,22 @@
-//! Reads a list of rows by a pair of formats, writes it, and reads back what it has written.
+//! Reads `name=number` settings by a pair of formats, and writes them so that the same pair reads them back.
 #![tactic(auto)]
 
-use sf_scanf::{
-    ListSink, Lookahead, Pair, PrintFormat, Profile, ScanFormat, SliceSource, StdSource, read_rows,
-    write_rows,
-};
+use sf_scanf::pair::{Pair, read_rows, write_rows};
+use sf_scanf::prelude::{Lookahead, PrintFormat, Profile, ScanFormat, StdSink, StdSource};
 
-/// The most bytes that one row may have, and the most rows.
+/// The most bytes that one setting may have, and the most settings.
 const LIMIT: u32 = 1000;
 
 const MOST: usize = 100;
 
 fn main(rt: HostRuntime) -> anyhow::Result<()> {
     let alloc = rt.alloc();
-    let print = PrintFormat::parse(alloc, Profile::One, b"%d,%s\n")?;
-    let scan = ScanFormat::parse(alloc, Profile::One, b"%11d,%20s%*1[\n]")?;
+    let print = PrintFormat::parse(alloc, Profile::One, b"%s=%d\n")?;
+    let scan = ScanFormat::parse(alloc, Profile::One, b"%20[^=]=%11d%*1[\n]")?;
     let pair = Pair::check(&print, &scan)?;
     let mut input = Lookahead::<_, 4096>::new(StdSource::new(rt.stdin()));
-    let rows = read_rows::<(i32, Vec<u8>), _, 4096>(alloc, &mut input, &pair, LIMIT, MOST)?;
-    let mut text = ListSink::new(alloc);
-    write_rows(&mut text, &pair, &rows)?;
-    let mut written = Lookahead::<_, 4096>::new(SliceSource::new(text.bytes()));
-    let again = read_rows::<(i32, Vec<u8>), _, 4096>(
-        alloc,
-        &mut written,
-        &pair,
-        LIMIT,
-        rows.len(),
-    )?;
-    println!(rt;
-        "{} rows, {} bytes, {} rows again",
-        rows.len(),
-        text.bytes().len(),
-        again.len()
-    )?;
+    let settings = read_rows::<(Vec<u8>, i32), _, 4096>(alloc, &mut input, &pair, LIMIT, MOST)?;
+    let mut output = StdSink::new(rt.stdout());
+    write_rows(&mut output, &pair, &settings)?;
     Ok(())
 }

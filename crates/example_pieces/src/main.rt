@@ -1,7 +1,9 @@
 //! Scans bytes that come in pieces, where no reader can be asked, and keeps the values in fixed memory.
 #![tactic(auto)]
 
-use sf_scanf::{Ending, FeedState, FixedStore, Profile, ScanFormat, Scanner};
+use sf_scanf::prelude::{Profile, ScanFormat};
+use sf_scanf::scan::{Ending, FeedState, Scanner};
+use sf_scanf::store::FixedStore;
 
 /// The most bytes that the run may use.
 const LIMIT: u32 = 1000;

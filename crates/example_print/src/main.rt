@@ -1,7 +1,9 @@
 //! Writes the `name=number` records of standard input as a table.
 #![tactic(auto)]
 
-use sf_scanf::{PrintFormat, Profile, Records, ScanFormat, StdSink, StdSource, Value, fprint};
+use sf_scanf::prelude::{
+    PrintFormat, Profile, Records, ScanFormat, StdSink, StdSource, Value, fprint,
+};
 
 /// The most bytes that one record may have.
 const LIMIT: u32 = 1000;

@@ -2,10 +2,8 @@
 #![tactic(auto)]
 
 use anyhow::bail;
-use sf_base::Value;
-use sf_format::{Profile, ScanFormat};
-use sf_read::{Lookahead, StdSource, fscan};
-use sf_run::{Ending, Status};
+use sf_scanf::prelude::{Ended, Lookahead, Profile, ScanFormat, StdSource};
+use sf_scanf::scan::fscan;
 
 /// The most bytes that one record may have.
 const LIMIT: u32 = 1000;
@@ -15,18 +13,15 @@ fn main(rt: HostRuntime) -> anyhow::Result<()> {
     let format = ScanFormat::parse(alloc, Profile::One, b"%d ,%d")?;
     let mut input = Lookahead::<_, 4096>::new(StdSource::new(rt.stdin()));
     for record in 1..=u32::MAX {
-        let Ok(scanned) = fscan(alloc, &mut input, &format, LIMIT) else {
-            bail!("out of memory");
-        };
+        let scanned = fscan(alloc, &mut input, &format, LIMIT)?;
         let report = scanned.report();
         let outcome = report.outcome();
-        match (outcome.status, report.value(1), report.value(2)) {
-            (Status::Done, Some(Value::I32(left)), Some(Value::I32(right))) => {
+        match (report.get::<i32>(1), report.get::<i32>(2)) {
+            (Some(left), Some(right)) if outcome.is_done() => {
                 println!(rt; "{}", i64::from(left) * i64::from(right))?;
             }
-            // as fscanf's EOF, where it isn't a read that failed
-            _ if report.c_return() == -1 && outcome.met == Some(Ending::End) => break,
-            (status, ..) => bail!("record {record}: {status:?} at directive {}", outcome.at),
+            _ if outcome.is_end(&format) => break,
+            _ => bail!("record {record}: {outcome}"),
         }
     }
     Ok(())

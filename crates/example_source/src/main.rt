@@ -3,10 +3,8 @@
 
 ghost use Rattle.std.specs.Prelude.{◌≡◌};
 
-use sf_scanf::{
-    PrintFormat, Profile, Records, ScanFormat, Sink, SinkFault, Source, SourceFault, StdSource,
-    Value, fprint,
-};
+use sf_scanf::io::{Sink, SinkFault, Source, SourceFault};
+use sf_scanf::prelude::{PrintFormat, Profile, Records, ScanFormat, StdSource, Value, fprint};
 
 /// Gives the bytes of another source, with capitals in place of small letters.
 #[derive(Drop)]
@@ -59,7 +57,7 @@ fn main(rt: HostRuntime) -> anyhow::Result<()> {
     let mut words = Records::<(Vec<u8>,), _, 4096>::new(alloc, input, &scan, 1000)?;
     let mut length = Length { bytes: 0 };
     for _ in 0..u64::MAX {
-        let Some((word,)) = words.next()? else {
+        let Some((word,)) = words.read_row()? else {
             break;
         };
         fprint(&mut length, &print, &[Value::Text(&word)])?;

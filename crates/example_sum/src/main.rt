@@ -1,7 +1,7 @@
 //! Sums the numbers of `name=number` records on standard input.
 #![tactic(auto)]
 
-use sf_scanf::{Profile, Records, ScanFormat, StdSource};
+use sf_scanf::prelude::{Profile, Records, ScanFormat, StdSource};
 
 /// The most bytes that one record may have.
 const LIMIT: u32 = 1000;

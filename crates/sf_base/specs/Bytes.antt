@@ -1,6 +1,6 @@
 -- Bytes and their classes in the C locale.
-use Rattle.std.specs.Prelude.{◌≡◌, ℕ, ◌+◌, ◌*◌, ◌^◌, ◌≤◌, ◌<◌, Bool, true, not, ◌&&◌, ◌||◌, ◌==◌, nat_eq, nat_le, List, [], ◌∷◌, length}
-use Rattle.std.specs.Prelude.{take}
+use Rattle.std.specs.Prelude.{◌≡◌, ℕ, ◌+◌, ◌*◌, ◌^◌, ◌≤◌, ◌<◌, Bool, true, false, not, ◌&&◌, ◌||◌, ◌==◌, nat_eq, nat_le, List, [], ◌∷◌}
+use Rattle.std.specs.Prelude.{length, take}
 use Rattle.std.specs.List.{AllByRecursion}
 use Rattle.std.specs.Char.{digit_value}
 use Rattle.sf_base.specs.Greatest.{IsGreatest}
@@ -23,6 +23,11 @@ is_other end b = not (b == end)
 -- no white space
 abbrev pub is_ink : ℕ → Bool
 is_ink b = not (is_white b)
+
+-- a byte of a run: of white space, or else of bytes that are none
+abbrev pub is_of_run : Bool → ℕ → Bool
+is_of_run true b = is_white b
+is_of_run false b = is_ink b
 
 -- the longest front of x all of whose bytes pass the test has k bytes
 abbrev pub IsLongestFront : (ℕ → Bool) → List ℕ → ℕ → Type 0

@@ -79,3 +79,17 @@ impl Value<'_> {
         }
     }
 }
+
+/// As `Value::of_f64`.
+impl From<f64> for Value<'_> {
+    ghost use Rattle.std.specs.Prelude.{◌≡◌, to_bits};
+    ghost use Rattle.std.specs.Float.{binary64};
+    ghost use Rattle.sf_base.specs.Data.{Real as RealOf, datum_of};
+    ghost use Rattle.sf_base.specs.declared.real.Real.TheVariants.{F64};
+
+    ghost from_gives = { λ x value. datum_of value ≡ RealOf (F64 (to_bits binary64 x)) };
+
+    fn from(x: f64) -> Self {
+        Value::of_f64(x)
+    }
+}

@@ -10,14 +10,18 @@ pub struct Rule<W> {
     pub applies: bool,
 }
 
-/// Why the first rule that applies refuses; None where none does. A table of rules is read from its head.
+/// Why the first rule that applies refuses; None where none does. The last rule is looked at first, and each one is
+/// asked: a table that is made for the call then needs no place in memory.
 pub fn first_fault<W: Copy>(rules: &[Rule<W>]) -> Option<W>
     ensures { result ≡ first_reason rules.now }
 {
-    for rule in rules {
-        if rule.applies {
-            return Some(rule.why);
+    let mut found = None;
+    let mut left = rules.len();
+    while left > 0 {
+        left -= 1;
+        if rules[left].applies {
+            found = Some(rules[left].why);
         }
     }
-    None
+    found
 }

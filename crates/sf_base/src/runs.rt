@@ -1,7 +1,7 @@
 //! Runs of white space, of bytes that are none, and of bytes before a given one, sixteen bytes at once.
-ghost use Rattle.std.specs.Prelude.{◌≡◌, ◌+◌, ◌==◌, ◌≤◌, length, map};
+ghost use Rattle.std.specs.Prelude.{◌≡◌, ◌+◌, ◌==◌, ◌≤◌, not, length, map};
 ghost use Rattle.std.specs.List.{prefix_len};
-ghost use Rattle.sf_base.specs.Bytes.{is_white, is_ink, is_other, IsSkip, IsLongestFront};
+ghost use Rattle.sf_base.specs.Bytes.{is_white, is_ink, is_of_run, is_other, IsSkip, IsLongestFront};
 ghost use lib.Lanes.{mask_l, chunk};
 
 use crate::bytes::is_space;
@@ -10,27 +10,50 @@ use std::simd::prelude::*;
 
 const LANES: usize = 16;
 
-/// Which of the sixteen bytes from the place on are white space: a bit each, the first byte's the lowest.
+/// Whether the byte belongs to a run: of white space, or of bytes that are none.
 #[inline(always)]
-fn space_mask(piece: &[u8], at: usize) -> u64
-    requires { at + LANES ≤ length piece.now }
-    ensures { result ≡ mask_l (map is_white (chunk at 16 piece.now)) }
+fn belongs(white: bool, b: u8) -> bool
+    ensures { result ≡ is_of_run white b }
 {
-    let lanes = u8x16::from_slice(&piece[at..]);
-    let white = (lanes - u8x16::splat(9)).simd_lt(u8x16::splat(5))
-        | lanes.simd_eq(u8x16::splat(32));
-    white.to_bitmask()
+    is_space(b) == white
 }
 
-/// Which of the sixteen bytes from the place on are no white space.
+/// Which of the sixteen bytes from the place on don't belong to the run: a bit each, the first byte's the lowest.
 #[inline(always)]
-fn ink_mask(piece: &[u8], at: usize) -> u64
+fn others_mask(white: bool, piece: &[u8], at: usize) -> u64
     requires { at + LANES ≤ length piece.now }
-    ensures { result ≡ mask_l (map is_ink (chunk at 16 piece.now)) }
+    ensures { result ≡ mask_l (map (λ b. not (is_of_run white b)) (chunk at 16 piece.now)) }
 {
     let lanes = u8x16::from_slice(&piece[at..]);
-    let ink = (lanes - u8x16::splat(9)).simd_ge(u8x16::splat(5)) & lanes.simd_ne(u8x16::splat(32));
-    ink.to_bitmask()
+    let spaces = (lanes - u8x16::splat(9)).simd_lt(u8x16::splat(5))
+        | lanes.simd_eq(u8x16::splat(32));
+    if white {
+        return (!spaces).to_bitmask();
+    }
+    spaces.to_bitmask()
+}
+
+/// The length of the longest front that is a run.
+#[inline(always)]
+fn run(white: bool, piece: &[u8]) -> usize
+    ensures longest { IsLongestFront (is_of_run white) piece.now result }
+    ensures count { result ≡ prefix_len (is_of_run white) piece.now }
+{
+    let mut at = 0;
+    while piece.len() - at >= LANES {
+        let others = others_mask(white, piece, at);
+        if others != 0 {
+            return at + others.trailing_zeros() as usize;
+        }
+        at += LANES;
+    }
+    while at < piece.len() {
+        if !belongs(white, piece[at]) {
+            return at;
+        }
+        at += 1;
+    }
+    at
 }
 
 /// How much white space the bytes begin with: the length of their longest front that is all white space.
@@ -38,21 +61,7 @@ pub fn space_run(piece: &[u8]) -> usize
     ensures longest { IsSkip piece.now result }
     ensures count { result ≡ prefix_len is_white piece.now }
 {
-    let mut at = 0;
-    while piece.len() - at >= LANES {
-        let others = ink_mask(piece, at);
-        if others != 0 {
-            return at + others.trailing_zeros() as usize;
-        }
-        at += LANES;
-    }
-    while at < piece.len() {
-        if !is_space(piece[at]) {
-            return at;
-        }
-        at += 1;
-    }
-    at
+    run(true, piece)
 }
 
 /// How many bytes stand before the first white space: the length of the longest front that holds none.
@@ -60,21 +69,7 @@ pub fn text_run(piece: &[u8]) -> usize
     ensures longest { IsLongestFront is_ink piece.now result }
     ensures count { result ≡ prefix_len is_ink piece.now }
 {
-    let mut at = 0;
-    while piece.len() - at >= LANES {
-        let spaces = space_mask(piece, at);
-        if spaces != 0 {
-            return at + spaces.trailing_zeros() as usize;
-        }
-        at += LANES;
-    }
-    while at < piece.len() {
-        if is_space(piece[at]) {
-            return at;
-        }
-        at += 1;
-    }
-    at
+    run(false, piece)
 }
 
 /// Which of the first sixteen bytes are this one: a bit each, the first byte's the lowest.

@@ -4,4 +4,4 @@ mod copies;
 mod lines;
 
 pub use copies::copy_by_formats;
-pub use lines::scan_lines;
+pub use lines::{notes_of_lines, scan_lines};

@@ -120,7 +120,8 @@ static READINGS: [Reading; 8] = [
         ["\n", "x", ""],
         false,
         "\n",
-        "sf: record 2: stalled\n  at line 2, column 1 of the input\n",
+        "sf: record 2: stalled\n  at line 2, column 1 of the input\n  \
+         the format took no byte, so that the next record would begin where this one did\n",
         1,
     ),
     (

@@ -11,6 +11,7 @@ mod left;
 mod loops;
 #[cfg(test)]
 mod memory;
+mod once;
 #[cfg(test)]
 mod places;
 #[cfg(test)]
@@ -19,3 +20,5 @@ mod program;
 mod shared;
 #[cfg(test)]
 mod values;
+
+pub use once::said_once;

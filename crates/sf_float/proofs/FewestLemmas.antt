@@ -5,6 +5,7 @@ pub mod Full
 pub mod Fewest
 pub mod FirstDigits
 pub mod LaidBack
+pub mod Nearest
 pub mod Quotients
 pub mod ReadBack
 pub mod ShortBytes

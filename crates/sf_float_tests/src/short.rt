@@ -8,10 +8,10 @@ ghost use Rattle.sf_float.specs.Computed.{count_of};
 ghost use Rattle.sf_float.specs.Scaled.{is_nonzero};
 ghost use Rattle.sf_float.specs.fewest.Digits.{read_as, shortest};
 ghost use Rattle.sf_float.specs.fewest.Laid.{shortest_text};
-ghost use Rattle.sf_float.specs.fewest.Laws.{IsShort};
+ghost use Rattle.sf_float.specs.fewest.Laws.{IsNoFurther, IsShort};
 
 use sf_base::Real;
-use sf_float::fewest::laws::{has_short_bytes, none_shorter, one_float, reads_back};
+use sf_float::fewest::laws::{has_short_bytes, none_nearer, none_shorter, one_float, reads_back};
 use sf_float::write_shortest;
 use sf_float_read::value::laws::{one_stored, short_is_stored, stored_is_computed};
 use sf_float_read::{value_f32, value_f64};
@@ -51,18 +51,23 @@ pub fn share_text(one: u64, other: u64) -> bool
     text[..end] == last[..other_end]
 }
 
-/// Writes the shortest text of a double. It is read as the double, no decimal with fewer digits is, and it has digits,
-/// `-`, `.` and small letters alone.
+/// Writes the shortest text of a double. It is read as the double, no decimal with fewer digits is, none with as many
+/// is nearer, and it has digits, `-`, `.` and small letters alone.
 pub fn shortest_of(bits: u64, out: &mut [u8; 32]) -> usize
     ensures text { take result out.new ≡ shortest_text (reals.F64 bits) }
     ensures reads { parse_float binary64 (take result out.new) ≡ Some (from_bits binary64 bits) }
     ensures fewest { (n : ℕ) (last : ℕ) → is_nonzero (from_bits binary64 bits)
         → read_as (reals.F64 bits) n last ≡ from_bits binary64 bits
         → count_of 0 (shortest (reals.F64 bits)).0 ≤ count_of 0 n }
+    ensures nearest { (n : ℕ) (last : ℕ) → is_nonzero (from_bits binary64 bits)
+        → read_as (reals.F64 bits) n last ≡ from_bits binary64 bits
+        → count_of 0 n ≤ count_of 0 (shortest (reals.F64 bits)).0
+        → IsNoFurther (from_bits binary64 bits) (shortest (reals.F64 bits)).0 (shortest (reals.F64 bits)).1 n last }
     ensures bytes { All IsShort (take result out.new) }
 {
     reads_back();
     none_shorter();
+    none_nearer();
     has_short_bytes();
     write_shortest(Real::F64(bits), out)
 }

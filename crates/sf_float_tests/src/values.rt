@@ -1,4 +1,5 @@
 //! Values of matching sequences, as glibc's strtod and strtof read them, and input items.
+use sf_base::Value;
 use sf_float_read::{
     FloatScan, decimal_value_f32, decimal_value_f64, is_float, numeral_within, value_f32, value_f64,
 };
@@ -272,6 +273,18 @@ fn decimal_numerals_are_read_at_once() -> Result<(), Fail> {
         if numeral_within(piece).is_some() {
             return Err(Fail::new(format_args!("{:?}", piece)));
         }
+    }
+    Ok(())
+}
+
+/// A float is a value of its pattern, a negative zero with its sign (IEEE 754 3.4).
+#[test]
+fn a_float_is_a_value_of_its_pattern() -> Result<(), Fail> {
+    if Value::from(1.5) != Value::F64(0x3ff8_0000_0000_0000) {
+        return Err(Fail::new(format_args!("1.5")));
+    }
+    if Value::from(-0.0) != Value::F64(0x8000_0000_0000_0000) {
+        return Err(Fail::new(format_args!("-0")));
     }
     Ok(())
 }

@@ -1,7 +1,7 @@
 -- A text passed part by part.
-use Rattle.std.proofs.Common.{◌≡◌, ℕ, suc, ◌+◌, ◌-◌, ◌<◌, ◌≤◌, Bool, true, false, List, [], ◌∷◌, ◌++◌, length, get_or, Some, None, Ok, Err}
-use Rattle.std.proofs.Common.{refl, sym, ap, ◌∙◌, subst, arith, append_assoc, append-nil, length-append}
-use Rattle.std.specs.Prelude.{◌==◌}
+use Rattle.std.proofs.Common.{◌≡◌, ℕ, suc, ◌+◌, ◌-◌, ◌<◌, ◌≤◌, Bool, true, false, List, [], ◌∷◌, ◌++◌, length, get_or}
+use Rattle.std.proofs.Common.{Option, Some, None, Ok, Err, refl, sym, ap, ◌∙◌, subst, arith, append_assoc, append-nil, length-append}
+use Rattle.std.specs.Prelude.{◌==◌, IfSome, MatchOption}
 use Rattle.std.proofs.lemmas.Bool.Decides.{nat_tests}
 use Rattle.std.proofs.lemmas.Grind.{flat_map-append}
 use Rattle.sf_base.specs.Bytes.{AreBytes}
@@ -14,7 +14,7 @@ use Rattle.sf_format.specs.Grammar.{destinations, MeanAll}
 use Rattle.sf_format.specs.Rules.{first_of}
 use Rattle.sf_format.specs.Faults.{part_rules}
 use Rattle.sf_format.specs.Reading.{put, read}
-use Rattle.sf_format.specs.Passing.{Holds, fault_of}
+use Rattle.sf_format.specs.Passing.{Holds, IsKept, Gathers, fault_of}
 use Rattle.sf_format.proofs.Rules.{quiet_is, all_back}
 use Rattle.sf_format.proofs.Destinations.{destinations_push, at_most_one}
 use Rattle.sf_format.proofs.Meanings.{mean_push}
@@ -167,19 +167,37 @@ passing_all {language} {at = at} {rest = rest} h is_empty none =
     ∙ ap (λ x. put_all h.done (read h.fuel language (destinations h.done) at x)) over
     ∙ ap (put_all h.done) (nothing_read h.fuel language (destinations h.done) at) ∙ ap Ok (append-nil h.done)
 
--- ---- with what the parts so far stand for
+-- ---- with what the parts so far stand for, where that is kept
 
 pub record Gathering (D : Type 0) (language : Language) (means : ℕ → Piece → D → Type 0) (text : List ℕ) (at : ℕ) (rest : List ℕ)
     (slots : Slots)
-    (ds : List D) : Type 0 where
+    (list : Option (List D)) : Type 0 where
   pub passing : Passing language text at rest slots
-  pub meaning : MeanAll means 1 passing.done ds
+  pub meaning : IfSome list (MeanAll means 1 passing.done)
+
+-- with one part more, if that was made and there was room for it
+kept_means : {D : Type 0} (means : ℕ → Piece → D → Type 0) (done : List Piece) (piece : Piece) (N : Type 0) (list : Option (List D))
+    (part : Option D) (kept : Option (List D)) → IfSome list (MeanAll means 1 done)
+    → MatchOption part N (means (1 + length (destinations done)) piece) → IsKept list part kept
+    → IfSome kept (MeanAll means 1 (done ++ piece ∷ []))
+kept_means means done piece N list part None meaning made is = tt
+kept_means means done piece N (Some ds) (Some d) (Some kept) meaning made is = rw is (mean_push means 1 done ds piece d meaning made)
+kept_means means done piece N (Some ds) None (Some kept) meaning made is = absurd is
+kept_means means done piece N None part (Some kept) meaning made is = absurd is
 
 pub gathering_more : {D : Type 0} {language : Language} (means : ℕ → Piece → D → Type 0) {text : List ℕ} {at : ℕ} {rest after : List ℕ}
-    {slots new : Slots} {ds : List D} (d : D) (h : Gathering D language means text at rest slots ds)
-    → PassesFirst h.passing after new → means (1 + length (destinations h.passing.done)) (part_at language rest).piece d
-    → Gathering D language means text (length text - length after) after new (ds ++ d ∷ [])
-gathering_more {language = language} means {rest = rest} {ds = ds} d h passes one = record {
+    {slots new : Slots} (N : Type 0) (part : Option D) {list kept : Option (List D)}
+    (h : Gathering D language means text at rest slots list)
+    → PassesFirst h.passing after new
+    → MatchOption part N (means (1 + length (destinations h.passing.done)) (part_at language rest).piece)
+    → IsKept list part kept → Gathering D language means text (length text - length after) after new kept
+gathering_more {language = language} means {rest = rest} N part {list} {kept} h passes made is = record {
   passing = passing_more passes;
-  meaning = mean_push means 1 h.passing.done ds (part_at language rest).piece d h.meaning one;
+  meaning = kept_means means h.passing.done (part_at language rest).piece N list part kept h.meaning made is;
 }
+
+pub gathering_all : {D : Type 0} {language : Language} {means : ℕ → Piece → D → Type 0} {text : List ℕ} {at : ℕ} {rest : List ℕ}
+    {slots : Slots} (list : Option (List D)) (h : Gathering D language means text at rest slots list)
+    → read (length text) language [] 0 text ≡ Ok h.passing.done → IfSome list (Gathers language means text)
+gathering_all None h parts = tt
+gathering_all (Some ds) h parts = record { pieces = h.passing.done; parts = parts; meaning = h.meaning }

@@ -180,6 +180,12 @@ pub record Gathers {D : Type 0} (language : Language) (means : ℕ → Piece →
   pub parts : read (length text) language [] 0 text ≡ Ok pieces
   pub meaning : MeanAll means 1 pieces ds
 
+-- a list with one more at its end, if both are there; or none
+abbrev pub IsKept : {D : Type 0} → Option (List D) → Option D → Option (List D) → Type 0
+IsKept list part None = Unit {0}
+IsKept (Some ds) (Some d) (Some kept) = kept ≡ ds ++ d ∷ []
+IsKept _ _ (Some kept) = ⊥
+
 -- the fault of a part of the text, or no memory
 abbrev pub IsHindered : Language → List ℕ → FormatFault → Type 0
 IsHindered language text fault = (read (length text) language [] 0 text ≡ Err (fault_of fault)) ⊎ (fault ≡ no_memory)

@@ -1,7 +1,9 @@
 //! What the grammars of scan formats and of print formats have in common.
-ghost use Rattle.std.specs.Prelude.{◌≡◌, ◌≤◌, ◌<◌, ◌+◌, true, false, ℕ, List, ◌∷◌, None, length, IfOk, IfErr};
-ghost use Rattle.std.specs.Prelude.{MatchOption};
+ghost use Rattle.std.specs.Prelude.{◌≡◌, ◌≤◌, ◌<◌, ◌+◌, true, false, ℕ, List, ◌∷◌, None, length, Ok, Err, IfOk, IfErr};
+ghost use Rattle.std.specs.Prelude.{IfSome, MatchOption};
 ghost use Rattle.std.specs.List.{AllByRecursion};
+ghost use Rattle.std.specs.Option.{option_map};
+ghost use Rattle.std.specs.Vec.{vec_items};
 ghost use Rattle.sf_format.specs.Digits.{is_decimal};
 ghost use Rattle.sf_format.specs.Language.{Language};
 ghost use Rattle.sf_format.specs.Pieces.{Opening, Piece, WhiteSpace, opening_text};
@@ -9,7 +11,7 @@ ghost use Rattle.sf_format.specs.Cut.{cut, letter_at, joins_run, conversion_at, 
 ghost use Rattle.sf_format.specs.Rules.{first_of};
 ghost use Rattle.sf_format.specs.Faults.{opening_rules, rest_rules, conversion_rules, percent_rules, part_rules};
 ghost use Rattle.sf_format.specs.Passing.{opening_of, fault_in, IsIn, literal_piece, Holds, PassesBy, Walked, Gathers};
-ghost use Rattle.sf_format.specs.Passing.{IsHindered};
+ghost use Rattle.sf_format.specs.Passing.{IsKept};
 
 use crate::fault::{FormatFault, FormatWhy};
 use crate::fronts::{Class, mark, split_front};
@@ -115,7 +117,8 @@ fn opening<G: Grammar>(grammar: G, text: &[u8]) -> (Written, &[u8])
 }
 
 /// Passes the conversion specification whose `%` stands at the place, after these destinations or values. The text is
-/// what follows the `%`.
+/// what follows the `%`. It stands apart: what it passes is then copied once, and not at each return of its callers.
+#[inline(never)]
 fn pass_conversion<'a, G: Grammar>(
     grammar: G,
     text: &'a [u8],
@@ -172,6 +175,7 @@ fn pass_specification<'a, G: Grammar>(
 }
 
 /// Passes the part that begins with the byte at the place, after these destinations or values.
+#[inline(always)]
 pub fn pass<'a, G: Grammar>(
     grammar: G,
     text: &'a [u8],
@@ -214,44 +218,41 @@ pub fn pass<'a, G: Grammar>(
     })
 }
 
-/// The destinations or values of a text without a fault in its parts, or the first such fault. It takes no memory, and
-/// makes nothing of the conversion specifications.
-pub fn walk<G: Grammar>(grammar: G, text: &[u8]) -> Result<Slots, FormatFault>
-    requires { length text.now ≤ 4096 }
-    ensures { Walked (G.language grammar) text.now result }
+/// The list with one more part; None where there is no list, or memory for it is refused.
+fn with_part<P: Drop>(list: Option<Vec<P>>, part: Option<P>) -> Option<Vec<P>>
+    ensures { IsKept (option_map vec_items list) part (option_map vec_items result) }
 {
-    let mut rest = text;
-    let mut at: u16 = 0;
-    let mut slots = NO_SLOTS;
-    while !rest.is_empty() {
-        let passed = pass(grammar, rest, at, slots, false)?;
-        rest = passed.rest;
-        at = (text.len() - rest.len()) as u16;
-        slots = passed.slots;
+    let mut parts = list?;
+    match parts.push(part?) {
+        Ok(()) => Some(parts),
+        Err(_refused) => None,
     }
-    Ok(slots)
 }
 
-/// What the parts of a text stand for, where none of them has a fault.
-pub fn gather<G: Grammar>(
-    alloc: Global,
+/// Walks over a text once. The destinations or values of a text without a fault in its parts, or the first such fault;
+/// and what the parts stand for, where memory is given for that. Where it is refused, the walk goes on without: a fault
+/// further on is found all the same.
+pub fn walk<G: Grammar>(
     grammar: G,
     text: &[u8],
-) -> Result<Vec<G::Part>, FormatFault>
+    alloc: Option<Global>,
+) -> Result<(Slots, Option<Vec<G::Part>>), FormatFault>
     requires { length text.now ≤ 4096 }
-    ensures gathered { IfOk result (λ parts. Gathers (G.language grammar) (G.means grammar) text.now parts.items) }
-    ensures hindered { IfErr result (IsHindered (G.language grammar) text.now) }
+    ensures walked { IfOk result (λ walked. Walked (G.language grammar) text.now (Ok walked.0)) }
+    ensures gathered { IfOk result (λ walked. IfSome (option_map vec_items walked.1)
+        (Gathers (G.language grammar) (G.means grammar) text.now)) }
+    ensures fault { IfErr result (λ fault. Walked (G.language grammar) text.now (Err fault)) }
 {
-    let mut parts = Vec::new(alloc);
+    let mut parts = alloc.map(|alloc| Vec::new(alloc));
     let mut rest = text;
     let mut at: u16 = 0;
     let mut slots = NO_SLOTS;
     while !rest.is_empty() {
-        let passed = pass(grammar, rest, at, slots, true)?;
+        let passed = pass(grammar, rest, at, slots, parts.is_some())?;
         rest = passed.rest;
         at = (text.len() - rest.len()) as u16;
         slots = passed.slots;
-        parts.push(passed.part.unwrap())?;
+        parts = with_part(parts, passed.part);
     }
-    Ok(parts)
+    Ok((slots, parts))
 }

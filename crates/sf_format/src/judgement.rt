@@ -1,17 +1,27 @@
 //! Whether a text is a format, and what it then spells.
-ghost use Rattle.std.specs.Prelude.{◌≡◌, List, IfOk, IfErr, MatchResult};
+ghost use Rattle.std.specs.Prelude.{◌≡◌, List, Ok, Err, IfOk, IfErr, IfSome, MatchResult};
+ghost use Rattle.std.specs.Option.{option_map};
+ghost use Rattle.std.specs.Vec.{vec_items};
 ghost use Rattle.sf_format.specs.Grammar.{IsMeaning, SpellsAs, SpellsCounted};
 ghost use Rattle.sf_format.specs.Faults.{FaultIn, IsRefusedAs, TellsFault, no_memory};
-ghost use Rattle.sf_format.specs.Passing.{Judged};
+ghost use Rattle.sf_format.specs.Passing.{Gathers, Judged};
 
 use crate::fault::{FormatFault, FormatWhy};
-use crate::grammar::{Grammar, gather, walk};
+use crate::grammar::{Grammar, walk};
 use crate::noted::number_fault;
-use std::alloc::Global;
+use std::alloc::{AllocError, Global};
 
-/// The count of the destinations or values of a text without a fault, or its first fault. It takes no memory.
-pub fn judge<G: Grammar>(grammar: G, text: &[u8]) -> Result<u8, FormatFault>
-    ensures { Judged (G.language grammar) text.now result }
+/// The count of the destinations or values of a text without a fault, or its first fault; and what its parts stand for,
+/// where memory is given for that, and isn't refused.
+pub fn judge<G: Grammar>(
+    grammar: G,
+    text: &[u8],
+    alloc: Option<Global>,
+) -> Result<(u8, Option<Vec<G::Part>>), FormatFault>
+    ensures judged { IfOk result (λ judged. Judged (G.language grammar) text.now (Ok judged.0)) }
+    ensures gathered { IfOk result (λ judged. IfSome (option_map vec_items judged.1)
+        (Gathers (G.language grammar) (G.means grammar) text.now)) }
+    ensures fault { IfErr result (λ fault. Judged (G.language grammar) text.now (Err fault)) }
 {
     if text.len() > 4096 {
         return Err(FormatFault {
@@ -19,15 +29,15 @@ pub fn judge<G: Grammar>(grammar: G, text: &[u8]) -> Result<u8, FormatFault>
             why: FormatWhy::FormatTooLong,
         });
     }
-    let slots = walk(grammar, text)?;
+    let (slots, parts) = walk(grammar, text, alloc)?;
     match number_fault(grammar, text, slots) {
         Some(fault) => Err(fault),
-        None => Ok(slots.count as u8),
+        None => Ok((slots.count as u8, parts)),
     }
 }
 
-/// What the parts of a text stand for, and the count of its destinations or values. Memory is taken only for a text
-/// without a fault.
+/// What the parts of a text stand for, and the count of its destinations or values. A text with a fault is refused for
+/// that, also where memory is refused.
 pub fn parse<G: Grammar>(
     alloc: Global,
     grammar: G,
@@ -41,7 +51,9 @@ pub fn parse<G: Grammar>(
     ensures accepted { (ds : List G.Part) → SpellsAs (G.language grammar) (G.means grammar) text.now ds
         → MatchResult result (λ read. read.0.items ≡ ds) (λ fault. fault ≡ no_memory) }
 {
-    let count = judge(grammar, text)?;
-    let parts = gather(alloc, grammar, text)?;
-    Ok((parts, count))
+    let (count, parts) = judge(grammar, text, Some(alloc))?;
+    match parts {
+        Some(parts) => Ok((parts, count)),
+        None => Err(FormatFault::from(AllocError)),
+    }
 }

@@ -51,7 +51,7 @@ pub fn directive_text(profile: Profile, text: &[u8], number: u16) -> Option<&[u8
     ensures refused { (at : ℕ) (why : FormatWhy) → Fault profile text.now at why → result ≡ None }
 {
     let grammar = ScanGrammar { profile };
-    let Ok(_count) = judge(grammar, text) else {
+    let Ok((_count, _parts)) = judge(grammar, text, None) else {
         return None;
     };
     part_text(grammar, text, number)

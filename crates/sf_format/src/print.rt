@@ -56,7 +56,8 @@ fn find_printed_kind(units: &[Unit], slot: u8) -> Option<Kind>
 }
 
 impl PrintFormat {
-    /// The print format that the text spells (C11 7.21.6.1). Memory is taken only for a text that spells one.
+    /// The print format that the text spells (C11 7.21.6.1). A text with a fault is refused for that, also where memory
+    /// is refused.
     pub fn parse(alloc: Global, profile: Profile, text: &[u8]) -> Result<PrintFormat, FormatFault>
         ensures spelled { IfOk result (λ format. SpellsPrint profile text.now format) }
         ensures refused { IfErr result (λ fault. IsPrintRefused profile text.now fault) }

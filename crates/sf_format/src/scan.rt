@@ -170,7 +170,7 @@ fn ends_unbounded(directives: &[Directive]) -> bool
 }
 
 impl ScanFormat {
-    /// The format that the text spells. Memory is taken only for a text that spells one.
+    /// The format that the text spells. A text with a fault is refused for that, also where memory is refused.
     pub fn parse(alloc: Global, profile: Profile, text: &[u8]) -> Result<ScanFormat, FormatFault>
         ensures spelled { IfOk result (λ format. Spells profile text.now format) }
         ensures refused { IfErr result (λ fault. IsRefused profile text.now fault) }

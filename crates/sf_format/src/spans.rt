@@ -74,7 +74,7 @@ impl Spans {
         ensures fault { TellsFault (Fault profile text.now) result }
     {
         let grammar = ScanGrammar { profile };
-        let _count = judge(grammar, text)?;
+        let (_count, _parts) = judge(grammar, text, None)?;
         let spans = gather_spans(alloc, grammar, text)?;
         Ok(Spans { spans })
     }

@@ -6,11 +6,12 @@ ghost use Rattle.sf_format.specs.declared.fault.FormatWhy.TheVariants as why;
 ghost use Rattle.sf_format.specs.Faults.{Fault};
 ghost use Rattle.sf_format.specs.Grammar.{ArePlaced, Spells, destinations};
 ghost use Rattle.sf_format.specs.Pieces.{Piece, text_of};
-ghost use Rattle.sf_format.specs.Profiles.{HaveBases, IsNotBin, IsOfOne, in_two};
+ghost use Rattle.sf_format.specs.Profiles.{AreOfTwo, HaveBases, IsNotBin, IsOfOne, in_two};
 ghost use Rattle.sf_format.specs.Proper.{AreInOrder, IsAccepted, destinations_of};
 
 use sf_format::laws::{
-    either, in_order, not_both, one_fault, one_list, profiles, proper, slots_have_kinds,
+    either, in_order, not_both, one_fault, one_list, profile_three, profiles, proper,
+    slots_have_kinds,
 };
 use sf_format::{FormatFault, PrintFormat, Profile, ScanFormat};
 use std::alloc::Global;
@@ -151,4 +152,19 @@ pub fn one_profile(alloc: Global, text: &[u8]) -> Option<(ScanFormat, FormatFaul
         return None;
     };
     Some((second, first))
+}
+
+/// A text that is parsed by profiles 2 and 3 gives the same format, without a float and without a `?`.
+pub fn third_profile(alloc: Global, text: &[u8]) -> Option<(ScanFormat, ScanFormat)>
+    ensures { IfSome result (λ formats. (formats.1 ≡ formats.0) × AreOfTwo formats.0) }
+{
+    one_list();
+    profile_three();
+    let Ok(second) = ScanFormat::parse(alloc, Profile::Two, text) else {
+        return None;
+    };
+    let Ok(third) = ScanFormat::parse(alloc, Profile::Three, text) else {
+        return None;
+    };
+    Some((second, third))
 }

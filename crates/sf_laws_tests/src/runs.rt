@@ -1,22 +1,24 @@
 //! Laws of runs.
-ghost use Rattle.std.specs.Prelude.{◌≡◌, ◌≤◌, ◌++◌, ◌∷◌, ℕ, List, [], length, None, IfSome, IsSome, false};
+ghost use Rattle.std.specs.Prelude.{◌≡◌, ◌≤◌, ◌++◌, ◌∷◌, ℕ, List, [], length, Some, None, IfSome, IsSome, false};
 ghost use Rattle.sf_format.specs.declared.directive.Directive.{Directive};
 ghost use Rattle.sf_format.specs.Widths.{width_sum};
 ghost use Rattle.sf_report.specs.Computed.{part_of, ran_of, step_of};
+ghost use Rattle.sf_report.specs.Examples.{fourth_format, number, report};
 ghost use Rattle.sf_report.specs.Limits.{RunWithin};
 ghost use Rattle.sf_report.specs.Machine.{Skipping};
 ghost use Rattle.sf_report.specs.Residual.{nothing_yet, one_from, run_of};
 ghost use Rattle.sf_format.specs.Proper.{has_optional};
 ghost use Rattle.sf_report.specs.Rows.{FillsSlots, HasRow};
 ghost use Rattle.sf_report.specs.Runs.{IsOpen, report_of, values};
-ghost use Rattle.sf_run.specs.outcome.Status.TheVariants.{Done};
+ghost use Rattle.sf_run.specs.outcome.Ending.TheVariants.{End};
+ghost use Rattle.sf_run.specs.outcome.Status.TheVariants.{Done, InputFailure};
 
 use sf_base::{FixedStore, HeapStore};
 use sf_format::ScanFormat;
 use sf_read::sscan;
 use sf_report::laws::{
     closed_inputs_stay, done_runs_have_rows, one_report, open_inputs_are_used, runs_are_computed,
-    steps_are_computed,
+    steps_are_computed, worked_examples,
 };
 use sf_report::{Ending, Scanned};
 use sf_run::Scanner;
@@ -138,4 +140,16 @@ pub fn over_two_stores(
         return None;
     };
     Some((first, second))
+}
+
+/// C11's EXAMPLE 4: of `123` a format that is `%d%n%n%d` stores 123, 3 and 3, and then meets the end.
+pub fn fourth_example(alloc: Global, format: &ScanFormat) -> Option<Scanned<HeapStore>>
+    ensures { format.now ≡ fourth_format → IfSome result (λ s. s.report
+        ≡ report InputFailure 4 1 1 3 (Some End) (number 1 123 ∷ number 2 3 ∷ number 3 3 ∷ [])) }
+{
+    worked_examples();
+    let Ok(scanned) = sscan(alloc, b"123", format, 2147483647) else {
+        return None;
+    };
+    Some(scanned)
 }

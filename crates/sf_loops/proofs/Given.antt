@@ -1,5 +1,6 @@
 -- What `next` answers, of a loop that is known by another name.
-use Rattle.std.proofs.Common.{◌≡◌, ℕ, List, Option, Result, Ok, true, subst, sym}
+use Rattle.std.proofs.Common.{◌≡◌, ℕ, List, Option, Result, Ok, Err, true, subst, sym}
+use Rattle.std.specs.Prelude.{IfOk}
 use Rattle.sf_base.specs.Data.{Datum}
 use Rattle.sf_base.specs.declared.values.Kind.{Kind}
 use Rattle.sf_read.specs.source.Ahead.{Ahead}
@@ -53,3 +54,10 @@ pub end_kept : {S : Type 0} (was old now new : Ahead S) → was ≡ old → new 
     → (was.at_end ≡ true → now.at_end ≡ true) → StaysAtEnd old new
 end_kept {S} was old now new same is no_read stays =
     subst (λ (a : Ahead S). StaysAtEnd old a) (sym is) (stays_by was old now same no_read stays)
+
+-- ---- a loop that was made over bytes that were read ahead
+
+pub by_ahead : {S L E : Type 0} (P : Ahead S → Type 0) (ahead : L → Ahead S) (from : Ahead S) (result : Result L E) → P from
+    → IfOk result (λ l. ahead l ≡ from) → IfOk result (λ l. P (ahead l))
+by_ahead P ahead from (Ok l) own is = subst P (sym is) own
+by_ahead P ahead from (Err e) own is = tt

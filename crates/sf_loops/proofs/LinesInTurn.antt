@@ -17,7 +17,8 @@ use Rattle.sf_read.proofs.LineLemmas.Lined.{Lined, at_end, begins, took}
 use Rattle.sf_loops.specs.declared.line_fault.LineFault.{LineFault}
 use Rattle.sf_loops.specs.declared.line_fault.LineWhy.{LineWhy}
 use Rattle.sf_loops.specs.declared.line_fault.LineWhy.TheVariants as why
-use Rattle.sf_loops.specs.Lines.{Comes, IsLineLoop, IsNextLine, IsNextLineRow, IsScanned, Judged, LineLoop, LineRowAnswers, Misses}
+use Rattle.sf_read.specs.Matches.{leaves}
+use Rattle.sf_loops.specs.Lines.{Comes, DoneBy, IsLineLoop, IsNextLine, IsNextLineRow, IsScanned, Judged, LineLoop, LineRowAnswers, Misses}
 use Rattle.sf_loops.specs.Lines.{Stops}
 use Rattle.sf_loops.specs.LineLaws.{AnswersAreLines, AreAnswersOf, IsAnswerOf, IsMissBy, LineAnswer, LinesInTurn, NoneIsTheEnd, answered}
 use Rattle.sf_loops.specs.LineLaws.{is_miss}
@@ -31,11 +32,19 @@ pub record IsReported {S : Type 0} (to_come : S → Option (List ℕ)) (old new 
   pub short : length text ≤ old.limit
   pub scanned : RunTold old.format old.limit text End new.report
   pub done : new.report.status ≡ status.Done
+  pub whole : leaves old.matching status.Done new.report.used (length text) ≡ false
   pub goes : IsLineLoop old new (counted_on old.read) None
 
+done_true : {S : Type 0} (old new : LineLoop S) (left : Bool) (text : List ℕ) → DoneBy old new left text (Ok true)
+    → (left ≡ false) × IsLineLoop old new (counted_on old.read) None
+done_true old new true text h = absurd h
+done_true old new false text h = (refl, h.2)
+
 judged_true : {S : Type 0} (old new : LineLoop S) (s : Status) (text : List ℕ) → Judged old new s text (Ok true)
-    → (s ≡ status.Done) × IsLineLoop old new (counted_on old.read) None
-judged_true old new status.Done text h = (refl, h.2)
+    → (s ≡ status.Done) × (leaves old.matching status.Done new.report.used (length text) ≡ false)
+    × IsLineLoop old new (counted_on old.read) None
+judged_true old new status.Done text h =
+    let d = done_true old new (leaves old.matching status.Done new.report.used (length text)) text h in (refl, d.0, d.1)
 judged_true old new status.NoMemory text h = absurd h
 judged_true old new status.InputFailure text h = absurd h
 judged_true old new status.MatchingFailure text h = absurd h
@@ -50,7 +59,8 @@ comes_true to_come old new reads.Line text r h = let j = judged_true old new new
   short = r.1;
   scanned = h.0.told;
   done = j.0;
-  goes = j.1;
+  whole = j.1;
+  goes = j.2;
 }
 comes_true to_come old new reads.TooLong text r h = absurd h
 comes_true to_come old new reads.End text r h = let never = h.0 in absurd cc
@@ -65,7 +75,7 @@ record IsMissed {S : Type 0} (to_come : S → Option (List ℕ)) (old new : Line
   line : List ℕ
   taken : Took to_come old.ahead new.ahead line
   number_is : fault.number ≡ counted_on old.read
-  missed : IsMissBy old.format old.limit line fault.text.items fault.why
+  missed : IsMissBy old.format old.limit old.matching line fault.text.items fault.why
   goes : IsLineLoop old new (counted_on old.read) None
 
 stopped : {S : Type 0} (old new : LineLoop S) (why' : LineWhy) (fault : LineFault) → Stops old new why' (Err fault) → new.over ≡ None → ⊥
@@ -79,15 +89,30 @@ missed_by to_come old new text fault taken short scanned is h = record {
   line = text;
   taken = taken;
   number_is = h.0.number_is;
-  missed = subst (IsMissBy old.format old.limit text fault.text.items) (sym h.0.why_is)
+  missed = subst (IsMissBy old.format old.limit old.matching text fault.text.items) (sym h.0.why_is)
       (short, h.0.text_is, (new.report, scanned.told, is, refl));
   goes = h.1;
 }
 
+done_err : {S : Type 0} (to_come : S → Option (List ℕ)) (old new : LineLoop S) (left : Bool) (text : List ℕ) (fault : LineFault)
+    → leaves old.matching status.Done new.report.used (length text) ≡ left
+    → Took to_come old.ahead new.ahead text → length text ≤ old.limit
+    → IsScanned old new text → new.report.status ≡ status.Done → DoneBy old new left text (Err fault) → IsMissed to_come old new fault
+done_err to_come old new true text fault left taken short scanned is h = record {
+  line = text;
+  taken = taken;
+  number_is = h.0.number_is;
+  missed = subst (IsMissBy old.format old.limit old.matching text fault.text.items) (sym h.0.why_is)
+      (short, h.0.text_is, (new.report, scanned.told, is, left, refl));
+  goes = h.1;
+}
+done_err to_come old new false text fault left taken short scanned is h = let never = h.0 in absurd cc
+
 judged_err : {S : Type 0} (to_come : S → Option (List ℕ)) (old new : LineLoop S) (s : Status) (text : List ℕ) (fault : LineFault)
     → Took to_come old.ahead new.ahead text → length text ≤ old.limit
     → IsScanned old new text → new.report.status ≡ s → Judged old new s text (Err fault) → new.over ≡ None → IsMissed to_come old new fault
-judged_err to_come old new status.Done text fault t l c is h e = let never = h.0 in absurd cc
+judged_err to_come old new status.Done text fault t l c is h e =
+    done_err to_come old new (leaves old.matching status.Done new.report.used (length text)) text fault refl t l c is h
 judged_err to_come old new status.NoMemory text fault t l c is h e = absurd (stopped old new why.NoMemory fault h e)
 judged_err to_come old new status.InputFailure text fault t l c is h e = missed_by to_come old new text fault t l c (ap is_miss is) h
 judged_err to_come old new status.MatchingFailure text fault t l c is h e = missed_by to_come old new text fault t l c (ap is_miss is) h
@@ -102,7 +127,7 @@ comes_err to_come old new reads.TooLong text fault (long, taken, more, is) h e =
   line = long;
   taken = taken;
   number_is = h.0.number_is;
-  missed = subst (IsMissBy old.format old.limit long fault.text.items) (sym h.0.why_is) (more, h.0.text_is ∙ is);
+  missed = subst (IsMissBy old.format old.limit old.matching long fault.text.items) (sym h.0.why_is) (more, h.0.text_is ∙ is);
   goes = h.1;
 }
 comes_err to_come old new reads.End text fault r h e = let never = h.0 in absurd cc
@@ -118,9 +143,10 @@ record IsAnswered {S T : Type 0} (to_come : S → Option (List ℕ)) (kinds : Li
     (answer : LineAnswer T) : Type 0 where
   line : List ℕ
   taken : Took to_come old.ahead new.ahead line
-  is : IsAnswerOf kinds listed old.format old.limit (counted_on old.read) line answer
+  is : IsAnswerOf kinds listed old.format old.limit old.matching (counted_on old.read) line answer
   format : new.format ≡ old.format
   limit : new.limit ≡ old.limit
+  matching : new.matching ≡ old.matching
   read : new.read ≡ counted_on old.read
 
 row_answered : {S T : Type 0} (to_come : S → Option (List ℕ)) (failures : S → ℕ) (count : S → ℕ) (N : ℕ) (kinds : List Kind)
@@ -131,9 +157,10 @@ row_answered {S} {T} to_come failures count N kinds listed old advanced new (Ok 
     let all = comes_true to_come old advanced next.read next.text next.reading next.comes in record {
       line = next.text;
       taken = subst (λ (l : LineLoop S). Took to_come old.ahead l.ahead next.text) (sym same) all.taken;
-      is = (all.short, (advanced.report, all.scanned, all.done, row_is));
+      is = (all.short, (advanced.report, all.scanned, all.done, all.whole, row_is));
       format = ap (λ (l : LineLoop S). l.format) same ∙ all.goes.format;
       limit = ap (λ (l : LineLoop S). l.limit) same ∙ all.goes.limit;
+      matching = ap (λ (l : LineLoop S). l.matching) same ∙ next.matching;
       read = ap (λ (l : LineLoop S). l.read) same ∙ all.goes.read_are;
     }
 row_answered to_come failures count N kinds listed old advanced new (Ok false) row next h = absurd h
@@ -151,10 +178,11 @@ fault_answered {S} {T} to_come failures count N kinds listed old advanced new (E
     (ap (λ (l : LineLoop S). l.over) (sym same) ∙ e) in record {
       line = all.line;
       taken = subst (λ (l : LineLoop S). Took to_come old.ahead l.ahead all.line) (sym same) all.taken;
-      is = subst (λ (f : LineFault). IsAnswerOf kinds listed old.format old.limit (counted_on old.read) all.line
+      is = subst (λ (f : LineFault). IsAnswerOf kinds listed old.format old.limit old.matching (counted_on old.read) all.line
           (let answer : LineAnswer T = Err f in answer)) (sym is) (all.number_is, all.missed);
       format = ap (λ (l : LineLoop S). l.format) same ∙ all.goes.format;
       limit = ap (λ (l : LineLoop S). l.limit) same ∙ all.goes.limit;
+      matching = ap (λ (l : LineLoop S). l.matching) same ∙ next.matching;
       read = ap (λ (l : LineLoop S). l.read) same ∙ all.goes.read_are;
     }
 
@@ -174,7 +202,7 @@ record Told {S T : Type 0} (to_come : S → Option (List ℕ)) (kinds : List Kin
     (front : List (List ℕ)) (answers : List (LineAnswer T)) : Type 0 where
   lines : List (List ℕ)
   lined : Lined to_come t new.ahead (front ++ lines)
-  are : AreAnswersOf kinds listed old.format old.limit old.read lines answers
+  are : AreAnswersOf kinds listed old.format old.limit old.matching old.read lines answers
 
 in_turn : {S T : Type 0} (to_come : S → Option (List ℕ)) (count failures : S → ℕ) (N : ℕ) (kinds : List Kind)
     (listed : T → List (Option Datum))
@@ -196,9 +224,11 @@ in_turn {S} to_come count failures N kinds listed t old new front (answer ∷ an
           rest.lined;
       are = (
         own.is,
-        subst (λ (ds : List Directive). AreAnswersOf kinds listed ds old.limit (counted_on old.read) rest.lines answers) own.format
-            (subst (λ m. AreAnswersOf kinds listed mid.format m (counted_on old.read) rest.lines answers) own.limit
-            (subst (λ n. AreAnswersOf kinds listed mid.format mid.limit n rest.lines answers) own.read rest.are)),
+        subst (λ (ds : List Directive). AreAnswersOf kinds listed ds old.limit old.matching (counted_on old.read) rest.lines answers)
+            own.format
+            (subst (λ m. AreAnswersOf kinds listed mid.format m old.matching (counted_on old.read) rest.lines answers) own.limit
+            (subst (λ w. AreAnswersOf kinds listed mid.format mid.limit w (counted_on old.read) rest.lines answers) own.matching
+            (subst (λ n. AreAnswersOf kinds listed mid.format mid.limit mid.matching n rest.lines answers) own.read rest.are))),
       );
     }
 
@@ -216,8 +246,12 @@ comes_false : {S : Type 0} (to_come : S → Option (List ℕ)) (t : List ℕ) (o
     → Reads to_come old.ahead new.ahead old.limit text read → Comes old new read text (Ok false) → lines_of t ≡ lines
 comes_false to_come t old new reads.Line text lines l r h = absurd (none new.report.status h.1)
   where
+    none_done : (left : Bool) → DoneBy old new left text (Ok false) → ⊥
+    none_done true j = j
+    none_done false j = let never = j.0 in cc
+
     none : (s : Status) → Judged old new s text (Ok false) → ⊥
-    none status.Done j = let never = j.0 in cc
+    none status.Done j = none_done (leaves old.matching status.Done new.report.used (length text)) j
     none status.NoMemory j = j
     none status.InputFailure j = j
     none status.MatchingFailure j = j
@@ -244,4 +278,4 @@ pub none_is_the_end : {S T : Type 0} (to_come : S → Option (List ℕ)) (count 
 none_is_the_end to_come count failures N kinds listed old mid new answers turns next t e =
     let all = in_turn to_come count failures N kinds listed t old mid [] answers (begins to_come t old.ahead e) turns in
     let is = ended to_come count failures N kinds listed t mid next.advanced new next.turn all.lines all.lined next.is next.answers in
-    subst (λ (lines : List (List ℕ)). AreAnswersOf kinds listed old.format old.limit old.read lines answers) (sym is) all.are
+    subst (λ (lines : List (List ℕ)). AreAnswersOf kinds listed old.format old.limit old.matching old.read lines answers) (sym is) all.are

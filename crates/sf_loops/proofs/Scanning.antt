@@ -1,5 +1,6 @@
 -- The run over a line that was read.
-use Rattle.std.proofs.Common.{◌≡◌, ◌≤◌, ◌<◌, ℕ, List, [], length, Option, Some, None, Result, Ok, Err, Bool, true, refl, sym}
+use Rattle.std.proofs.Common.{◌≡◌, ◌≤◌, ◌<◌, ℕ, List, [], length, Option, Some, None, Result, Ok, Err, Bool, true, false}
+use Rattle.std.proofs.Common.{refl, sym}
 use Rattle.std.proofs.Common.{ap, subst, ◌∙◌}
 use Rattle.std.specs.Prelude.{IsSome, if◌then◌else◌, unwrap_or}
 use Rattle.sf_base.specs.Data.{Assigned}
@@ -24,7 +25,10 @@ use Rattle.sf_loops.specs.declared.line_fault.LineFault.{LineFault}
 use Rattle.sf_loops.specs.declared.line_fault.LineStop.{LineStop}
 use Rattle.sf_loops.specs.declared.line_fault.LineWhy.{LineWhy}
 use Rattle.sf_loops.specs.declared.line_fault.LineWhy.TheVariants as why
-use Rattle.sf_loops.specs.Lines.{Comes, IsLineFault, IsLineLoop, IsNextLine, IsScanned, Judged, LineLoop, Misses, Stops}
+use Rattle.sf_read.specs.declared.matching.Match.{Match}
+use Rattle.sf_read.specs.declared.matching.Match.TheVariants.{Front, Whole}
+use Rattle.sf_read.specs.Matches.{leaves}
+use Rattle.sf_loops.specs.Lines.{Comes, DoneBy, IsLineFault, IsLineLoop, IsNextLine, IsScanned, Judged, LineLoop, Misses, Stops}
 use Rattle.sf_loops.specs.Turns.{outcome_of}
 
 -- a report whose parts are these
@@ -83,6 +87,32 @@ pub stopped : {S : Type 0} (old new : LineLoop S) (why' : LineWhy) (fault : Line
 stopped old new why' fault format limit read over told =
     (told, record { format = format; limit = limit; read_are = read; over_is = over })
 
+-- what leaves some of a text that it had to use is Done
+pub left_done : (w : Match) (s : Status) (used len : ℕ) → leaves w s used len ≡ true → s ≡ status.Done
+left_done Front s used len h = absurd cc
+left_done Whole status.Done used len h = refl
+left_done Whole status.NoMemory used len h = absurd cc
+left_done Whole status.InputFailure used len h = absurd cc
+left_done Whole status.MatchingFailure used len h = absurd cc
+left_done Whole status.OutOfRange used len h = absurd cc
+left_done Whole status.TooLong used len h = absurd cc
+
+-- a run that is Done and leaves some of the line that a match has to use
+pub judged_left : {S : Type 0} (old new : LineLoop S) (s : Status) (text : List ℕ) (result : Result Bool LineFault) → s ≡ status.Done
+    → leaves old.matching s new.report.used (length text) ≡ true → Misses old new text (why.LeftOver new.report.used) result
+    → Judged old new s text result
+judged_left {S} old new s text result is left h =
+    subst (λ (x : Status). Judged old new x text result) (sym is) (subst (λ v. DoneBy old new v text result)
+    (sym (subst (λ (x : Status). leaves old.matching x new.report.used (length text) ≡ true) is left)) h)
+
+-- or none
+pub judged_done : {S : Type 0} (old new : LineLoop S) (s : Status) (text : List ℕ) → s ≡ status.Done
+    → leaves old.matching s new.report.used (length text) ≡ false → new.line ≡ text → IsLineLoop old new (counted_on old.read) None
+    → Judged old new s text (Ok true)
+judged_done {S} old new s text is left line loop =
+    subst (λ (x : Status). Judged old new x text (Ok true)) (sym is) (subst (λ v. DoneBy old new v text (Ok true))
+    (sym (subst (λ (x : Status). leaves old.matching x new.report.used (length text) ≡ false) is left)) (refl, line, loop))
+
 pub judged_default : {S : Type 0} (old new : LineLoop S) (s : Status) (text : List ℕ) (fault : LineFault) → (s ≡ status.Done → ⊥)
     → (s ≡ status.NoMemory → ⊥) → Misses old new text (why.Failed (outcome_of new.report)) (Err fault) → Judged old new s text (Err fault)
 judged_default old new status.Done text fault p q h = absurd (p refl)
@@ -98,6 +128,7 @@ judged_default old new status.TooLong text fault p q h = h
 pub record IsKept {S : Type 0} (old mid : LineLoop S) : Type 0 where
   pub format : mid.format ≡ old.format
   pub limit : mid.limit ≡ old.limit
+  pub matching : mid.matching ≡ old.matching
   pub read : mid.read ≡ old.read
 
 loop_from : {S : Type 0} (old mid new : LineLoop S) (over : Option (Option LineStop)) (n k : ℕ) → IsKept old mid → n ≡ k
@@ -126,10 +157,17 @@ stops_from {S} old mid new why' (Err fault) kept h = (
       (loop_from old mid new (Some (Some (record { number = counted_on mid.read; why = why' }))) mid.read old.read kept kept.read h.1),
 )
 
+done_from : {S : Type 0} (old mid new : LineLoop S) (left : Bool) (text : List ℕ) (result : Result Bool LineFault) → IsKept old mid
+    → DoneBy mid new left text result → DoneBy old new left text result
+done_from old mid new true text result kept h = misses_from old mid new text (why.LeftOver new.report.used) result kept h
+done_from old mid new false text result kept h =
+    (h.0, h.1, loop_from old mid new None (counted_on mid.read) (counted_on old.read) kept (ap counted_on kept.read) h.2)
+
 pub judged_from : {S : Type 0} (old mid new : LineLoop S) (s : Status) (text : List ℕ) (result : Result Bool LineFault) → IsKept old mid
     → Judged mid new s text result → Judged old new s text result
-judged_from old mid new status.Done text result kept h =
-    (h.0, h.1, loop_from old mid new None (counted_on mid.read) (counted_on old.read) kept (ap counted_on kept.read) h.2)
+judged_from {S} old mid new status.Done text result kept h =
+    subst (λ (w : Match). DoneBy old new (leaves w status.Done new.report.used (length text)) text result) kept.matching
+    (done_from old mid new (leaves mid.matching status.Done new.report.used (length text)) text result kept h)
 judged_from old mid new status.NoMemory text result kept h = stops_from old mid new why.NoMemory result kept h
 judged_from old mid new status.InputFailure text result kept h = misses_from old mid new text _ result kept h
 judged_from old mid new status.MatchingFailure text result kept h = misses_from old mid new text _ result kept h
@@ -152,12 +190,14 @@ comes_of_line {S} old mid new result kept scanned judged = (
 -- of a loop that is known by another name
 pub next_by : {S : Type 0} (to_come : S → Option (List ℕ)) (count failures : S → ℕ) (N : ℕ) (was old new : LineLoop S) (ahead : Ahead S)
     (text : List ℕ) (read : LineRead) (result : Result Bool LineFault) → was ≡ old → new.ahead ≡ ahead
-    → Reads to_come was.ahead ahead was.limit text read → UsesLine to_come count N was.ahead ahead was.limit text read
+    → new.matching ≡ was.matching → Reads to_come was.ahead ahead was.limit text read → UsesLine to_come count N was.ahead ahead
+    was.limit text read
     → failures ahead.source ≡ (if is_failed read then counted_on (failures was.ahead.source) else failures was.ahead.source)
     → (read ≡ NoRoom → Outgrows to_come was.ahead was.limit was.room) → (result ≡ Ok true → was.room ≤ new.room)
     → (result ≡ Ok true → length new.line ≤ new.room)
     → (was.over ≡ None → Comes was new read text result) → old.over ≡ None → IsNextLine to_come count failures N old new result
-next_by {S} to_come count failures N was old new ahead text read result same is reading waited failed refused kept roomy comes open' =
+next_by {S} to_come count failures N was old new ahead text read result same is matching reading waited failed refused kept roomy comes
+    open' =
     subst (λ (l : LineLoop S). IsNextLine to_come count failures N l new result) same (record {
       read = read;
       text = text;
@@ -165,6 +205,7 @@ next_by {S} to_come count failures N was old new ahead text read result same is 
       waited = subst (λ (a : Ahead S). UsesLine to_come count N was.ahead a was.limit text read) (sym is) waited;
       failed = ap (λ (a : Ahead S). failures a.source) is ∙ failed;
       comes = comes (ap (λ (l : LineLoop S). l.over) same ∙ open');
+      matching = matching;
       refused = refused;
       kept = kept;
       roomy = roomy;

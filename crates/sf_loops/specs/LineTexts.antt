@@ -29,6 +29,7 @@ shown bytes = 34 ∷ flat_map shown_byte bytes ++ 34 ∷ []
 
 abbrev pub line_why_text : LineWhy → List ℕ
 line_why_text (why.Failed outcome) = outcome_text outcome
+line_why_text (why.LeftOver at) = codes "left over at " ++ decimal at
 line_why_text why.TooLong = codes "too long"
 line_why_text why.Read = codes "read fault"
 line_why_text why.Endless = codes "endless"
@@ -37,6 +38,7 @@ line_why_text why.NoMemory = codes "out of memory"
 -- the loop goes on after it, and the text of the line is shown
 abbrev pub goes_on : LineWhy → Bool
 goes_on (why.Failed outcome) = true
+goes_on (why.LeftOver at) = true
 goes_on why.TooLong = true
 goes_on _ = false
 

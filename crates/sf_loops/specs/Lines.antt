@@ -16,6 +16,8 @@ use Rattle.sf_read.specs.source.Counts.{counted_on}
 use Rattle.sf_read.specs.declared.line.line.LineRead.{LineRead}
 use Rattle.sf_read.specs.declared.line.line.LineRead.TheVariants as reads
 use Rattle.sf_read.specs.declared.line.line.LineRead.TheVariants.{NoMemory as NoRoom}
+use Rattle.sf_read.specs.declared.matching.Match.{Match}
+use Rattle.sf_read.specs.Matches.{leaves}
 use Rattle.sf_read.specs.line.Reading.{Outgrows, Reads, UsesLine, is_failed}
 use Rattle.sf_loops.specs.declared.line_fault.LineFault.{LineFault}
 use Rattle.sf_loops.specs.declared.line_fault.LineStop.{LineStop}
@@ -23,12 +25,14 @@ use Rattle.sf_loops.specs.declared.line_fault.LineWhy.{LineWhy}
 use Rattle.sf_loops.specs.declared.line_fault.LineWhy.TheVariants as why
 use Rattle.sf_loops.specs.Turns.{outcome_of}
 
--- What is held and to come, the format, the limit of each line and of each run, how many lines were read, the last of them, how many bytes
--- of a line there is room for, the report of the last run, and how the loop has ended, where it has: cleanly, or by a fault.
+-- What is held and to come, the format, the limit of each line and of each run, how much of a line a match has to use, how many lines were
+-- read, the last of them, how many bytes of a line there is room for, the report of the last run, and how the loop has ended, where it has:
+-- cleanly, or by a fault.
 pub record LineLoop (S : Type 0) : Type 0 where
   pub ahead : Ahead S
   pub format : List Directive
   pub limit : ℕ
+  pub matching : Match
   pub read : ℕ
   pub line : List ℕ
   pub room : ℕ
@@ -65,9 +69,15 @@ Stops old new why (Err fault) = IsLineFault fault (counted_on old.read) [] why
     × IsLineLoop old new old.read (Some (Some (record { number = counted_on old.read; why = why })))
 Stops old new why (Ok _) = ⊥
 
+-- the run over the line is Done: the line has a report, unless some of it is left that a match has to use
+abbrev pub DoneBy : {S : Type 0} → LineLoop S → LineLoop S → Bool → List ℕ → Result Bool LineFault → Type 0
+DoneBy old new true text result = Misses old new text (why.LeftOver new.report.used) result
+DoneBy old new false text result = (result ≡ Ok true) × (new.line ≡ text) × IsLineLoop old new (counted_on old.read) None
+
 -- a line was read, and the run over it came to this
 abbrev pub Judged : {S : Type 0} → LineLoop S → LineLoop S → Status → List ℕ → Result Bool LineFault → Type 0
-Judged old new status.Done text result = (result ≡ Ok true) × (new.line ≡ text) × IsLineLoop old new (counted_on old.read) None
+Judged old new status.Done text result =
+    DoneBy old new (leaves old.matching status.Done new.report.used (length text)) text result
 Judged old new status.NoMemory text result = Stops old new why.NoMemory result
 Judged old new _ text result = Misses old new text (why.Failed (outcome_of new.report)) result
 
@@ -96,6 +106,7 @@ pub record IsNextLine {S : Type 0} (to_come : S → Option (List ℕ)) (reads fa
   pub failed : failures new.ahead.source
       ≡ (if is_failed read then counted_on (failures old.ahead.source) else failures old.ahead.source)
   pub comes : Comes old new read text result
+  pub matching : new.matching ≡ old.matching
   -- memory for the line is refused only where there is no room for it
   pub refused : read ≡ NoRoom → Outgrows to_come old.ahead old.limit old.room
   -- the room of a line that has a report stays for the next one

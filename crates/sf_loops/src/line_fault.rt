@@ -9,6 +9,11 @@ use std::fmt;
 pub enum LineWhy {
     /// The run over the line was no match. The loop goes on with the next line.
     Failed(Outcome),
+    /// The run is Done and leaves bytes of a line that it had to use whole. The loop goes on with the next line.
+    LeftOver {
+        /// How many bytes the run used.
+        at: u32,
+    },
     /// The line has more bytes than the limit. The loop goes on with the next line.
     TooLong,
     /// A read failed within the line.
@@ -41,12 +46,15 @@ impl LineWhy {
     ghost use Rattle.std.specs.Prelude.{◌≡◌};
     ghost use Rattle.sf_loops.specs.LineTexts.{goes_on};
 
-    /// Whether the loop goes on with the next line: the line is no match, or is too long. After any other fault it
-    /// answers that fault again.
+    /// Whether the loop goes on with the next line: the line is no match, has bytes left over, or is too long. After
+    /// any other fault it answers that fault again.
     pub fn goes_on(self) -> bool
         ensures { result ≡ goes_on self }
     {
-        matches!(self, LineWhy::Failed(_) | LineWhy::TooLong)
+        matches!(
+            self,
+            LineWhy::Failed(_) | LineWhy::LeftOver { .. } | LineWhy::TooLong
+        )
     }
 }
 
@@ -60,6 +68,7 @@ impl fmt::Display for LineWhy {
     fn fmt<W: fmt::Write>(&self, f: &mut fmt::Formatter<W>) -> fmt::Result {
         match *self {
             LineWhy::Failed(outcome) => write!(f, "{outcome}"),
+            LineWhy::LeftOver { at } => write!(f, "left over at {at}"),
             LineWhy::TooLong => write!(f, "too long"),
             LineWhy::Read => write!(f, "read fault"),
             LineWhy::Endless => write!(f, "endless"),

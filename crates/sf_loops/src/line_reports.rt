@@ -15,7 +15,7 @@ use crate::at_once::run_at_once;
 use crate::line_fault::{LineFault, LineStop, LineWhy};
 use sf_base::HeapStore;
 use sf_format::ScanFormat;
-use sf_read::{LineRead, Lookahead, Source, next_line, sscan_over};
+use sf_read::{LineRead, Lookahead, Match, Source, next_line, sscan_over};
 use sf_run::{MOST_BYTES, Outcome, Report, StartFault, Status};
 use std::alloc::Global;
 use std::marker::Model;
@@ -25,15 +25,17 @@ use std::mem::replace;
 /// and sscanf (C11 7.21.7.2, 7.21.6.7). A newline ends a line and is no part of it; the last line may lack it.
 ///
 /// A line that is no match, or has more bytes than the limit, is reported as a fault, and the loop goes on with the
-/// next line. `N` is how many bytes are read at once, at least 1. Nothing is read while a whole line is held, nor once
-/// the source has reported its end. The memory of a line and of its values is used again for the next one: a line that
-/// is no longer than one before it needs no more, unless a line that fails came between them, which takes its text.
+/// next line. A match uses the front of a line, or by `matching` the whole of it. `N` is how many bytes are read at
+/// once, at least 1. Nothing is read while a whole line is held, nor once the source has reported its end. The memory
+/// of a line and of its values is used again for the next one: a line that is no longer than one before it needs no
+/// more, unless a line that fails came between them, which takes its text.
 #[derive(Drop)]
 pub struct LineReports<'f, S: Source, const N: usize> {
     alloc: Global,
     from: Lookahead<S, N>,
     format: &'f ScanFormat,
     limit: u32,
+    matching: Match,
     line: Vec<u8>,
     store: Option<HeapStore>,
     outcome: Outcome,
@@ -55,6 +57,7 @@ impl<'f, S: Source, const N: usize> Model for LineReports<'f, S, N> {
       ahead = r.from;
       format = r.format.now;
       limit = r.limit;
+      matching = r.matching;
       read = r.read;
       line = r.line.items;
       room = vec_capacity r.line;
@@ -69,7 +72,7 @@ impl<'f, S: Source, const N: usize> Model for LineReports<'f, S, N> {
 }
 
 impl<'f, S: Source, const N: usize> LineReports<'f, S, N> {
-    /// The loop before the first line. Each line has at most `limit` bytes.
+    /// The loop before the first line. Each line has at most `limit` bytes. A match uses the front of a line.
     ///
     /// Refuses a limit above 2147483647 with BadLimit, and answers NoMemory where memory was refused.
     pub fn new(
@@ -83,6 +86,24 @@ impl<'f, S: Source, const N: usize> LineReports<'f, S, N> {
         ensures source { IfOk result (λ r. r.ahead.source ≡ source) }
         ensures fresh { IfOk result (λ r. r.ahead.at_end ≡ false) }
         ensures format { IfOk result (λ r. (r.format ≡ format.entry.now) × (r.limit ≡ limit)) }
+        ensures matching { IfOk result (λ r. r.matching ≡ Match.Front) }
+        ensures none_yet { IfOk result (λ r. (r.read ≡ 0) × (r.line ≡ []) × (r.over ≡ None)) }
+        ensures limit { IsErrOf result StartFault.BadLimit ↔ (2147483647 < limit) }
+        ensures memory { IfErr result (λ fault. (fault ≡ StartFault.BadLimit) ⊎ (fault ≡ StartFault.NoMemory)) }
+    {
+        LineReports::over(alloc, Lookahead::new(source), format, limit)
+    }
+
+    /// As `new`, over bytes that were read ahead already, as after a header line.
+    pub fn over(
+        alloc: Global,
+        from: Lookahead<S, N>,
+        format: &'f ScanFormat,
+        limit: u32,
+    ) -> Result<Self, StartFault>
+        ensures ahead { IfOk result (λ r. r.ahead ≡ from) }
+        ensures format { IfOk result (λ r. (r.format ≡ format.entry.now) × (r.limit ≡ limit)) }
+        ensures matching { IfOk result (λ r. r.matching ≡ Match.Front) }
         ensures none_yet { IfOk result (λ r. (r.read ≡ 0) × (r.line ≡ []) × (r.over ≡ None)) }
         ensures limit { IsErrOf result StartFault.BadLimit ↔ (2147483647 < limit) }
         ensures memory { IfErr result (λ fault. (fault ≡ StartFault.BadLimit) ⊎ (fault ≡ StartFault.NoMemory)) }
@@ -95,9 +116,10 @@ impl<'f, S: Source, const N: usize> LineReports<'f, S, N> {
         };
         Ok(LineReports {
             alloc,
-            from: Lookahead::new(source),
+            from,
             format,
             limit,
+            matching: Match::Front,
             line: Vec::new(alloc),
             store: Some(store),
             outcome: Outcome {
@@ -111,6 +133,23 @@ impl<'f, S: Source, const N: usize> LineReports<'f, S, N> {
             read: 0,
             over: None,
         })
+    }
+
+    /// The same loop, in which a match uses so much of a line. By `Match::Whole` a line is a fault where the format
+    /// leaves bytes of it.
+    pub fn matching(mut self, matching: Match) -> Self
+        ensures { result ≡ record self.entry { matching = matching } }
+    {
+        self.matching = matching;
+        self
+    }
+
+    /// What was read ahead and the source, given back, wherever the loop stands.
+    pub fn into_lookahead(self) -> Lookahead<S, N>
+        ensures { result ≡ self.entry.ahead }
+    {
+        let LineReports { from, .. } = self;
+        from
     }
 
     /// Runs the format over the line that was read, where that is seen at once to be Done. It answers wherever the line
@@ -217,8 +256,12 @@ impl<'f, S: Source, const N: usize> LineReports<'f, S, N> {
         ensures kept { result ≡ Ok true → self.old.room ≤ self.new.room }
         ensures roomy { result ≡ Ok true → length self.new.line ≤ self.new.room }
         ensures format { self.new.format ≡ self.old.format }
+        ensures matching { self.new.matching ≡ self.old.matching }
     {
         let outcome = self.scan();
+        if self.matching.leaves(outcome, self.line.len()) {
+            return Err(self.miss(LineWhy::LeftOver { at: outcome.used }));
+        }
         match outcome.status {
             Status::Done => {
                 self.read = self.read.saturating_add(1);
@@ -231,8 +274,9 @@ impl<'f, S: Source, const N: usize> LineReports<'f, S, N> {
 
     /// Goes on to the next line, and says whether there is one: `report` has its report then, and `line` its text.
     ///
-    /// A line that is no match, or is too long, is a fault with the text of the line; the call after it goes on with
-    /// the next line. After the end of the input, and after any other fault, it answers the same again.
+    /// A line that is no match, has bytes left over, or is too long, is a fault with the text of the line; the call
+    /// after it goes on with the next line. After the end of the input, and after any other fault, it answers the same
+    /// again.
     pub fn advance(&mut self) -> Result<bool, LineFault>
         ensures over { (end : Option LineStop) → self.old.over ≡ Some end → (self.new ≡ self.old)
             × LineEndedWith false end result }

@@ -82,6 +82,22 @@ impl<'f, S: Source, const N: usize> Reports<'f, S, N> {
         ensures limit { IsErrOf result StartFault.BadLimit ↔ (2147483647 < limit) }
         ensures memory { IfErr result (λ fault. (fault ≡ StartFault.BadLimit) ⊎ (fault ≡ StartFault.NoMemory)) }
     {
+        Reports::over(alloc, Lookahead::new(source), format, limit)
+    }
+
+    /// As `new`, over bytes that were read ahead already, as after a header line.
+    pub fn over(
+        alloc: Global,
+        from: Lookahead<S, N>,
+        format: &'f ScanFormat,
+        limit: u32,
+    ) -> Result<Self, StartFault>
+        ensures ahead { IfOk result (λ r. r.ahead ≡ from) }
+        ensures format { IfOk result (λ r. (r.format ≡ format.entry.now) × (r.limit ≡ limit)) }
+        ensures none_yet { IfOk result (λ r. (r.answered ≡ 0) × (r.lines ≡ 0) × (r.over ≡ None)) }
+        ensures limit { IsErrOf result StartFault.BadLimit ↔ (2147483647 < limit) }
+        ensures memory { IfErr result (λ fault. (fault ≡ StartFault.BadLimit) ⊎ (fault ≡ StartFault.NoMemory)) }
+    {
         if limit > MOST_BYTES {
             return Err(StartFault::BadLimit);
         }
@@ -90,7 +106,7 @@ impl<'f, S: Source, const N: usize> Reports<'f, S, N> {
         };
         Ok(Reports {
             alloc,
-            from: Lookahead::new(source),
+            from,
             format,
             limit,
             store: Some(store),
@@ -106,6 +122,14 @@ impl<'f, S: Source, const N: usize> Reports<'f, S, N> {
             lines: 0,
             over: None,
         })
+    }
+
+    /// What was read ahead and the source, given back, wherever the loop stands: what the last run left comes next.
+    pub fn into_lookahead(self) -> Lookahead<S, N>
+        ensures { result ≡ self.entry.ahead }
+    {
+        let Reports { from, .. } = self;
+        from
     }
 
     /// Goes on to the next record wherever that is held whole and is Done, as most are, and its texts are no longer

@@ -1,6 +1,7 @@
 //! The first answers of loops, as a caller sees them by the laws.
 ghost use Rattle.std.specs.Prelude.{◌≡◌, ◌++◌, ℕ, List, [], ◌∷◌, IfSome, Ok};
 ghost use Rattle.sf_read.specs.field.Rows.{slots_by};
+ghost use Rattle.sf_read.specs.declared.matching.Match.TheVariants.{Front};
 ghost use Rattle.sf_read.specs.line.Cut.{lines_of};
 ghost use Rattle.sf_loops.specs.Laws.{AreRecords};
 ghost use Rattle.sf_loops.specs.LineLaws.{AreAnswersOf};
@@ -39,7 +40,7 @@ pub fn two_records<T: Row + Drop>(alloc: Global, text: &[u8], format: &ScanForma
 pub fn two_lines<T: Row + Drop>(alloc: Global, text: &[u8], format: &ScanFormat) -> Option<(T, T)>
     ensures { IfSome result (λ rows. (lines : List (List ℕ)) × (left : List ℕ)
         × (lines_of text.now ≡ lines ++ lines_of left)
-        × AreAnswersOf T.kinds (slots_by T.given T.listed) format.now 1000 0 lines (Ok rows.0 ∷ Ok rows.1 ∷ [])) }
+        × AreAnswersOf T.kinds (slots_by T.given T.listed) format.now 1000 Front 0 lines (Ok rows.0 ∷ Ok rows.1 ∷ [])) }
 {
     answers_are_lines::<T, SliceSource<'_>, 64>();
     let Ok(mut lines) = Lines::<T, _, 64>::new(alloc, SliceSource::new(text), format, LIMIT) else {
@@ -57,7 +58,7 @@ pub fn two_lines<T: Row + Drop>(alloc: Global, text: &[u8], format: &ScanFormat)
 /// The row of the one line that a text has. None where it has another number of lines, where the line doesn't match, or
 /// where memory was refused.
 pub fn only_line<T: Row + Drop>(alloc: Global, text: &[u8], format: &ScanFormat) -> Option<T>
-    ensures { IfSome result (λ row. AreAnswersOf T.kinds (slots_by T.given T.listed) format.now 1000 0
+    ensures { IfSome result (λ row. AreAnswersOf T.kinds (slots_by T.given T.listed) format.now 1000 Front 0
         (lines_of text.now) (Ok row ∷ [])) }
 {
     none_is_the_end::<T, SliceSource<'_>, 64>();

@@ -10,7 +10,11 @@ mod lines;
 #[cfg(test)]
 mod missing;
 #[cfg(test)]
+mod over;
+#[cfg(test)]
 mod pairs;
+#[cfg(test)]
+mod reasons;
 #[cfg(test)]
 mod records;
 

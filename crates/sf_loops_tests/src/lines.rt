@@ -1,5 +1,7 @@
 //! Loops over lines.
-use crate::answers::{BLOCKS, LIMIT, is, newlines_of, said};
+ghost use Rattle.std.specs.Prelude.{◌≤◌};
+
+use crate::answers::{LIMIT, is, is_item, newlines_of, said};
 use sf_base::Value;
 use sf_format::{Profile, ScanFormat};
 use sf_loops::{LineReports, Lines};
@@ -47,64 +49,54 @@ fn answers<const N: usize>(
     Ok(())
 }
 
-/// The loop over the script, in blocks of so many bytes, answers so.
-fn in_blocks_of(
+/// The loop over the script, in blocks of N bytes, answers so.
+fn in_blocks<const N: usize>(
     alloc: Global,
-    block: usize,
+    format: &ScanFormat,
+    steps: &[ReadStep<'_>],
+    count: usize,
+    last: &str,
+) -> Result<(), Fail>
+    requires few { N ≤ 4096 }
+    requires some { 1 ≤ N }
+{
+    let mut lines = Lines::new(alloc, ScriptSource::new(steps), format, LIMIT)?;
+    answers::<N>(alloc, &mut lines, count, last)
+}
+
+/// The loop over the script, in blocks of each length, answers so.
+fn in_all_blocks(
+    alloc: Global,
+    format: &ScanFormat,
     steps: &[ReadStep<'_>],
     count: usize,
     last: &str,
 ) -> Result<(), Fail> {
-    let format = ScanFormat::parse(alloc, Profile::One, b"%d,%d")?;
-    let source = ScriptSource::new(steps);
-    match block {
-        1 => answers::<1>(
-            alloc,
-            &mut Lines::new(alloc, source, &format, LIMIT)?,
-            count,
-            last,
-        ),
-        2 => answers::<2>(
-            alloc,
-            &mut Lines::new(alloc, source, &format, LIMIT)?,
-            count,
-            last,
-        ),
-        3 => answers::<3>(
-            alloc,
-            &mut Lines::new(alloc, source, &format, LIMIT)?,
-            count,
-            last,
-        ),
-        7 => answers::<7>(
-            alloc,
-            &mut Lines::new(alloc, source, &format, LIMIT)?,
-            count,
-            last,
-        ),
-        _ => answers::<4096>(
-            alloc,
-            &mut Lines::new(alloc, source, &format, LIMIT)?,
-            count,
-            last,
-        ),
-    }
+    in_blocks::<1>(alloc, format, steps, count, last)?;
+    in_blocks::<2>(alloc, format, steps, count, last)?;
+    in_blocks::<3>(alloc, format, steps, count, last)?;
+    in_blocks::<7>(alloc, format, steps, count, last)?;
+    in_blocks::<4096>(alloc, format, steps, count, last)
+}
+
+/// The lines of TEXT, with a read that fails after so many of its bytes.
+fn with_failure(alloc: Global, format: &ScanFormat, cut: usize) -> Result<(), Fail> {
+    let (front, rest) = TEXT.split_at(cut.min(TEXT.len()));
+    let newlines = newlines_of(front);
+    let Some(fault) = FAULTS.get(newlines) else {
+        return Err(Fail::new("too many newlines"));
+    };
+    let steps = [ReadStep::Give(front), ReadStep::Fail, ReadStep::Give(rest)];
+    in_all_blocks(alloc, format, &steps, newlines, fault)
 }
 
 /// The lines of TEXT, whole, and with a read that fails after each of its bytes.
 #[test]
 fn lines_in_blocks(rt: HostRuntime) -> Result<(), Fail> {
-    for block in BLOCKS {
-        in_blocks_of(rt.alloc(), block, &[ReadStep::Give(TEXT)], 7, "end")?;
-        for cut in 0..=TEXT.len() {
-            let (front, rest) = TEXT.split_at(cut);
-            let newlines = newlines_of(front);
-            let Some(fault) = FAULTS.get(newlines) else {
-                return Err(Fail::new("too many newlines"));
-            };
-            let steps = [ReadStep::Give(front), ReadStep::Fail, ReadStep::Give(rest)];
-            in_blocks_of(rt.alloc(), block, &steps, newlines, fault)?;
-        }
+    let format = ScanFormat::parse(rt.alloc(), Profile::One, b"%d,%d")?;
+    in_all_blocks(rt.alloc(), &format, &[ReadStep::Give(TEXT)], 7, "end")?;
+    for cut in 0..=TEXT.len() {
+        with_failure(rt.alloc(), &format, cut)?;
     }
     Ok(())
 }
@@ -144,17 +136,10 @@ fn lines_in_a_for(rt: HostRuntime) -> Result<(), Fail> {
     ];
     let source = ScriptSource::new(&steps);
     let lines = Lines::<(i32, i32), _, 3>::new(rt.alloc(), source, &format, LIMIT)?;
-    let mut place = 0;
+    let mut place = 0usize;
     for item in lines {
-        let Some(wanted) = ITEMS.get(place) else {
-            return Err(Fail::new("too many items"));
-        };
-        let answer = match item {
-            Ok(row) => Ok(Some(row)),
-            Err(fault) => Err(fault),
-        };
-        is(&said(rt.alloc(), &answer)?, wanted, place)?;
-        place += 1;
+        is_item(rt.alloc(), &item, &ITEMS, place)?;
+        place = place.saturating_add(1);
     }
     assert_eq!(rt; place, ITEMS.len());
     Ok(())

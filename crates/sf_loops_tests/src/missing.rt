@@ -1,8 +1,8 @@
 //! Loops over rows some of whose values are missing.
-use crate::answers::is;
+use crate::answers::{fault_said, is};
 use sf_format::{Profile, ScanFormat};
 use sf_loops::{Lines, Records};
-use sf_read::{ScanRowFault, SliceSource};
+use sf_read::{ScanRowFault, ShapeFault, SliceSource};
 use std::alloc::Global;
 use std::fmt::Display;
 use std::test::Fail;
@@ -13,28 +13,23 @@ const LIMIT: u32 = 12;
 /// Two numbers, each of which may be missing.
 type Gaps = (Option<i32>, Option<i32>);
 
-/// A number as text, and `-` for none.
-fn number_said(alloc: Global, number: Option<i32>) -> Result<String, Fail> {
-    Ok(match number {
-        Some(number) => format!(in alloc; "{number}")?,
-        None => format!(in alloc; "-")?,
-    })
-}
-
-/// An answer of a loop as text: `1 -`, `end`, or the fault.
+/// An answer of a loop as text: `Some(1) None`, `end`, or the fault.
 fn said<E: Display>(alloc: Global, answer: &Result<Option<Gaps>, E>) -> Result<String, Fail> {
-    Ok(match answer {
-        Ok(Some((left, right))) => {
-            let left = number_said(alloc, *left)?;
-            let right = number_said(alloc, *right)?;
-            format!(in alloc; "{left} {right}")?
-        }
-        Ok(None) => format!(in alloc; "end")?,
-        Err(fault) => format!(in alloc; "{fault}")?,
-    })
+    match answer {
+        Ok(Some((left, right))) => Ok(format!(in alloc; "{left:?} {right:?}")?),
+        Ok(None) => Ok(format!(in alloc; "end")?),
+        Err(fault) => fault_said(alloc, fault),
+    }
 }
 
-static RECORDS: [&str; 6] = ["1 2", "- 4", "5 -", "- -", "end", "end"];
+static RECORDS: [&str; 6] = [
+    "Some(1) Some(2)",
+    "None Some(4)",
+    "Some(5) None",
+    "None None",
+    "end",
+    "end",
+];
 
 /// The answers of a loop over records, one after the other.
 fn records_in<const N: usize>(
@@ -71,12 +66,12 @@ fn records_with_gaps(rt: HostRuntime) -> Result<(), Fail> {
 }
 
 static LINES: [&str; 7] = [
-    "1 2",
-    "- 4",
-    "5 -",
-    "- -",
+    "Some(1) Some(2)",
+    "None Some(4)",
+    "Some(5) None",
+    "None None",
     "line 5: input failure at 2, used 1, assigned 1: \"7\"",
-    "- -8",
+    "None Some(-8)",
     "end",
 ];
 
@@ -117,12 +112,13 @@ fn lines_with_gaps(rt: HostRuntime) -> Result<(), Fail> {
 #[test]
 fn rows_without_gaps(rt: HostRuntime) -> Result<(), Fail> {
     let format = ScanFormat::parse(rt.alloc(), Profile::Three, b"%?d,%?d")?;
-    let differs = Some(ScanRowFault::ShapeDiffers);
+    let first = Some(ScanRowFault::ShapeDiffers(ShapeFault::Missing { slot: 1 }));
+    let second = Some(ScanRowFault::ShapeDiffers(ShapeFault::Missing { slot: 2 }));
     let source = SliceSource::new(b"1,2");
     let records = Records::<(i32, Option<i32>), _, 3>::new(rt.alloc(), source, &format, LIMIT);
-    assert_eq!(rt; records.err(), differs);
+    assert_eq!(rt; records.err(), first);
     let source = SliceSource::new(b"1,2");
     let lines = Lines::<(Option<i32>, i32), _, 3>::new(rt.alloc(), source, &format, LIMIT);
-    assert_eq!(rt; lines.err(), differs);
+    assert_eq!(rt; lines.err(), second);
     Ok(())
 }

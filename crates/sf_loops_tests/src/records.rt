@@ -1,5 +1,7 @@
 //! Loops over records.
-use crate::answers::{BLOCKS, LIMIT, is, said};
+ghost use Rattle.std.specs.Prelude.{◌≤◌};
+
+use crate::answers::{LIMIT, fault_said, is, is_item, said};
 use sf_base::Value;
 use sf_format::{Profile, ScanFormat};
 use sf_loops::{RecordFault, RecordWhy, Records, Reports};
@@ -47,62 +49,80 @@ fn answers<const N: usize>(
     Ok(())
 }
 
-/// The loop over the script, in blocks of so many bytes, answers so.
-fn in_blocks_of(
+/// The loop over the script, in blocks of N bytes, answers so.
+fn in_blocks<const N: usize>(
     alloc: Global,
-    block: usize,
+    format: &ScanFormat,
+    steps: &[ReadStep<'_>],
+    rows: usize,
+    last: &str,
+) -> Result<(), Fail>
+    requires few { N ≤ 4096 }
+    requires some { 1 ≤ N }
+{
+    let mut records = Records::new(alloc, ScriptSource::new(steps), format, LIMIT)?;
+    answers::<N>(alloc, &mut records, rows, last)
+}
+
+/// The loop over the script, in blocks of each length, answers so.
+fn in_all_blocks(
+    alloc: Global,
+    format: &ScanFormat,
     steps: &[ReadStep<'_>],
     rows: usize,
     last: &str,
 ) -> Result<(), Fail> {
-    let format = ScanFormat::parse(alloc, Profile::One, b"%d ,%d")?;
-    let source = ScriptSource::new(steps);
-    match block {
-        1 => answers::<1>(
-            alloc,
-            &mut Records::new(alloc, source, &format, LIMIT)?,
-            rows,
-            last,
-        ),
-        2 => answers::<2>(
-            alloc,
-            &mut Records::new(alloc, source, &format, LIMIT)?,
-            rows,
-            last,
-        ),
-        3 => answers::<3>(
-            alloc,
-            &mut Records::new(alloc, source, &format, LIMIT)?,
-            rows,
-            last,
-        ),
-        7 => answers::<7>(
-            alloc,
-            &mut Records::new(alloc, source, &format, LIMIT)?,
-            rows,
-            last,
-        ),
-        _ => answers::<4096>(
-            alloc,
-            &mut Records::new(alloc, source, &format, LIMIT)?,
-            rows,
-            last,
-        ),
-    }
+    in_blocks::<1>(alloc, format, steps, rows, last)?;
+    in_blocks::<2>(alloc, format, steps, rows, last)?;
+    in_blocks::<3>(alloc, format, steps, rows, last)?;
+    in_blocks::<7>(alloc, format, steps, rows, last)?;
+    in_blocks::<4096>(alloc, format, steps, rows, last)
+}
+
+/// The rows of TEXT, with a read that fails after so many of its bytes.
+fn with_failure(
+    alloc: Global,
+    format: &ScanFormat,
+    cut: usize,
+    rows: usize,
+    fault: &str,
+) -> Result<(), Fail> {
+    let (front, rest) = TEXT.split_at(cut.min(TEXT.len()));
+    let steps = [ReadStep::Give(front), ReadStep::Fail, ReadStep::Give(rest)];
+    in_all_blocks(alloc, format, &steps, rows, fault)
 }
 
 /// The rows of TEXT, whole, and with a read that fails after each of its bytes.
 #[test]
 fn rows_in_blocks(rt: HostRuntime) -> Result<(), Fail> {
-    for block in BLOCKS {
-        in_blocks_of(rt.alloc(), block, &[ReadStep::Give(TEXT)], 3, "end")?;
-        for (cut, &(rows, fault)) in CUTS.iter().enumerate() {
-            let (front, rest) = TEXT.split_at(cut.min(TEXT.len()));
-            let steps = [ReadStep::Give(front), ReadStep::Fail, ReadStep::Give(rest)];
-            in_blocks_of(rt.alloc(), block, &steps, rows, fault)?;
-        }
+    let format = ScanFormat::parse(rt.alloc(), Profile::One, b"%d ,%d")?;
+    in_all_blocks(rt.alloc(), &format, &[ReadStep::Give(TEXT)], 3, "end")?;
+    for (cut, &(rows, fault)) in CUTS.iter().enumerate() {
+        with_failure(rt.alloc(), &format, cut, rows, fault)?;
     }
     Ok(())
+}
+
+/// Records of a name and a number.
+type Named<'f, 'a> = Records<'f, (Vec<u8>, i32), SliceSource<'a>, 4>;
+
+/// The next record is one apple.
+fn is_an_apple(records: &mut Named<'_, '_>) -> Result<(), Fail> {
+    let Some((name, number)) = records.next()? else {
+        return Err(Fail::new("no record"));
+    };
+    if number == 1 && name.as_slice() == b"apples".as_slice() {
+        return Ok(());
+    }
+    Err(Fail::new("another record"))
+}
+
+/// The next answer is a fault that says this.
+fn is_fault(alloc: Global, records: &mut Named<'_, '_>, wanted: &str) -> Result<(), Fail> {
+    match records.next() {
+        Ok(_) => Err(Fail::new("no fault")),
+        Err(fault) => is(&fault_said(alloc, &fault)?, wanted, 2),
+    }
 }
 
 /// Where a record is no match, its number, its line and the run's outcome are reported, again and again.
@@ -110,37 +130,38 @@ fn rows_in_blocks(rt: HostRuntime) -> Result<(), Fail> {
 fn faults_are_told(rt: HostRuntime) -> Result<(), Fail> {
     let format = ScanFormat::parse(rt.alloc(), Profile::One, b" %[^=]=%d")?;
     let source = SliceSource::new(b"apples=1\npears=x\n");
-    let mut records = Records::<(Vec<u8>, i32), _, 4>::new(rt.alloc(), source, &format, LIMIT)?;
-    let Some((name, number)) = records.next()? else {
-        return Err(Fail::new("no record"));
-    };
-    assert_eq!(rt; name.as_slice(), b"apples".as_slice());
-    assert_eq!(rt; number, 1);
-    for place in 0..2u8 {
-        let Err(fault) = records.next() else {
-            return Err(Fail::new("no fault"));
-        };
-        let text = format!(in rt.alloc(); "{fault}")?;
-        is(
-            &text,
-            "record 2, line 2: matching failure at 4, used 7, assigned 1",
-            usize::from(place),
-        )?;
-    }
+    let mut records = Named::new(rt.alloc(), source, &format, LIMIT)?;
+    is_an_apple(&mut records)?;
+    let wanted = "record 2, line 2: matching failure at 4, used 7, assigned 1";
+    is_fault(rt.alloc(), &mut records, wanted)?;
+    is_fault(rt.alloc(), &mut records, wanted)?;
     assert_eq!(rt; records.records(), 1);
     Ok(())
 }
 
-/// Reports are lent, and a run that uses no byte stalls.
+/// Whether there is a next report, of this text.
+fn reports(reports: &mut Reports<'_, SliceSource<'_>, 2>, text: &[u8]) -> bool {
+    match reports.advance() {
+        Ok(true) => reports.report().value(1) == Some(Value::Text(text)),
+        _ => false,
+    }
+}
+
+/// Reports are lent.
 #[test]
 fn reports_are_lent(rt: HostRuntime) -> Result<(), Fail> {
     let format = ScanFormat::parse(rt.alloc(), Profile::One, b"%*[ ]%3s")?;
     let source = SliceSource::new(b" abcdef");
-    let mut reports = Reports::<_, 2>::new(rt.alloc(), source, &format, LIMIT)?;
-    assert!(rt; reports.advance()?);
-    assert_eq!(rt; reports.report().value(1), Some(Value::Text(b"abc")));
-    assert!(rt; reports.advance().is_err());
-    assert_eq!(rt; reports.records(), 1);
+    let mut lent = Reports::<_, 2>::new(rt.alloc(), source, &format, LIMIT)?;
+    assert!(rt; reports(&mut lent, b"abc"));
+    assert!(rt; lent.advance().is_err());
+    assert_eq!(rt; lent.records(), 1);
+    Ok(())
+}
+
+/// A run that uses no byte stalls.
+#[test]
+fn a_run_stalls(rt: HostRuntime) -> Result<(), Fail> {
     let format = ScanFormat::parse(rt.alloc(), Profile::One, b" ")?;
     let mut reports = Reports::<_, 2>::new(rt.alloc(), SliceSource::new(b"x"), &format, LIMIT)?;
     let fault = RecordFault {
@@ -165,17 +186,10 @@ fn records_in_a_for(rt: HostRuntime) -> Result<(), Fail> {
     let format = ScanFormat::parse(rt.alloc(), Profile::One, b"%d ,%d")?;
     let source = SliceSource::new(b"1,2\n3,4\nx");
     let records = Records::<(i32, i32), _, 3>::new(rt.alloc(), source, &format, LIMIT)?;
-    let mut place = 0;
+    let mut place = 0usize;
     for item in records {
-        let Some(wanted) = ITEMS.get(place) else {
-            return Err(Fail::new("too many items"));
-        };
-        let answer = match item {
-            Ok(row) => Ok(Some(row)),
-            Err(fault) => Err(fault),
-        };
-        is(&said(rt.alloc(), &answer)?, wanted, place)?;
-        place += 1;
+        is_item(rt.alloc(), &item, &ITEMS, place)?;
+        place = place.saturating_add(1);
     }
     assert_eq!(rt; place, ITEMS.len());
     Ok(())

@@ -1,12 +1,16 @@
 -- Mistakes that an input and a format show.
 use Rattle.std.specs.Prelude.{ℕ, ◌-◌, ◌&&◌, ◌||◌, nat_eq, Bool, true, false, not, List, [], ◌∷◌, Option, Some, None, is_some, slice_get}
-use Rattle.std.specs.Prelude.{if◌then◌else◌}
+use Rattle.std.specs.Prelude.{if◌then◌else◌, nat_lt, unwrap_or}
 use Rattle.sf_base.specs.Sets.{has_byte}
 use Rattle.sf_format.specs.declared.directive.Conversion.{Conversion}
 use Rattle.sf_format.specs.declared.directive.Directive.{Directive}
 use Rattle.sf_format.specs.declared.directive.Directive.TheVariants.{Byte, Conv}
 use Rattle.sf_format.specs.declared.directive.Shape.{Shape}
 use Rattle.sf_format.specs.declared.directive.Shape.TheVariants as shape
+use Rattle.sf_format.specs.declared.fault.FormatFault.{FormatFault}
+use Rattle.sf_format.specs.declared.fault.FormatWhy.{FormatWhy}
+use Rattle.sf_format.specs.declared.fault.FormatWhy.TheVariants.{Truncated, UnknownLetter}
+use Rattle.sf_messages.specs.Sentences.{is_digit}
 
 -- a byte order mark: U+FEFF in UTF-8
 abbrev pub begins_marked : List ℕ → Bool
@@ -53,3 +57,24 @@ byte_of_text _ _ = None
 -- the same at the directive with this number
 abbrev pub byte_after_text : List Directive → ℕ → Option ℕ
 byte_after_text ds number = byte_of_text (slice_get ds (number - 2)) (slice_get ds (number - 1))
+
+-- ---- a format between double quotes, of which a shell took `$d`: digits stand before the place, and no letter of a conversion at it
+
+-- a letter or `[`; or a byte that stands after a width elsewhere: `'` (39), `*` (42), `.` (46), `?` (63) and `_` (95)
+abbrev pub goes_on : ℕ → Bool
+goes_on b =
+    (nat_lt 64 b && nat_lt b 92)
+    || ((nat_lt 96 b && nat_lt b 123)
+    || (nat_eq b 39 || (nat_eq b 42 || (nat_eq b 46 || (nat_eq b 63 || nat_eq b 95)))))
+
+-- this byte stands before the place and that one at it, where the format doesn't end there
+abbrev pub is_cut_by : FormatWhy → ℕ → ℕ → Bool
+is_cut_by Truncated before b = is_digit before
+is_cut_by UnknownLetter before b = is_digit before && not (goes_on b)
+is_cut_by why before b = false
+
+abbrev pub byte_at : List ℕ → ℕ → ℕ
+byte_at text at = unwrap_or (slice_get text at) 0
+
+abbrev pub is_cut : List ℕ → FormatFault → Bool
+is_cut text fault = is_cut_by fault.why (byte_at text (fault.at - 1)) (byte_at text fault.at)

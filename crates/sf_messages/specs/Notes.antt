@@ -36,11 +36,12 @@ use Rattle.sf_format.specs.declared.unit.PrintLetter.{PrintLetter}
 use Rattle.sf_format.specs.declared.unit.PrintLetter.TheVariants.{Float}
 use Rattle.sf_forms.specs.declared.makers.printable.PrintMismatch.{PrintMismatch}
 use Rattle.sf_forms.specs.declared.makers.printable.PrintMismatch.TheVariants as mismatch
-use Rattle.sf_messages.specs.Mistakes.{begins_marked, begins_wide, byte_after_text, is_carriage, is_class}
+use Rattle.sf_messages.specs.Mistakes.{begins_marked, begins_wide, byte_after_text, is_carriage, is_class, is_cut}
 use Rattle.sf_messages.specs.Sentences.{byte_mark_sentence, carriage_sentence, class_sentence, printed_by_text, raw_sentence, read_by_text}
 use Rattle.sf_messages.specs.Sentences.{text_front, wanted_text, wide_text_sentence}
 use Rattle.sf_messages.specs.Sentences.{escape_sentence, left_white_sentence, lone_newline_sentence, newline_taken_sentence, no_value_text}
 use Rattle.sf_messages.specs.Sentences.{over_newline_sentence, pair_sentence, range_text, typed_escape, typed_text, values_text}
+use Rattle.sf_messages.specs.Sentences.{names_text, one_word_sentence, shell_sentence, stalled_sentence, width_option_text}
 use Rattle.sf_messages.specs.Sentences.{white_first_sentence, why_sentence}
 
 -- a line of its own
@@ -62,11 +63,16 @@ place_notes text at =
 abbrev pub escape_notes : List ℕ → ℕ → List ℕ
 escape_notes word at = note (typed_escape (drop (at + 1) word) ++ escape_sentence) ++ place_notes word at
 
+-- what helps where a shell took a part of a format
+abbrev pub shell_notes : List ℕ → FormatFault → List ℕ
+shell_notes text fault = if is_cut text fault then note shell_sentence else []
+
 -- a format that is refused, by its bytes
 abbrev pub format_notes : List ℕ → FormatFault → List ℕ
 format_notes text fault =
     let b = unwrap_or (slice_get text fault.at) 0 in
-    note (typed_text fault.why b ++ why_sentence fault.why b (drop (fault.at + 1) text)) ++ place_notes text fault.at
+    note (typed_text fault.why b ++ why_sentence fault.why b (drop (fault.at + 1) text))
+    ++ (place_notes text fault.at ++ shell_notes text fault)
 
 -- ---- values
 
@@ -148,6 +154,49 @@ pair_notes us ds told fault =
     note (pair_sentence fault.why ++ cure_of fault.why (faced ds us fault.at) (slice_get ds (fault.at - 1)))
     ++ (if nat_eq fault.at 0 then [] else scan_side ds fault.at told ++ print_side us (faced ds us fault.at))
 
+-- what to write where no scan format reads a print format back, by the units that are left at the fault
+abbrev pub alone_cure : PairWhy → List PrintUnit → List ℕ
+alone_cure why.NoWidth left = width_option_text
+alone_cure why.RunsOn (Conv c ∷ rest) = exception_text c
+alone_cure _ _ = []
+
+-- why that is so, and the unit at the fault: the format that was due has a directive for each unit
+abbrev pub alone_notes : List PrintUnit → PairFault → List ℕ
+alone_notes us fault =
+    note (pair_sentence fault.why ++ alone_cure fault.why (drop (fault.at - 1) us))
+    ++ ((if nat_eq fault.at 0 then [] else print_side us (drop (fault.at - 1) us)) ++ note one_word_sentence)
+
+-- ---- names
+
+-- letters with commas between them
+abbrev pub sample_names : List ℕ
+sample_names = codes "a,b,c,d,e,f,g,h,i,j,k,l,m,n,o,p,q,r,s,t,u,v,w,x,y,z,A,B,C,D,E,F"
+
+-- so many of them, which are all that a format can have
+abbrev pub names_sample : ℕ → List ℕ
+names_sample count = take (min (count + count - 1) 63) sample_names
+
+-- how many names there are, and how many values
+abbrev pub counted_names : ℕ → List ℕ
+counted_names count = decimal count ++ names_text count
+
+abbrev pub counted_values : ℕ → List ℕ
+counted_values count = decimal count ++ values_text count
+
+-- so many names are to be written, such as these
+abbrev pub named_cure : ℕ → List ℕ → List ℕ
+named_cure count sample = codes ": write " ++ (counted_names count ++ (codes ", as --names " ++ sample))
+
+-- which names to write for so many values
+abbrev pub names_cure : ℕ → List ℕ
+names_cure expected = if nat_eq expected 0 then codes ": leave --names out" else named_cure expected (names_sample expected)
+
+-- there are not as many names as a format gives values
+abbrev pub name_count_notes : ℕ → ℕ → List ℕ
+name_count_notes expected got =
+    note (codes "--names has " ++ (counted_names got ++ (codes ", and a format gives " ++ (counted_values expected
+    ++ names_cure expected))))
+
 -- ---- records
 
 -- the place in the input where the run stopped, where it is known
@@ -155,6 +204,10 @@ abbrev pub input_notes : Option Place → List ℕ
 input_notes None = []
 input_notes (Some place) =
     note (codes "at line " ++ (decimal place.line ++ (codes ", column " ++ (decimal place.column ++ codes " of the input"))))
+
+-- a record that took nothing
+abbrev pub stalled_notes : Option Place → List ℕ
+stalled_notes place = input_notes place ++ note stalled_sentence
 
 -- the first of some bytes, at most 24, after these words
 abbrev pub byte_notes : List ℕ → List ℕ → List ℕ

@@ -168,6 +168,27 @@ wanted_text kind.F32 = codes "-3.4028235e38 to 3.4028235e38"
 wanted_text kind.F64 = codes "-1.7976931348623157e308 to 1.7976931348623157e308"
 wanted_text kind = range_text kind
 
+-- what is done about a record that took nothing
+abbrev pub stalled_sentence : List ℕ
+stalled_sentence = codes "the format took no byte, so that the next record would begin where this one did"
+
+-- what is done about a format of which a shell took a part
+abbrev pub shell_sentence : List ℕ
+shell_sentence = codes "a shell takes $ and the letters after it out of double quotes: single quotes keep them"
+
+-- what is said of a print format that stands alone, after why nothing reads it back
+abbrev pub one_word_sentence : List ℕ
+one_word_sentence =
+    codes "of a print format alone, the scan format that reads it back is written: sf check PRINT SCAN judges two"
+
+-- which option makes up for a width that a text of a print format alone lacks
+abbrev pub width_option_text : List ℕ
+width_option_text = codes ": --width N says how many bytes the texts of %s have at most"
+
+-- what so many names are called
+abbrev pub names_text : ℕ → List ℕ
+names_text count = if nat_eq count 1 then codes " name" else codes " names"
+
 -- what is done about a byte order mark
 abbrev pub byte_mark_sentence : List ℕ
 byte_mark_sentence = codes "a byte order mark stands there: sed '1s/^\\xef\\xbb\\xbf//' takes it away"

@@ -14,8 +14,8 @@ mod wording;
 
 pub use fault::{CommandFault, FormatName, format_fault, print_format_fault};
 pub use notes::{
-    escape_notes, failed_notes, format_notes, input_notes, line_notes, mismatch_notes, pair_notes,
-    value_notes,
+    alone_notes, escape_notes, failed_notes, format_notes, input_notes, line_notes, mismatch_notes,
+    name_count_notes, pair_notes, stalled_notes, value_notes,
 };
 pub use places::{BLOCK_BYTES, Input, Place, Placed};
 pub use sf_arguments::ArgumentFault;

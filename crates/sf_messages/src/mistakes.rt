@@ -1,9 +1,11 @@
 //! Mistakes that an input and a format show.
 ghost use Rattle.std.specs.Prelude.{◌≡◌, option_map};
-ghost use Rattle.sf_messages.specs.Mistakes.{are_class, begins_marked, begins_wide, byte_after_text, byte_of_text};
-ghost use Rattle.sf_messages.specs.Mistakes.{is_carriage, is_class, is_class_shape, is_open_text};
+ghost use Rattle.sf_messages.specs.Mistakes.{are_class, begins_marked, begins_wide, byte_after_text, byte_at};
+ghost use Rattle.sf_messages.specs.Mistakes.{byte_of_text, goes_on, is_carriage, is_class, is_class_shape, is_cut};
+ghost use Rattle.sf_messages.specs.Mistakes.{is_cut_by, is_open_text};
 
-use sf_format::{Conversion, Directive, Shape};
+use crate::sentences::is_digit;
+use sf_format::{Conversion, Directive, FormatFault, FormatWhy, Shape};
 
 /// Whether bytes begin with a byte order mark.
 pub(crate) fn begins_marked(rest: &[u8]) -> bool
@@ -84,5 +86,42 @@ pub(crate) fn byte_after_text(directives: &[Directive], number: u16) -> Option<u
     byte_of_text(
         directives.get(next.saturating_sub(2)),
         directives.get(next.saturating_sub(1)),
+    )
+}
+
+/// Whether a byte goes on with a conversion after its width.
+fn goes_on(b: u8) -> bool
+    ensures { result ≡ goes_on b }
+{
+    matches!(b, b'A'..=b'[' | b'a'..=b'z' | b'\'' | b'*' | b'.' | b'?' | b'_')
+}
+
+/// Whether a conversion has digits and no letter, by the byte before the fault and that at it.
+fn is_cut_by(why: FormatWhy, before: u8, b: u8) -> bool
+    ensures { result ≡ is_cut_by why before b }
+{
+    match why {
+        FormatWhy::Truncated => is_digit(before),
+        FormatWhy::UnknownLetter => is_digit(before) && !goes_on(b),
+        _ => false,
+    }
+}
+
+/// The byte at this place of a text.
+pub(crate) fn byte_at(text: &[u8], at: usize) -> u8
+    ensures { result ≡ byte_at text.now at }
+{
+    text.get(at).copied().unwrap_or(0)
+}
+
+/// Whether a format's fault is that a conversion has digits and no letter, as where a shell took `$d` out of it.
+pub(crate) fn is_cut(text: &[u8], fault: FormatFault) -> bool
+    ensures { result ≡ is_cut text.now fault }
+{
+    let at = usize::from(fault.at);
+    is_cut_by(
+        fault.why,
+        byte_at(text, at.saturating_sub(1)),
+        byte_at(text, at),
     )
 }

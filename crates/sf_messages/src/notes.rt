@@ -6,11 +6,15 @@ ghost use Rattle.sf_messages.specs.Notes.{line_notes, line_rest, note, pair_note
 ghost use Rattle.sf_messages.specs.Notes.{place_notes, print_side, rest_notes, scan_side, stood_notes, value_note};
 ghost use Rattle.sf_messages.specs.Notes.{exception_text, float_cure, is_excepted, left_notes, mismatch_notes};
 ghost use Rattle.sf_messages.specs.Notes.{numbered_note, range_note, range_notes, raw_notes, stop_note, value_notes};
+ghost use Rattle.sf_messages.specs.Notes.{alone_cure, alone_notes, counted_names, counted_values, name_count_notes};
+ghost use Rattle.sf_messages.specs.Notes.{named_cure, names_cure, names_sample, shell_notes, stalled_notes};
 ghost use Rattle.sf_messages.specs.Notes.{wanted_note, white_notes};
 
 use crate::facing::{faced, push_unit};
 use crate::fault::FormatName;
-use crate::mistakes::{begins_marked, begins_wide, byte_after_text, is_carriage, is_class};
+use crate::mistakes::{
+    begins_marked, begins_wide, byte_after_text, byte_at, is_carriage, is_class, is_cut,
+};
 use crate::names::name_text;
 use crate::newlines::{
     is_left_white, is_lone_newline, is_newline_taken, is_over_newline, is_white_first,
@@ -18,10 +22,11 @@ use crate::newlines::{
 use crate::places::Place;
 use crate::sentences::{
     byte_mark_sentence, carriage_sentence, class_sentence, escape_sentence, left_white_sentence,
-    lone_newline_sentence, newline_taken_sentence, no_value_text, over_newline_sentence,
-    pair_sentence, printed_by_text, push_typed, push_typed_escape, range_text, raw_sentence,
-    read_by_text, text_front, values_text, wanted_text, white_first_sentence, why_sentence,
-    wide_text_sentence,
+    lone_newline_sentence, names_text, newline_taken_sentence, no_value_text, one_word_sentence,
+    over_newline_sentence, pair_sentence, printed_by_text, push_typed, push_typed_escape,
+    range_text, raw_sentence, read_by_text, shell_sentence, stalled_sentence, text_front,
+    values_text, wanted_text, white_first_sentence, why_sentence, wide_text_sentence,
+    width_option_text,
 };
 use crate::shown::{push_text, push_width_cure};
 use sf_arguments::{ArgumentFault, kind_text};
@@ -93,12 +98,23 @@ pub fn escape_notes(alloc: Global, word: &[u8], at: usize) -> Result<Vec<u8>, Al
     Ok(notes)
 }
 
+/// Appends what helps where a shell took a part of a format.
+fn push_shell(output: &mut Vec<u8>, text: &[u8], fault: FormatFault) -> Result<(), AllocError>
+    ensures { OnOk result (output.new.items ≡ output.old.items ++ shell_notes text.now fault) }
+{
+    if is_cut(text, fault) {
+        push_note(output, shell_sentence().as_bytes())
+    } else {
+        Ok(())
+    }
+}
+
 /// What is said of the fault of a format, by its bytes.
 pub fn format_notes(alloc: Global, text: &[u8], fault: FormatFault) -> Result<Vec<u8>, AllocError>
     ensures { IfOk result (λ notes. notes.items ≡ format_notes text.now fault) }
 {
     let at = usize::from(fault.at);
-    let byte = text.get(at).copied().unwrap_or(0);
+    let byte = byte_at(text, at);
     let mut said = Vec::new(alloc);
     push_typed(&mut said, fault.why, byte)?;
     let sentence = why_sentence(fault.why, byte, word_rest(text, at));
@@ -106,6 +122,7 @@ pub fn format_notes(alloc: Global, text: &[u8], fault: FormatFault) -> Result<Ve
     let mut notes = Vec::new(alloc);
     push_note(&mut notes, &said)?;
     push_place(alloc, &mut notes, text, at)?;
+    push_shell(&mut notes, text, fault)?;
     Ok(notes)
 }
 
@@ -347,6 +364,104 @@ pub fn pair_notes(
     Ok(notes)
 }
 
+/// Appends what to write where no scan format reads a print format back, by the units that are left at the fault.
+fn push_alone_cure(output: &mut Vec<u8>, why: PairWhy, left: &[Unit]) -> Result<(), AllocError>
+    ensures { OnOk result (output.new.items ≡ output.old.items ++ alone_cure why left.now) }
+{
+    match (why, left) {
+        (PairWhy::NoWidth, _) => push_text(output, width_option_text()),
+        (PairWhy::RunsOn, [Unit::Conv(conv), ..]) => push_exception(output, conv),
+        _ => Ok(()),
+    }
+}
+
+/// The units after so many.
+fn units_after(units: &[Unit], count: usize) -> &[Unit]
+    ensures { result.now ≡ drop count units.entry.now }
+{
+    units.get(count..).unwrap_or(&[])
+}
+
+/// What is said where no scan format reads a print format back, by its units: the fault of the format that was due,
+/// which has a directive for each of them.
+pub fn alone_notes(alloc: Global, units: &[Unit], fault: PairFault) -> Result<Vec<u8>, AllocError>
+    ensures { IfOk result (λ notes. notes.items ≡ alone_notes units.now fault) }
+{
+    let left = units_after(units, usize::from(fault.at).saturating_sub(1));
+    let mut said = Vec::new(alloc);
+    said.extend_from_slice(pair_sentence(fault.why).as_bytes())?;
+    push_alone_cure(&mut said, fault.why, left)?;
+    let mut notes = Vec::new(alloc);
+    push_note(&mut notes, &said)?;
+    if fault.at != 0 {
+        push_print_side(alloc, &mut notes, units, left)?;
+    }
+    push_note(&mut notes, one_word_sentence().as_bytes())?;
+    Ok(notes)
+}
+
+/// Letters with commas between them.
+const SAMPLE_NAMES: &[u8] = b"a,b,c,d,e,f,g,h,i,j,k,l,m,n,o,p,q,r,s,t,u,v,w,x,y,z,A,B,C,D,E,F";
+
+/// So many of them.
+fn names_sample(count: u8) -> &'static [u8]
+    ensures { result.now ≡ names_sample count }
+{
+    let count = usize::from(count);
+    &SAMPLE_NAMES[..(count + count).saturating_sub(1).min(63)]
+}
+
+/// Appends how many names there are.
+fn push_names(output: &mut Vec<u8>, count: usize) -> Result<(), AllocError>
+    ensures { OnOk result (output.new.items ≡ output.old.items ++ counted_names count) }
+{
+    write!(output, "{count}").map_err(|_| AllocError)?;
+    push_text(output, names_text(count))
+}
+
+/// Appends that so many names are to be written, such as these.
+fn push_named_cure(output: &mut Vec<u8>, count: usize, sample: &[u8]) -> Result<(), AllocError>
+    ensures { OnOk result (output.new.items ≡ output.old.items ++ named_cure count sample.now) }
+{
+    push_text(output, ": write ")?;
+    push_names(output, count)?;
+    push_text(output, ", as --names ")?;
+    output.extend_from_slice(sample)
+}
+
+/// Appends how many values there are.
+fn push_values(output: &mut Vec<u8>, count: u8) -> Result<(), AllocError>
+    ensures { OnOk result (output.new.items ≡ output.old.items ++ counted_values count) }
+{
+    write!(output, "{count}").map_err(|_| AllocError)?;
+    push_text(output, values_text(count))
+}
+
+/// Appends which names to write for so many values.
+fn push_names_cure(output: &mut Vec<u8>, expected: u8) -> Result<(), AllocError>
+    ensures { OnOk result (output.new.items ≡ output.old.items ++ names_cure expected) }
+{
+    if expected == 0 {
+        return push_text(output, ": leave --names out");
+    }
+    push_named_cure(output, usize::from(expected), names_sample(expected))
+}
+
+/// What is said where there are not as many names as a format gives values.
+pub fn name_count_notes(alloc: Global, expected: u8, got: usize) -> Result<Vec<u8>, AllocError>
+    ensures { IfOk result (λ notes. notes.items ≡ name_count_notes expected got) }
+{
+    let mut text = Vec::new(alloc);
+    push_text(&mut text, "--names has ")?;
+    push_names(&mut text, got)?;
+    push_text(&mut text, ", and a format gives ")?;
+    push_values(&mut text, expected)?;
+    push_names_cure(&mut text, expected)?;
+    let mut notes = Vec::new(alloc);
+    push_note(&mut notes, &text)?;
+    Ok(notes)
+}
+
 /// Appends the line of the place where a run stopped, where it is known.
 fn push_input(alloc: Global, output: &mut Vec<u8>, place: Option<Place>) -> Result<(), AllocError>
     ensures { OnOk result (output.new.items ≡ output.old.items ++ input_notes place) }
@@ -366,6 +481,16 @@ pub fn input_notes(alloc: Global, place: Option<Place>) -> Result<Vec<u8>, Alloc
 {
     let mut said = Vec::new(alloc);
     push_input(alloc, &mut said, place)?;
+    Ok(said)
+}
+
+/// What is said of a record that took nothing, at a place of the input.
+pub fn stalled_notes(alloc: Global, place: Option<Place>) -> Result<Vec<u8>, AllocError>
+    ensures { IfOk result (λ notes. notes.items ≡ stalled_notes place) }
+{
+    let mut said = Vec::new(alloc);
+    push_input(alloc, &mut said, place)?;
+    push_note(&mut said, stalled_sentence().as_bytes())?;
     Ok(said)
 }
 

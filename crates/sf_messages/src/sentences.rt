@@ -8,7 +8,8 @@ ghost use Rattle.sf_messages.specs.Sentences.{printed_by_text, read_by_text, tex
 ghost use Rattle.sf_messages.specs.Sentences.{wanted_text, white_first_sentence};
 ghost use Rattle.sf_messages.specs.Sentences.{wide_text_sentence};
 ghost use Rattle.sf_messages.specs.Sentences.{is_digit, is_float_after, is_float_letter, typed_text};
-ghost use Rattle.sf_messages.specs.Sentences.{unknown_sentence, why_sentence};
+ghost use Rattle.sf_messages.specs.Sentences.{names_text, one_word_sentence, shell_sentence, stalled_sentence};
+ghost use Rattle.sf_messages.specs.Sentences.{unknown_sentence, why_sentence, width_option_text};
 
 use sf_base::Kind;
 use sf_format::FormatWhy;
@@ -65,7 +66,7 @@ fn is_float_letter(b: u8) -> bool
     matches!(b, b'a' | b'A' | b'e' | b'E' | b'f' | b'F' | b'g' | b'G')
 }
 
-fn is_digit(b: u8) -> bool
+pub(crate) fn is_digit(b: u8) -> bool
     ensures { result ≡ is_digit b }
 {
     matches!(b, b'0'..=b'9')
@@ -163,6 +164,41 @@ pub(crate) fn over_newline_sentence() -> &'static str
     ensures { result.now ≡ over_newline_sentence }
 {
     "the record goes over a newline: sf scan --lines ends each record with its line"
+}
+
+/// What is done about a record that took nothing.
+pub(crate) fn stalled_sentence() -> &'static str
+    ensures { result.now ≡ stalled_sentence }
+{
+    "the format took no byte, so that the next record would begin where this one did"
+}
+
+/// What is done about a format of which a shell took a part.
+pub(crate) fn shell_sentence() -> &'static str
+    ensures { result.now ≡ shell_sentence }
+{
+    "a shell takes $ and the letters after it out of double quotes: single quotes keep them"
+}
+
+/// What is said of a print format that stands alone, after why nothing reads it back.
+pub(crate) fn one_word_sentence() -> &'static str
+    ensures { result.now ≡ one_word_sentence }
+{
+    "of a print format alone, the scan format that reads it back is written: sf check PRINT SCAN judges two"
+}
+
+/// Which option makes up for a width that a text of a print format alone lacks.
+pub(crate) fn width_option_text() -> &'static str
+    ensures { result.now ≡ width_option_text }
+{
+    ": --width N says how many bytes the texts of %s have at most"
+}
+
+/// What so many names are called.
+pub(crate) fn names_text(count: usize) -> &'static str
+    ensures { result.now ≡ names_text count }
+{
+    if count == 1 { " name" } else { " names" }
 }
 
 /// What is done about a byte order mark.

@@ -168,31 +168,56 @@ fn a_long_text_comes_behind(rt: HostRuntime) -> Result<(), Fail> {
     Ok(())
 }
 
+/// Whether the last error is of this kind.
+fn failed_by(sink: &BlockSink<Device>, kind: ErrorKind) -> bool {
+    matches!(sink.last_error(), Some(error) if error.kind() == kind)
+}
+
+/// A second write that fails so: what is true before it, then, and after a flush.
+fn write_fails(alloc: Global, kind: ErrorKind) -> [bool; 7] {
+    let mut device = Device::new(alloc, 40_000, 1);
+    device.failure = kind;
+    let mut sink = BlockSink::at_once(alloc, device);
+    [
+        sink.write(b"record\n").is_ok(),
+        sink.last_error().is_none(),
+        sink.write(b"record\n").is_err(),
+        failed_by(&sink, kind),
+        sink.failures() == 1,
+        sink.flush().is_ok(),
+        sink.last_error().is_some(),
+    ]
+}
+
+/// A flush to a writer that takes nothing: what is true before it, and then.
+fn flush_fails(sink: &mut BlockSink<Device>) -> [bool; 4] {
+    [
+        sink.write(b"record\n").is_ok(),
+        sink.last_error().is_none(),
+        sink.flush().is_err(),
+        failed_by(sink, ErrorKind::WriteZero),
+    ]
+}
+
 /// Why the write or the flush failed, and nothing before one did.
 #[test]
 fn the_last_error_is_known(rt: HostRuntime) -> Result<(), Fail> {
     for &kind in &[ErrorKind::BrokenPipe, ErrorKind::StorageFull] {
-        let mut device = Device::new(rt.alloc(), 40_000, 1);
-        device.failure = kind;
-        let mut sink = BlockSink::at_once(rt.alloc(), device);
-        let first = sink.write(b"record\n").is_ok() && sink.last_error().is_none();
-        let second = sink.write(b"record\n").is_err();
-        let known = matches!(sink.last_error(), Some(error) if error.kind() == kind);
-        assert!(rt; first && second && known);
-        assert!(rt; sink.failures() == 1);
-        let kept = sink.flush().is_ok() && sink.last_error().is_some();
-        assert!(rt; kept);
+        assert_eq!(rt; write_fails(rt.alloc(), kind), [true; 7]);
     }
     let mut sink = BlockSink::in_blocks(rt.alloc(), Device::new(rt.alloc(), 0, u64::MAX))?;
-    let taken = sink.write(b"record\n").is_ok() && sink.last_error().is_none();
-    assert!(rt; taken);
-    let failed = sink.flush().is_err();
-    let known = matches!(sink.last_error(), Some(error) if error.kind() == ErrorKind::WriteZero);
-    assert!(rt; failed && known);
+    assert_eq!(rt; flush_fails(&mut sink), [true; 4]);
     Ok(())
 }
 
-/// Texts that are written in place come after those that were copied, and one that has no room there isn't begun.
+/// Writes a text in place, and as any other where it has no room there.
+fn write_in_place(sink: &mut BlockSink<Device>) {
+    if sink.take_in_place(&Text { bytes: b"record\n" }).is_none() {
+        write_whole(sink, b"record\n");
+    }
+}
+
+/// Texts that are written in place come after those that were copied.
 #[test]
 fn texts_in_place_come_in_order(rt: HostRuntime) -> Result<(), Fail> {
     for &(most, before_failure) in &DEVICES {
@@ -200,25 +225,35 @@ fn texts_in_place_come_in_order(rt: HostRuntime) -> Result<(), Fail> {
         let mut sink = BlockSink::in_blocks(rt.alloc(), device)?;
         for _ in 0..6000u16 {
             write_whole(&mut sink, b"record\n");
-            if sink.take_in_place(&Text { bytes: b"record\n" }).is_none() {
-                write_whole(&mut sink, b"record\n");
-            }
+            write_in_place(&mut sink);
         }
         let _ = sink.flush();
         let flushed = sink.flush().is_ok() && are_texts(&sink.writer().bytes, b"record\n", 12_000);
         assert!(rt; flushed, "at {most}, {before_failure}");
     }
+    Ok(())
+}
+
+/// How many bytes of three texts in turn are written in place: all, none and all.
+fn taken_in_place(sink: &mut BlockSink<Device>) -> [Option<usize>; 3] {
+    [
+        sink.take_in_place(&Text {
+            bytes: &[b'a'; 32_576],
+        }),
+        sink.take_in_place(&Text {
+            bytes: &[b'b'; 193],
+        }),
+        sink.take_in_place(&Text {
+            bytes: &[b'c'; 192],
+        }),
+    ]
+}
+
+/// A text that has no room in place isn't begun.
+#[test]
+fn texts_in_place_are_whole(rt: HostRuntime) -> Result<(), Fail> {
     let mut sink = BlockSink::in_blocks(rt.alloc(), Device::new(rt.alloc(), 40_000, u64::MAX))?;
-    let first = sink.take_in_place(&Text {
-        bytes: &[b'a'; 32_576],
-    });
-    let second = sink.take_in_place(&Text {
-        bytes: &[b'b'; 193],
-    });
-    let third = sink.take_in_place(&Text {
-        bytes: &[b'c'; 192],
-    });
-    assert!(rt; first == Some(32_576) && second.is_none() && third == Some(192));
+    assert_eq!(rt; taken_in_place(&mut sink), [Some(32_576), None, Some(192)]);
     assert!(rt; sink.flush().is_ok() && sink.writer().bytes.len() == 32_768);
     let mut at_once = BlockSink::at_once(rt.alloc(), Device::new(rt.alloc(), 9, u64::MAX));
     let refused = at_once.take_in_place(&Text { bytes: b"record\n" });
@@ -239,30 +274,36 @@ fn texts_go_at_once(rt: HostRuntime) {
     }
 }
 
+/// Texts of so many bytes, and a record between them.
+static TEXTS: [&[u8]; 3] = [&[b'a'; 32_576], b"record\n", &[b'c'; 186]];
+
+/// Whether the text is written into a room that is lent, and how much room that is.
+fn lends(sink: &mut BlockSink<Device>, bytes: &[u8]) -> (bool, usize) {
+    let mut text = Lent { bytes, room: 0 };
+    (sink.lend(&mut text), text.room)
+}
+
 /// What is written into a room that is lent comes after what was taken before, and a writer that finds none takes no
 /// byte of it.
 #[test]
 fn room_is_lent(rt: HostRuntime) -> Result<(), Fail> {
     let mut sink = BlockSink::in_blocks(rt.alloc(), Device::new(rt.alloc(), 40_000, u64::MAX))?;
-    let mut first = Lent {
-        bytes: &[b'a'; 32_576],
-        room: 0,
-    };
-    let mut second = Lent {
-        bytes: b"record\n",
-        room: 0,
-    };
-    let mut third = Lent {
-        bytes: &[b'c'; 186],
-        room: 0,
-    };
-    assert!(rt; sink.lend(&mut first) && first.room == 32_768);
-    assert!(rt; sink.lend(&mut second) && second.room == 192);
-    assert!(rt; !sink.lend(&mut third) && third.room == 0);
+    let found = [
+        lends(&mut sink, TEXTS[0]),
+        lends(&mut sink, TEXTS[1]),
+        lends(&mut sink, TEXTS[2]),
+    ];
+    assert_eq!(rt; found, [(true, 32_768), (true, 192), (false, 0)]);
     let flushed = sink.flush().is_ok();
     assert!(rt; flushed && sink.writer().bytes.len() == 32_583);
     assert!(rt; are_texts(&sink.writer().bytes[32_576..], b"record\n", 1));
-    let mut at_once = BlockSink::at_once(rt.alloc(), Device::new(rt.alloc(), 9, u64::MAX));
-    assert!(rt; !at_once.lend(&mut second) && at_once.writer().bytes.is_empty());
     Ok(())
+}
+
+/// Where nothing is held back, no room is lent.
+#[test]
+fn no_room_is_lent(rt: HostRuntime) {
+    let mut at_once = BlockSink::at_once(rt.alloc(), Device::new(rt.alloc(), 9, u64::MAX));
+    let (is_lent, _) = lends(&mut at_once, b"record\n");
+    assert!(rt; !is_lent && at_once.writer().bytes.is_empty());
 }

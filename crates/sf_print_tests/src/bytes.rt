@@ -48,15 +48,30 @@ fn runs_over(place: usize, b: u8) -> [usize; 2]
     [text_run(&text), space_run(&spaces)]
 }
 
+/// The same of the places 5, 15, 16 and 17: white space ends the text, and another byte ends white space.
+fn wanted_over(is_white: bool) -> [[usize; 2]; 4] {
+    if is_white {
+        [[5, 20], [15, 20], [16, 20], [17, 20]]
+    } else {
+        [[20, 5], [20, 15], [20, 16], [20, 17]]
+    }
+}
+
 #[test]
 fn white_space_is_known_from_other_bytes() -> Result<(), Fail> {
     for b in 0..=255u8 {
         let is_white = WHITE.contains(&b);
-        is(&is_space(b), &is_white, &b)?;
-        for place in [5usize, 15, 16, 17] {
-            let wanted = if is_white { [place, 20] } else { [20, place] };
-            is(&runs_over(place, b), &wanted, &(place, b))?;
-        }
+        let found = [
+            runs_over(5, b),
+            runs_over(15, b),
+            runs_over(16, b),
+            runs_over(17, b),
+        ];
+        is(
+            &(is_space(b), found),
+            &(is_white, wanted_over(is_white)),
+            &b,
+        )?;
     }
     Ok(())
 }

@@ -39,8 +39,7 @@ fn numbers_are_written_in_place() -> Result<(), Fail> {
         let (negative, magnitude, wanted) = row;
         let mut buf = *b"n.....................|";
         let end = write_number(*negative, *magnitude, &mut buf, 1);
-        is(&&buf[..end], wanted, row)?;
-        is(&buf[22], &b'|', row)?;
+        is(&(&buf[..end], buf[22]), &(*wanted, b'|'), row)?;
     }
     Ok(())
 }

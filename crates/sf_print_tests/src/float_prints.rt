@@ -13,7 +13,8 @@ use std::test::Fail;
 /// A print format of one float and perhaps a literal, the pattern of a double, and the text.
 type FloatRow = (&'static [u8], u64, &'static [u8]);
 
-static FLOATS: [FloatRow; 103] = [
+/// Of `%f`.
+static FIXED: [FloatRow; 26] = [
     (b"%f", 0x0000_0000_0000_0000, b"0.000000"),
     (b"%f", 0x8000_0000_0000_0000, b"-0.000000"),
     (b"%f", 0x3ff0_0000_0000_0000, b"1.000000"),
@@ -44,6 +45,10 @@ static FLOATS: [FloatRow; 103] = [
     (b"% .1f", 0x4000_0000_0000_0000, b" 2.0"),
     (b"%+ .1f", 0x4000_0000_0000_0000, b"+2.0"),
     (b"%-010.1f|", 0x4000_0000_0000_0000, b"2.0       |"),
+];
+
+/// Of `%e`.
+static SCIENTIFIC: [FloatRow; 16] = [
     (b"%e", 0x0000_0000_0000_0000, b"0.000000e+00"),
     (b"%e", 0x8000_0000_0000_0000, b"-0.000000e+00"),
     (b"%e", 0x3ff0_0000_0000_0000, b"1.000000e+00"),
@@ -60,6 +65,10 @@ static FLOATS: [FloatRow; 103] = [
     (b"%.0e", 0x3fe0_0000_0000_0000, b"5e-01"),
     (b"%.0e", 0x4039_0000_0000_0000, b"2e+01"),
     (b"%.0e", 0x4041_8000_0000_0000, b"4e+01"),
+];
+
+/// Of `%g`.
+static GENERAL: [FloatRow; 22] = [
     (b"%g", 0x0000_0000_0000_0000, b"0"),
     (b"%g", 0x40f8_6a00_0000_0000, b"100000"),
     (b"%g", 0x412e_8480_0000_0000, b"1e+06"),
@@ -82,6 +91,10 @@ static FLOATS: [FloatRow; 103] = [
     (b"%g", 0x7e37_e43c_8800_759c, b"1e+300"),
     (b"%.2g", 0x4058_e000_0000_0000, b"1e+02"),
     (b"%.255g", 0x3fe0_0000_0000_0000, b"0.5"),
+];
+
+/// Of `%a`.
+static HEXADECIMAL: [FloatRow; 19] = [
     (b"%a", 0x0000_0000_0000_0000, b"0x0p+0"),
     (b"%a", 0x8000_0000_0000_0000, b"-0x0p+0"),
     (b"%a", 0x3ff0_0000_0000_0000, b"0x1p+0"),
@@ -101,6 +114,10 @@ static FLOATS: [FloatRow; 103] = [
     (b"%#a", 0x3ff0_0000_0000_0000, b"0x1.p+0"),
     (b"%+a", 0x3ff0_0000_0000_0000, b"+0x1p+0"),
     (b"%la", 0x0010_0000_0000_0000, b"0x1p-1022"),
+];
+
+/// Of infinities and NaNs, and six more numbers.
+static OTHERS: [FloatRow; 20] = [
     (b"%f", 0x7ff0_0000_0000_0000, b"inf"),
     (b"%F", 0xfff0_0000_0000_0000, b"-INF"),
     (b"%e", 0x7ff0_0000_0000_0000, b"inf"),
@@ -135,43 +152,77 @@ fn is_written_in_place(conv: &PrintConv, bits: u64, text: &[u8]) -> Result<(), F
         return Err(Fail::new("there is room"));
     };
     let written = buf.get(3..end).unwrap_or(b"");
-    is(&text.starts_with(written), &true, &bits)?;
+    let rest = text.len().saturating_sub(written.len());
     is(
-        &(text.len().saturating_sub(written.len()) <= 1),
-        &true,
+        &(text.starts_with(written), rest <= 1),
+        &(true, true),
         &bits,
     )
 }
 
-#[test]
-fn floats_are_printed_as_c_prints_them(rt: HostRuntime) -> Result<(), Fail> {
-    for row in &FLOATS {
-        let (text, bits, printed) = *row;
-        let format = PrintFormat::parse(rt.alloc(), Profile::Three, text)?;
-        prints(rt.alloc(), &format, &[Value::F64(bits)], printed)?;
-        if let [Unit::Conv(conv), ..] = format.directives() {
-            is_written_in_place(conv, bits, printed)?;
-        }
+/// The float is printed so, by a sink and in place.
+fn is_printed(alloc: Global, row: &FloatRow) -> Result<(), Fail> {
+    let (text, bits, printed) = *row;
+    let format = PrintFormat::parse(alloc, Profile::Three, text)?;
+    prints(alloc, &format, &[Value::F64(bits)], printed)?;
+    match format.directives() {
+        [Unit::Conv(conv), ..] => is_written_in_place(conv, bits, printed),
+        _ => Ok(()),
+    }
+}
+
+/// The rows of a table. (What the proof of a function that names a table takes grows faster than the table.)
+fn are_printed(alloc: Global, rows: &[FloatRow]) -> Result<(), Fail> {
+    for row in rows {
+        is_printed(alloc, row)?;
     }
     Ok(())
+}
+
+#[test]
+fn fixed_texts(rt: HostRuntime) -> Result<(), Fail> {
+    are_printed(rt.alloc(), &FIXED)
+}
+
+#[test]
+fn scientific_texts(rt: HostRuntime) -> Result<(), Fail> {
+    are_printed(rt.alloc(), &SCIENTIFIC)
+}
+
+#[test]
+fn general_texts(rt: HostRuntime) -> Result<(), Fail> {
+    are_printed(rt.alloc(), &GENERAL)
+}
+
+#[test]
+fn hexadecimal_texts(rt: HostRuntime) -> Result<(), Fail> {
+    are_printed(rt.alloc(), &HEXADECIMAL)
+}
+
+#[test]
+fn other_texts(rt: HostRuntime) -> Result<(), Fail> {
+    are_printed(rt.alloc(), &OTHERS)
 }
 
 /// The longest text: the greatest double with 255 digits after the point.
 #[test]
 fn the_longest_float(rt: HostRuntime) -> Result<(), Fail> {
     let format = PrintFormat::parse(rt.alloc(), Profile::Three, b"%.255f")?;
-    let greatest = Value::of_f64(-f64::MAX);
-    is(&printed_len(&format, &[greatest]), &Ok(566), &"longest")?;
+    let greatest = [Value::of_f64(-f64::MAX)];
     let mut sink = ListSink::new(rt.alloc());
-    is(&fprint(&mut sink, &format, &[greatest]), &Ok(566), &"all")?;
+    let found = [
+        printed_len(&format, &greatest),
+        fprint(&mut sink, &format, &greatest),
+    ];
+    is(&found, &[Ok(566), Ok(566)], &"longest")?;
     let text = sink.bytes();
-    is(
-        &text.starts_with(b"-17976931348623157081452742373170435"),
-        &true,
-        &"digits",
-    )?;
-    is(&text.get(304..311), &Some(b"858368.".as_slice()), &"point")?;
-    is(&text.ends_with(b"00000000000000000000"), &true, &"zeros")
+    let found = (
+        text.starts_with(b"-17976931348623157081452742373170435"),
+        text.get(304..311),
+        text.ends_with(b"00000000000000000000"),
+    );
+    let point = Some(b"858368.".as_slice());
+    is(&found, &(true, point, true), &"digits, the point and zeros")
 }
 
 #[test]
@@ -190,40 +241,54 @@ fn an_f32_is_its_number(rt: HostRuntime) -> Result<(), Fail> {
     )
 }
 
-/// The format is refused so, by each profile in turn.
-fn is_refused(
-    alloc: Global,
-    text: &[u8],
-    profile: Profile,
-    fault: (u16, FormatWhy),
-) -> Result<(), Fail> {
+/// A letter of a float.
+static LETTERS: [u8; 8] = *b"aAeEfFgG";
+
+/// Why the format is refused, and where.
+fn fault_of(alloc: Global, profile: Profile, text: &[u8]) -> Option<(u16, FormatWhy)> {
     match PrintFormat::parse(alloc, profile, text) {
-        Ok(_) => Err(Fail::new("a format")),
-        Err(FormatFault { at, why }) => is(&(at, why), &fault, &fault),
+        Ok(_) => None,
+        Err(FormatFault { at, why }) => Some((at, why)),
     }
 }
 
+/// By the other profiles, and with a length that no float has.
+#[test]
+fn letters_that_are_refused(rt: HostRuntime) -> Result<(), Fail> {
+    for letter in &LETTERS {
+        let found = [
+            fault_of(rt.alloc(), Profile::One, &[b'%', *letter]),
+            fault_of(rt.alloc(), Profile::Two, &[b'%', *letter]),
+            fault_of(rt.alloc(), Profile::Three, &[b'%', b'h', *letter]),
+        ];
+        let left_out = Some((1, FormatWhy::LeftOut));
+        let wanted = [left_out, left_out, Some((2, FormatWhy::BadLength))];
+        is(&found, &wanted, letter)?;
+    }
+    Ok(())
+}
+
+/// Formats that the third profile refuses, where and why.
+static REFUSED: [(&[u8], u16, FormatWhy); 7] = [
+    (b"%hhf", 3, FormatWhy::BadLength),
+    (b"%llf", 3, FormatWhy::BadLength),
+    (b"%jf", 2, FormatWhy::BadLength),
+    (b"%zf", 2, FormatWhy::BadLength),
+    (b"%tf", 2, FormatWhy::BadLength),
+    (b"%Lf", 1, FormatWhy::LeftOut),
+    (b"%.256f", 2, FormatWhy::PrecisionTooLarge),
+];
+
 #[test]
 fn what_no_float_has(rt: HostRuntime) -> Result<(), Fail> {
-    let alloc = rt.alloc();
-    for letter in b"aAeEfFgG" {
-        let text = [b'%', *letter];
-        is_refused(alloc, &text, Profile::One, (1, FormatWhy::LeftOut))?;
-        is_refused(alloc, &text, Profile::Two, (1, FormatWhy::LeftOut))?;
-        let length = [b'%', b'h', *letter];
-        is_refused(alloc, &length, Profile::Three, (2, FormatWhy::BadLength))?;
+    for (text, at, why) in &REFUSED {
+        is(
+            &fault_of(rt.alloc(), Profile::Three, text),
+            &Some((*at, *why)),
+            text,
+        )?;
     }
-    for length in [b"%hhf".as_slice(), b"%llf", b"%jf", b"%zf", b"%tf"] {
-        let at = length.len() as u16 - 1;
-        is_refused(alloc, length, Profile::Three, (at, FormatWhy::BadLength))?;
-    }
-    is_refused(alloc, b"%Lf", Profile::Three, (1, FormatWhy::LeftOut))?;
-    is_refused(
-        alloc,
-        b"%.256f",
-        Profile::Three,
-        (2, FormatWhy::PrecisionTooLarge),
-    )
+    Ok(())
 }
 
 #[test]
@@ -231,25 +296,39 @@ fn floats_are_refused_by_their_kind(rt: HostRuntime) -> Result<(), Fail> {
     let float = PrintFormat::parse(rt.alloc(), Profile::Three, b"%f")?;
     let integer = PrintFormat::parse(rt.alloc(), Profile::Three, b"%d")?;
     let wrong = Err(PrintFault::WrongKind { at: 1 });
-    is(&printed_len(&float, &[Value::I32(1)]), &wrong, &"%f of 1")?;
+    let found = [
+        printed_len(&float, &[Value::I32(1)]),
+        printed_len(&integer, &[Value::F64(0)]),
+    ];
+    let found = (found, float.kind(1));
     is(
-        &printed_len(&integer, &[Value::F64(0)]),
-        &wrong,
-        &"%d of 0.0",
-    )?;
-    is(&float.kind(1), &Some(Kind::F64), &"kind")
+        &found,
+        &([wrong, wrong], Some(Kind::F64)),
+        &"%f of 1, %d of 0.0",
+    )
+}
+
+/// The kind of the only slot of a scan format of the third profile, or why it is refused, and where.
+fn scanned_kind(alloc: Global, text: &[u8]) -> Result<Option<Kind>, (u16, FormatWhy)> {
+    match ScanFormat::parse(alloc, Profile::Three, text) {
+        Ok(format) => Ok(format.kind(1)),
+        Err(FormatFault { at, why }) => Err((at, why)),
+    }
 }
 
 #[test]
 fn profile_three_scans_floats(rt: HostRuntime) -> Result<(), Fail> {
-    let binary = ScanFormat::parse(rt.alloc(), Profile::Three, b"%b")?;
-    is(&binary.kind(1), &Some(Kind::U32), &"%b")?;
-    let float = ScanFormat::parse(rt.alloc(), Profile::Three, b"%f")?;
-    is(&float.kind(1), &Some(Kind::F32), &"%f")?;
-    match ScanFormat::parse(rt.alloc(), Profile::Three, b"%Lf") {
-        Ok(_) => Err(Fail::new("a format")),
-        Err(FormatFault { at, why }) => is(&(at, why), &(1, FormatWhy::LeftOut), &"%Lf"),
-    }
+    let found = [
+        scanned_kind(rt.alloc(), b"%b"),
+        scanned_kind(rt.alloc(), b"%f"),
+        scanned_kind(rt.alloc(), b"%Lf"),
+    ];
+    let wanted = [
+        Ok(Some(Kind::U32)),
+        Ok(Some(Kind::F32)),
+        Err((1, FormatWhy::LeftOut)),
+    ];
+    is(&found, &wanted, &"%b, %f and %Lf")
 }
 
 #[test]

@@ -21,9 +21,11 @@ fn doubles_are_patterns() -> Result<(), Fail> {
         Value::F64(0x7ff8_0000_0000_0000),
         Value::F64(0x7ff8_0000_0000_0000),
     ];
-    is(&long, &patterns, &"f64")?;
-    is(&Value::F64(0x3fb9_9999_9999_999a).f64(), &Some(0.1), &"0.1")?;
-    is(&Value::F32(0x3dcc_cccd).f64(), &None, &"f32")
+    let numbers = [
+        Value::F64(0x3fb9_9999_9999_999a).f64(),
+        Value::F32(0x3dcc_cccd).f64(),
+    ];
+    is(&(long, numbers), &(patterns, [Some(0.1), None]), &"f64")
 }
 
 #[test]
@@ -40,27 +42,36 @@ fn floats_are_patterns() -> Result<(), Fail> {
         Value::F32(0x8000_0000),
         Value::F32(0x7fc0_0000),
     ];
-    is(&short, &patterns, &"f32")?;
-    is(&Value::F32(0x3dcc_cccd).f32(), &Some(0.1), &"0.1")?;
-    is(&Value::I32(1).f32(), &None, &"i32")
+    let numbers = [Value::F32(0x3dcc_cccd).f32(), Value::I32(1).f32()];
+    is(&(short, numbers), &(patterns, [Some(0.1), None]), &"f32")
 }
+
+/// The number that a value shows, if it is a float.
+fn shown_real(value: Value<'_>) -> Option<Real> {
+    match value.shown() {
+        Shown::Real(real) => Some(real),
+        Shown::Number(_) | Shown::Text(_) => None,
+    }
+}
+
+/// A value that is a float, its number and its kind.
+static REALS: [(Value<'static>, Real, Kind); 2] = [
+    (Value::F32(1), Real::F32(1), Kind::F32),
+    (Value::F64(2), Real::F64(2), Kind::F64),
+];
 
 #[test]
 fn floats_are_no_integers() -> Result<(), Fail> {
-    for (value, real, kind) in [
-        (Value::F32(1), Real::F32(1), Kind::F32),
-        (Value::F64(2), Real::F64(2), Kind::F64),
-    ] {
-        is(&[value.kind(), real.kind()], &[kind, kind], &kind)?;
-        is(&real.value(), &value, &kind)?;
-        is(&value.number(), &None, &kind)?;
-        is(&value.sign_and_magnitude(), &None, &kind)?;
-        is(&kind.bounds(), &None, &kind)?;
-        is(&kind.value(0), &None, &kind)?;
-        let Shown::Real(shown) = value.shown() else {
-            return Err(Fail::new("a float shows as another value"));
-        };
-        is(&shown, &real, &kind)?;
+    for (value, real, kind) in &REALS {
+        let found = (value.kind(), real.kind(), real.value(), shown_real(*value));
+        is(&found, &(*kind, *kind, *value, Some(*real)), kind)?;
+        let found = (
+            value.number(),
+            value.sign_and_magnitude(),
+            kind.bounds(),
+            kind.value(0),
+        );
+        is(&found, &(None, None, None, None), kind)?;
     }
     Ok(())
 }

@@ -6,6 +6,7 @@ use sf_format::{
     Span, Spans, Unit, directive_text,
 };
 use sf_rows::is;
+use std::alloc::Global;
 use std::test::Fail;
 
 /// Whether the directives are those of `%d, \t%%%d`.
@@ -114,19 +115,18 @@ static SCANS: [ScanRow; 13] = [
 
 fn is_of_row(format: &ScanFormat, row: &ScanRow) -> Result<(), Fail> {
     let (_, counts, kinds, width_sum) = row;
-    let found = [
+    let found_counts = [
         format.directives().len(),
         usize::from(format.destinations()),
     ];
-    is(&found, counts, row)?;
-    let found = [
+    let found_kinds = [
         format.kind(0),
         format.kind(1),
         format.kind(2),
         format.kind(3),
     ];
-    is(&found, kinds, row)?;
-    is(&format.width_sum(), width_sum, row)
+    let found = (found_counts, found_kinds, format.width_sum());
+    is(&found, &(*counts, *kinds, *width_sum), row)
 }
 
 #[test]
@@ -163,20 +163,37 @@ fn directives_have_texts() -> Result<(), Fail> {
     Ok(())
 }
 
+/// The text of the directive by the spans of the format.
+fn text_by_span<'a>(
+    alloc: Global,
+    profile: Profile,
+    text: &'a [u8],
+    number: u16,
+) -> Option<&'a [u8]> {
+    match Spans::of(alloc, profile, text) {
+        Ok(spans) => spans.text_of(text, number),
+        Err(_) => None,
+    }
+}
+
 #[test]
-fn directives_have_spans(rt: HostRuntime) -> Result<(), Fail> {
+fn directives_have_texts_by_spans(rt: HostRuntime) -> Result<(), Fail> {
     for row in &DIRECTIVE_TEXTS {
         let (profile, text, number, wanted) = row;
-        let found = match Spans::of(rt.alloc(), *profile, text) {
-            Ok(spans) => spans.text_of(text, *number),
-            Err(_) => None,
-        };
-        is(&found, wanted, row)?;
+        is(
+            &text_by_span(rt.alloc(), *profile, text, *number),
+            wanted,
+            row,
+        )?;
     }
-    let spans = Spans::of(rt.alloc(), Profile::One, b"%%%*[^]x]%1$s")?;
-    is(&spans.span(2), &Some(Span { start: 2, end: 9 }), &2)?;
-    is(&spans.span(4), &None, &4)?;
     Ok(())
+}
+
+#[test]
+fn directives_have_spans(rt: HostRuntime) -> Result<(), Fail> {
+    let spans = Spans::of(rt.alloc(), Profile::One, b"%%%*[^]x]%1$s")?;
+    let wanted = [Some(Span { start: 2, end: 9 }), None];
+    is(&[spans.span(2), spans.span(4)], &wanted, &"2 and 4")
 }
 
 /// A print format of one conversion, with what it prints, its flags, its width and its precision.
@@ -508,14 +525,13 @@ static UNITS: [UnitRow; 3] = [
 
 fn has_units(format: &PrintFormat, row: &UnitRow) -> Result<(), Fail> {
     let (_, _, units, kinds) = row;
-    is(&format.directives(), units, row)?;
     let found = [
         format.kind(0),
         format.kind(1),
         format.kind(2),
         format.kind(3),
     ];
-    is(&found, kinds, row)
+    is(&(format.directives(), found), &(*units, *kinds), row)
 }
 
 #[test]
@@ -524,6 +540,11 @@ fn print_formats_answer(rt: HostRuntime) -> Result<(), Fail> {
         let format = PrintFormat::parse(rt.alloc(), row.0, row.1)?;
         has_units(&format, row)?;
     }
+    Ok(())
+}
+
+#[test]
+fn a_print_format_has_its_values(rt: HostRuntime) -> Result<(), Fail> {
     let format = PrintFormat::parse(rt.alloc(), Profile::One, b"%2$s-%1$d")?;
     is(&format.values(), &2, &"values")
 }

@@ -33,6 +33,12 @@ fn conversion(format: &PrintFormat) -> Option<PrintConv> {
     }
 }
 
+/// The conversion of a format that has no other directive.
+fn parsed(alloc: Global, text: &[u8]) -> Result<PrintConv, Fail> {
+    let format = PrintFormat::parse(alloc, Profile::One, text)?;
+    Ok(conversion(&format).ok_or("not one conversion")?)
+}
+
 /// What stands before the text, and the room after it.
 const FRONT: &[u8] = b"n=";
 
@@ -88,23 +94,35 @@ fn written(buf: &[u8], end: Option<usize>) -> Option<&[u8]> {
     buf.get(2..end?)
 }
 
+/// The number is written so by the conversion.
+fn is_plain_number(conv: &PrintConv, number: Number, wanted: Option<&[u8]>) -> Result<(), Fail> {
+    let mut buf = [b'|'; ROOM];
+    let end = write_plain_number(conv, number, &mut buf, 2);
+    is(&written(&buf, end), &wanted, conv)
+}
+
 #[test]
-fn plain_values_are_written_in_place(rt: HostRuntime) -> Result<(), Fail> {
+fn plain_numbers_are_written_in_place(rt: HostRuntime) -> Result<(), Fail> {
     let number = minus_twelve().ok_or("no number")?;
     for (text, wanted) in &PLAIN_NUMBERS {
-        let format = PrintFormat::parse(rt.alloc(), Profile::One, text)?;
-        let conv = conversion(&format).ok_or("not one conversion")?;
-        let mut buf = [b'|'; ROOM];
-        let end = write_plain_number(&conv, number, &mut buf, 2);
-        is(&written(&buf, end), wanted, text)?;
+        is_plain_number(&parsed(rt.alloc(), text)?, number, *wanted)?;
     }
+    Ok(())
+}
+
+/// The bytes are written so by the conversion after two bytes, and not at all where there is a byte less of room.
+fn are_plain_bytes(conv: &PrintConv, wanted: Option<&[u8]>) -> Result<(), Fail> {
+    let mut buf = [b'|'; 6];
+    let end = write_plain_bytes(conv, b"abcd", &mut buf, 2);
+    let mut full = buf;
+    let none = write_plain_bytes(conv, b"abcd", &mut full, 3);
+    is(&(written(&buf, end), none), &(wanted, None), conv)
+}
+
+#[test]
+fn plain_bytes_are_written_in_place(rt: HostRuntime) -> Result<(), Fail> {
     for (text, wanted) in &PLAIN_BYTES {
-        let format = PrintFormat::parse(rt.alloc(), Profile::One, text)?;
-        let conv = conversion(&format).ok_or("not one conversion")?;
-        let mut buf = [b'|'; 6];
-        let end = write_plain_bytes(&conv, b"abcd", &mut buf, 2);
-        is(&written(&buf, end), wanted, text)?;
-        is(&write_plain_bytes(&conv, b"abcd", &mut buf, 3), &None, text)?;
+        are_plain_bytes(&parsed(rt.alloc(), text)?, *wanted)?;
     }
     Ok(())
 }
@@ -122,10 +140,14 @@ fn a_full_buffer_has_no_room(rt: HostRuntime) -> Result<(), Fail> {
 #[test]
 fn a_text_is_handed_over(rt: HostRuntime) -> Result<(), Fail> {
     let mut list = ListSink::new(rt.alloc());
-    is(&write_text(&mut list, b"12,-7\n"), &Ok(6), &"all")?;
-    is(&list.bytes(), &b"12,-7\n".as_slice(), &"all")?;
+    let answer = write_text(&mut list, b"12,-7\n");
+    let all = (answer, list.bytes());
     let mut script = ScriptSink::new(rt.alloc(), &[WriteStep::Accept(4), WriteStep::Fail]);
+    let answer = write_text(&mut script, b"12,-7\n");
     let fault = PrintFault::Sink { written: 4 };
-    is(&write_text(&mut script, b"12,-7\n"), &Err(fault), &"four")?;
-    is(&script.bytes(), &b"12,-".as_slice(), &"four")
+    let wanted = (
+        (Ok(6), b"12,-7\n".as_slice()),
+        (Err(fault), b"12,-".as_slice()),
+    );
+    is(&(all, (answer, script.bytes())), &wanted, &"all and four")
 }

@@ -6,7 +6,8 @@ use std::test::Fail;
 /// A kind, a sign (true: a minus), a magnitude, and the value that the kind gives them, if it holds one.
 type NumberRow = (Kind, bool, u64, Option<Value<'static>>);
 
-static NUMBERS: [NumberRow; 78] = [
+/// Of 8 and 16 bits.
+static SMALL: [NumberRow; 22] = [
     (Kind::I8, false, 0, Some(Value::I8(0))),
     (Kind::I8, false, 127, Some(Value::I8(127))),
     (Kind::I8, false, 128, None),
@@ -29,6 +30,10 @@ static NUMBERS: [NumberRow; 78] = [
     (Kind::I16, true, 32769, None),
     (Kind::I16, true, 65535, None),
     (Kind::I16, true, 18446744073709551615, None),
+];
+
+/// Of 32 and 64 bits.
+static LARGE: [NumberRow; 18] = [
     (Kind::I32, false, 0, Some(Value::I32(0))),
     (Kind::I32, false, 2147483647, Some(Value::I32(2147483647))),
     (Kind::I32, false, 2147483648, None),
@@ -57,6 +62,10 @@ static NUMBERS: [NumberRow; 78] = [
     ),
     (Kind::I64, true, 9223372036854775809, None),
     (Kind::I64, true, 18446744073709551615, None),
+];
+
+/// Of 8 and 16 bits without a sign.
+static SMALL_UNSIGNED: [NumberRow; 20] = [
     (Kind::U8, false, 0, Some(Value::U8(0))),
     (Kind::U8, false, 255, Some(Value::U8(255))),
     (Kind::U8, false, 256, None),
@@ -77,6 +86,10 @@ static NUMBERS: [NumberRow; 78] = [
     (Kind::U16, true, 65536, None),
     (Kind::U16, true, 65537, None),
     (Kind::U16, true, 18446744073709551615, None),
+];
+
+/// Of 32 and 64 bits without a sign, and of texts.
+static LARGE_UNSIGNED: [NumberRow; 18] = [
     (Kind::U32, false, 0, Some(Value::U32(0))),
     (Kind::U32, false, 4294967295, Some(Value::U32(4294967295))),
     (Kind::U32, false, 4294967296, None),
@@ -136,9 +149,8 @@ fn by_type(kind: Kind, negative: bool, magnitude: u64, overflowed: bool) -> Opti
 }
 
 /// Each kind at its bounds, and beyond. A magnitude of more than 64 bits, by the types alone, is beyond each.
-#[test]
-fn signs_and_magnitudes_make_values() -> Result<(), Fail> {
-    for row in &NUMBERS {
+fn make_values(rows: &[NumberRow]) -> Result<(), Fail> {
+    for row in rows {
         let (kind, negative, magnitude, wanted) = row;
         let found = [
             by_kind(*kind, *negative, *magnitude),
@@ -148,6 +160,26 @@ fn signs_and_magnitudes_make_values() -> Result<(), Fail> {
         is(&found, &[*wanted, *wanted, None], row)?;
     }
     Ok(())
+}
+
+#[test]
+fn small_signed_numbers() -> Result<(), Fail> {
+    make_values(&SMALL)
+}
+
+#[test]
+fn large_signed_numbers() -> Result<(), Fail> {
+    make_values(&LARGE)
+}
+
+#[test]
+fn small_unsigned_numbers() -> Result<(), Fail> {
+    make_values(&SMALL_UNSIGNED)
+}
+
+#[test]
+fn large_unsigned_numbers() -> Result<(), Fail> {
+    make_values(&LARGE_UNSIGNED)
 }
 
 /// A value, its kind, and its number with its sign and its magnitude, if it has one.
@@ -221,32 +253,27 @@ fn by_number(value: &Value<'static>) -> Option<Value<'static>> {
 fn values_are_those_of_their_numbers() -> Result<(), Fail> {
     for row in &VALUES {
         let (value, kind, parts) = row;
-        is(&value.kind(), kind, value)?;
-        let found = [value.sign_and_magnitude(), parts_of_number(value)];
-        is(&found, &[*parts, *parts], value)?;
-        let found = [Some(value.shown().value()), by_number(value)];
-        is(&found, &[Some(*value), Some(*value)], value)?;
+        let found = (
+            value.kind(),
+            [value.sign_and_magnitude(), parts_of_number(value)],
+            [Some(value.shown().value()), by_number(value)],
+        );
+        is(&found, &(*kind, [*parts, *parts], [Some(*value); 2]), value)?;
     }
-    is(&Kind::Text.value(0), &None, &"a text holds no number")
+    Ok(())
 }
 
-static KINDS: [Kind; 8] = [
-    Kind::I8,
-    Kind::I16,
-    Kind::I32,
-    Kind::I64,
-    Kind::U8,
-    Kind::U16,
-    Kind::U32,
-    Kind::U64,
-];
+#[test]
+fn a_text_holds_no_number() -> Result<(), Fail> {
+    is(&Kind::Text.value(0), &None, &"a text")
+}
 
 /// What a type makes of a value, as a value again.
 fn through<T: ScanInt>(value: Value<'_>) -> Option<Value<'static>> {
     Some(T::from_value(value)?.value())
 }
 
-/// What each of the eight types makes of a value, in the order of `KINDS`.
+/// What each of the eight types makes of a value.
 fn through_each(value: Value<'_>) -> [Option<Value<'static>>; 8] {
     [
         through::<i8>(value),
@@ -260,16 +287,31 @@ fn through_each(value: Value<'_>) -> [Option<Value<'static>>; 8] {
     ]
 }
 
+/// The value, if its kind is this one.
+fn of_kind(value: Value<'static>, kind: Kind, own: Kind) -> Option<Value<'static>> {
+    if own == kind { Some(value) } else { None }
+}
+
+/// The value where the type is that of its kind, and else nothing, in the order of the types.
+fn of_each_kind(value: Value<'static>, kind: Kind) -> [Option<Value<'static>>; 8] {
+    [
+        of_kind(value, kind, Kind::I8),
+        of_kind(value, kind, Kind::I16),
+        of_kind(value, kind, Kind::I32),
+        of_kind(value, kind, Kind::I64),
+        of_kind(value, kind, Kind::U8),
+        of_kind(value, kind, Kind::U16),
+        of_kind(value, kind, Kind::U32),
+        of_kind(value, kind, Kind::U64),
+    ]
+}
+
 /// Each type takes the values of its kind, as they are, and no others.
 #[test]
 fn types_take_the_values_of_their_kinds() -> Result<(), Fail> {
     for row in &VALUES {
         let (value, kind, _) = row;
-        let found = through_each(*value);
-        for (taken, own) in found.iter().zip(&KINDS) {
-            let wanted = if own == kind { Some(*value) } else { None };
-            is(taken, &wanted, &(value, own))?;
-        }
+        is(&through_each(*value), &of_each_kind(*value, *kind), value)?;
     }
     Ok(())
 }

@@ -28,8 +28,7 @@ pub fn prints(
         written(fprint(&mut sink, format, values)),
         written(printed_len(format, values)),
     ];
-    is(&found, &[wanted, wanted], &text)?;
-    is(&sink.bytes(), &text, &text)
+    is(&(found, sink.bytes()), &([wanted, wanted], text), &text)
 }
 
 /// A sink of these steps takes so many bytes of the printed text and fails, or takes the whole text.
@@ -49,6 +48,9 @@ pub fn prints_in_part(
     } else {
         Ok(front.len())
     };
-    is(&found, &Some(wanted), &(text, taken))?;
-    is(&sink.bytes(), &front, &(text, taken))
+    is(
+        &(found, sink.bytes()),
+        &(Some(wanted), front),
+        &(text, taken),
+    )
 }

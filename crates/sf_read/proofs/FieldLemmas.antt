@@ -1,1 +1,2 @@
 pub mod FloatFields
+pub mod Pushed

@@ -10,6 +10,7 @@ pub mod Endings
 pub mod EndsMoved
 pub mod Holding
 pub mod InTurn
+pub mod InPieces
 pub mod Lines
 pub mod Reading
 pub mod Shapes

@@ -1,11 +1,11 @@
 -- Rows and the destinations of formats.
 use Rattle.std.proofs.Common.{◌≡◌, inl, inr, ℕ, ◌+◌, ◌-◌, ◌≤◌, Bool, true, false, cond, not, ◌&&◌, ◌||◌, nat_eq, List, [], ◌∷◌, length}
-use Rattle.std.proofs.Common.{take, drop, Option, Some, None, Result, Err, is_some, if◌then◌else◌, refl, sym, ap, subst, ◌∙◌, arith}
+use Rattle.std.proofs.Common.{take, drop, Option, Some, None, Result, Ok, Err, is_some, if◌then◌else◌, refl, sym, ap, subst, ◌∙◌, arith}
 use Rattle.std.proofs.Math.Nat.{lt_of_not-le}
 use Rattle.std.proofs.lemmas.List.{take-append-drop, length-take-le}
 use Rattle.std.proofs.lemmas.Option.{slice_get_past}
 use Rattle.std.proofs.lemmas.Bool.Decides.{nat_tests}
-use Rattle.std.specs.Prelude.{IfSome, slice_get}
+use Rattle.std.specs.Prelude.{IfErr, IfSome, slice_get}
 use Rattle.std.specs.List.{cons_option}
 use Rattle.std.specs.Option.{option_eq}
 use Rattle.sf_base.specs.declared.values.Kind.{Kind}
@@ -28,12 +28,15 @@ use Rattle.sf_base.specs.Data.{Datum, datum_at}
 use Rattle.sf_base.specs.stores.Kept.{Kept}
 use Rattle.sf_run.specs.Memory.{capacity_of}
 use Rattle.sf_read.specs.declared.row.ScanRowFault.{ScanRowFault}
-use Rattle.sf_read.specs.declared.row.ScanRowFault.TheVariants.{Start}
+use Rattle.sf_read.specs.declared.row.ScanRowFault.TheVariants.{LeftOver, Start}
 use Rattle.sf_read.specs.source.Ahead.{Ahead, input_of}
 use Rattle.sf_read.specs.source.Counts.{counted_on}
 use Rattle.sf_read.specs.field.Rows.{AreGivenAs, IsGivenAs}
-use Rattle.sf_read.specs.RowScans.{Answers, HasShape, RowScan, is_run}
+use Rattle.sf_read.specs.RowScans.{Answers, HasShape, RowScan, TextAnswers, is_run}
 use Rattle.sf_read.specs.Scan.{Scan, is_fault}
+use Rattle.sf_read.specs.Shapes.{IsDifference, IsKindsAt, IsMissing}
+use Rattle.sf_read.specs.declared.shape.ShapeFault.{ShapeFault}
+use Rattle.sf_read.specs.declared.shape.ShapeFault.TheVariants.{Count, Kinds, Missing}
 use Rattle.sf_read.proofs.Blocks.{no_reads}
 
 -- ---- shapes
@@ -86,20 +89,25 @@ no_may slot (Conv c ∷ ds) unkinded = by c.slot refl (no_may slot ds)
         by_test (nat_eq n slot) (λ v. nat_eq n slot ≡ v → may_miss slot (Conv c ∷ ds) ≡ false)
         (λ same e. absurd (own_kind n own e)) (λ other e. rw (own, e, rest (later n own e)) (and_nothing c.optional)) refl
 
+-- the kinds that were compared slot by slot are those of each slot
+pub has_kinds : (shape : List Kind) (ds : List Directive) → AreSlots (destinations_of ds)
+    → length shape ≡ length (destinations_of ds)
+    → ((slot : ℕ) → 1 ≤ slot → slot ≤ length (destinations_of ds) → at_slot slot shape ≡ kind_at slot ds)
+    → (slot : ℕ) → at_slot slot shape ≡ kind_at slot ds
+has_kinds shape ds slots same each slot =
+    let known = kinds_are slot (destinations_of ds) slots in
+    by_test (is_some (kind_at slot ds)) (λ v. at_slot slot shape ≡ kind_at slot ds)
+    (λ some. each slot (known.0 some).0 (known.0 some).1)
+    (λ none. no_kind shape slot (λ h. let some = known.1 (h.0, omega (arith, same, h.1)) in absurd cc)
+    ∙ sym (none_is (kind_at slot ds) none))
+
 -- what was compared slot by slot
 pub has_shape : (shape : List Kind) (optional : ℕ → Bool) (ds : List Directive) → AreSlots (destinations_of ds)
     → length shape ≡ length (destinations_of ds)
     → ((slot : ℕ) → 1 ≤ slot → slot ≤ length (destinations_of ds) → at_slot slot shape ≡ kind_at slot ds)
     → ((slot : ℕ) → may_miss slot ds ≡ true → optional slot ≡ true) → HasShape shape optional ds
-has_shape shape optional ds slots same each missing = record { count = same; each = λ slot. by slot; missing = missing }
-  where
-    by : (slot : ℕ) → at_slot slot shape ≡ kind_at slot ds
-    by slot =
-        let known = kinds_are slot (destinations_of ds) slots in
-        by_test (is_some (kind_at slot ds)) (λ v. at_slot slot shape ≡ kind_at slot ds)
-        (λ some. each slot (known.0 some).0 (known.0 some).1)
-        (λ none. no_kind shape slot (λ h. let some = known.1 (h.0, omega (arith, same, h.1)) in absurd cc)
-        ∙ sym (none_is (kind_at slot ds) none))
+has_shape shape optional ds slots same each missing =
+    record { count = same; each = has_kinds shape ds slots same each; missing = missing }
 
 -- no other slots may be missing than those of the destinations
 pub takes_each : (optional : ℕ → Bool) (ds : List Directive) → AreSlots (destinations_of ds)
@@ -139,6 +147,46 @@ same_option eq same (Some a) (Some b) test is = ap Some (same a b (not_false (eq
     not_false true e = refl
     not_false false e = absurd cc
 
+-- options that differ have other values
+pub other_values : {A : Type 0} (eq : A → A → Bool) → ((a b : A) → eq a b ≡ false → a ≡ b → ⊥) → (o p : Option A) (a b : A) {differ : Bool}
+    → differ ≡ true → differ ≡ not (option_eq eq o p) → o ≡ Some a → p ≡ Some b → a ≡ b → ⊥
+other_values eq other o p a b test is o_is p_is same =
+    other a b (not_true (eq a b) (subst (λ y. not (option_eq eq (Some a) y) ≡ true) p_is
+    (subst (λ x. not (option_eq eq x p) ≡ true) o_is (sym is ∙ test)))) same
+  where
+    not_true : (v : Bool) → not v ≡ true → v ≡ false
+    not_true true e = absurd cc
+    not_true false e = refl
+
+-- the first slot whose kinds differ
+pub first_kinds : (kinds : List Kind) (optional : ℕ → Bool) (ds : List Directive) (before : ℕ) (fault : ShapeFault)
+    → length kinds ≡ length (destinations_of ds)
+    → ((slot : ℕ) → 1 ≤ slot → slot ≤ before → at_slot slot kinds ≡ kind_at slot ds)
+    → ((row format : Kind) → at_slot (before + 1) kinds ≡ Some row → kind_at (before + 1) ds ≡ Some format → row ≡ format → ⊥)
+    → IsKindsAt kinds ds (before + 1) fault → IsDifference kinds optional ds fault
+first_kinds kinds optional ds before (Count format row) same each other is = absurd is
+first_kinds kinds optional ds before (Kinds slot format row) same each other (at, given, taken) = (
+  same,
+  (refl, subst (λ n. kind_at n ds ≡ Some format) (sym at) given, subst (λ n. at_slot n kinds ≡ Some row) (sym at) taken),
+  other row format taken given,
+  λ n low high. each n low (omega (arith, at, high)),
+)
+first_kinds kinds optional ds before (Missing slot) same each other is = absurd is
+
+-- the first slot without a value
+pub first_missing : (kinds : List Kind) (optional : ℕ → Bool) (ds : List Directive) (fault : ShapeFault)
+    → length kinds ≡ length (destinations_of ds) → ((slot : ℕ) → at_slot slot kinds ≡ kind_at slot ds)
+    → IsMissing optional ds fault → IsDifference kinds optional ds fault
+first_missing kinds optional ds (Count format row) same each is = absurd is
+first_missing kinds optional ds (Kinds slot format row) same each is = absurd is
+first_missing kinds optional ds (Missing slot) same each is = (same, each, is)
+
+pub all_missing : {A : Type 0} (kinds : List Kind) (optional : ℕ → Bool) (ds : List Directive) (r : Result A ShapeFault)
+    → length kinds ≡ length (destinations_of ds) → ((slot : ℕ) → at_slot slot kinds ≡ kind_at slot ds)
+    → IfErr r (IsMissing optional ds) → IfErr r (IsDifference kinds optional ds)
+all_missing kinds optional ds (Ok x) same each is = tt
+all_missing kinds optional ds (Err fault) same each is = first_missing kinds optional ds fault same each is
+
 -- a slot of the row's kind was given something of it; or nothing, where it may be missing in the format, and so in the row
 given_as : (may : Bool) (kind : Option Kind) (ds : List Directive) (slot : ℕ) (v : Option Datum) → kind ≡ kind_at slot ds
     → (may_miss slot ds ≡ true → may ≡ true) → Suits ds slot v → IsGivenAs may kind v
@@ -167,6 +215,17 @@ no_start kinds given_by report r answers fault e = subst (Answers kinds given_by
 -- nor is it where there was one
 pub run_no_start : {T : Type 0} (r : Result T ScanRowFault) → is_run r ≡ true → (fault : StartFault) → r ≡ Err (Start fault) → ⊥
 run_no_start r is fault e = let h = subst (λ s. is_run s ≡ true) e is in absurd cc
+
+-- what is answered of a text by whether some of it is left that had to be used
+pub answers_whole : {T : Type 0} (kinds : List Kind) (given_by : T → List (Option Datum)) (report : RunReport) (left : Bool)
+    (result : Result T ScanRowFault) → left ≡ false → Answers kinds given_by report result → TextAnswers kinds given_by report left result
+answers_whole kinds given_by report true result none answers = absurd cc
+answers_whole kinds given_by report false result none answers = answers
+
+pub answers_left : {T : Type 0} (kinds : List Kind) (given_by : T → List (Option Datum)) (report : RunReport) (left : Bool)
+    (result : Result T ScanRowFault) → left ≡ true → result ≡ Err (LeftOver report.used) → TextAnswers kinds given_by report left result
+answers_left kinds given_by report true result some is = is
+answers_left kinds given_by report false result some is = absurd cc
 
 -- a record that was held whole, consumed without a read
 pub row_scanned : {S T : Type 0} (to_come : S → Option (List ℕ)) (reads failures : S → ℕ) (N : ℕ) (kinds : List Kind)

@@ -1,6 +1,7 @@
 //! Rows, and the types that their slots may have.
 
 mod field;
+mod long_tuples;
 mod rows;
 mod tuples;
 

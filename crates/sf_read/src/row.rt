@@ -1,8 +1,8 @@
 //! Rows of what a source gives.
 ghost use Rattle.std.specs.Prelude.{◌≡◌, length, ◌≤◌, ◌<◌, ◌+◌, ◌⊎◌, ◌↔◌, ℕ, List, true, false, Some, IfErr, IfOk};
-ghost use Rattle.std.specs.Prelude.{IfSome, IsErrOf, IsNone, IsOk, IsSome, unwrap_or, if◌then◌else◌};
+ghost use Rattle.std.specs.Prelude.{IfSome, IsErrOf, IsNone, IsOk, IsSome, None, unwrap_or, if◌then◌else◌};
 ghost use Rattle.sf_base.specs.stores.Kept.{nothing_kept};
-ghost use Rattle.sf_format.specs.Proper.{AreKinded, IsAccepted, destinations_of, may_miss};
+ghost use Rattle.sf_format.specs.Proper.{IsAccepted, destinations_of};
 ghost use Rattle.sf_format.specs.Widths.{width_sum};
 ghost use Rattle.sf_run.specs.Limits.{RunTold};
 ghost use Rattle.sf_run.specs.Memory.{capacity_of};
@@ -13,10 +13,12 @@ ghost use Rattle.sf_read.specs.source.Ahead.{input_of};
 ghost use Rattle.sf_read.specs.source.Counts.{counted_on};
 ghost use Rattle.sf_read.specs.Reads.{WaitedFor};
 ghost use Rattle.sf_read.specs.field.Rows.{AreGivenAs, present, slots_by};
-ghost use Rattle.sf_read.specs.RowScans.{Answers, HasShape, IsOfFew, RowScan, is_run};
+ghost use Rattle.sf_read.specs.RowScans.{Answers, HasShape, IsOfFew, RowScan, difference_of, is_run};
 ghost use Rattle.sf_read.specs.Scan.{Scan, is_fault};
+ghost use Rattle.sf_read.specs.Shapes.{IsDifference};
 
 use crate::field::{Row, RowFault};
+use crate::shape::{ShapeFault, check_shape};
 use crate::source::{Lookahead, Source};
 use crate::stream::held_into;
 use crate::{fscan, fscan_over};
@@ -34,12 +36,17 @@ pub(crate) const FEW_NUMBERS: usize = 8;
 #[derive(Clone, Copy, Debug, PartialEq, Eq)]
 pub enum ScanRowFault {
     /// The slots of the row and their kinds are not the destinations of the format and theirs, or one of these may be
-    /// missing and not so in the row.
-    ShapeDiffers,
+    /// missing and not so in the row: how they differ.
+    ShapeDiffers(ShapeFault),
     /// The run was not started.
     Start(StartFault),
     /// The run didn't end as Done.
     Failed(Outcome),
+    /// The run is Done and leaves bytes of a text that it had to use whole.
+    LeftOver {
+        /// How many bytes the run used.
+        at: u32,
+    },
     /// Memory for the row was refused.
     NoMemory,
 }
@@ -53,55 +60,16 @@ impl fmt::Display for ScanRowFault {
 
     fn fmt<W: fmt::Write>(&self, f: &mut fmt::Formatter<W>) -> fmt::Result {
         match *self {
-            ScanRowFault::ShapeDiffers => {
-                write!(
-                    f,
-                    "the kinds of the row aren't those of the format's destinations"
-                )
-            }
+            ScanRowFault::ShapeDiffers(by) => write!(f, "{by}"),
             ScanRowFault::Start(fault) => write!(f, "{fault}"),
             ScanRowFault::Failed(outcome) => write!(f, "{outcome}"),
+            ScanRowFault::LeftOver { at } => write!(f, "left over at {at}"),
             ScanRowFault::NoMemory => write!(f, "out of memory"),
         }
     }
 }
 
 impl Error for ScanRowFault {}
-
-/// Whether the row may be without a value in each slot that may be missing.
-#[inline(never)]
-fn takes_missing<T: Row>(format: &ScanFormat) -> bool
-    ensures { (result ≡ true) ↔ ((slot : ℕ) → may_miss slot format.now ≡ true → T.optional slot ≡ true) }
-{
-    for before in 0..format.destinations() {
-        if format.may_miss(before + 1) && !T::may_miss(before + 1) {
-            return false;
-        }
-    }
-    true
-}
-
-/// Whether the slots of the row and their kinds are the destinations of the format and theirs, and the row may be
-/// without a value in each that may be missing.
-pub fn has_shape<T: Row>(format: &ScanFormat) -> bool
-    ensures same { (result ≡ true) ↔ HasShape T.kinds T.optional format.now }
-    ensures kinded { AreKinded format.now }
-    ensures accepted { IsAccepted format.now }
-{
-    let count = format.destinations();
-    if T::slots() != count {
-        return false;
-    }
-    for before in 0..count {
-        if T::shape(before + 1) != format.kind(before + 1) {
-            return false;
-        }
-    }
-    if format.has_optional() {
-        return takes_missing::<T>(format);
-    }
-    true
-}
 
 /// The row of a report, where that is Done.
 pub(crate) fn row_of<T: Row, K: Store>(
@@ -189,6 +157,7 @@ fn row_held_into<T: Row, K: Store, S: Source, const N: usize>(
     ensures run { IfSome result (λ row. RowScan S.to_come S.reads S.failures N T.kinds
         (slots_by T.given T.listed) format.now limit from.old from.new row) }
     ensures is_run { IfSome result (λ row. is_run row ≡ true) }
+    ensures shape { IfSome result (λ row. difference_of row ≡ None) }
     ensures listed { IfSome result (λ row. IfOk row (λ made. T.listed made
         ≡ present (slots_by T.given T.listed made))) }
     ensures answers { IsDoneWithin format.now limit from.old.held (capacity_of (K.kept store.old)) → IsSome result }
@@ -220,6 +189,7 @@ fn row_held<T: Row, S: Source, const N: usize>(
     ensures run { IfSome result (λ row. RowScan S.to_come S.reads S.failures N T.kinds
         (slots_by T.given T.listed) format.now limit from.old from.new row) }
     ensures is_run { IfSome result (λ row. is_run row ≡ true) }
+    ensures shape { IfSome result (λ row. difference_of row ≡ None) }
     ensures listed { IfSome result (λ row. IfOk row (λ made. T.listed made
         ≡ present (slots_by T.given T.listed made))) }
     ensures no_read { from.new.source ≡ from.old.source }
@@ -246,6 +216,7 @@ fn row_of_few<T: Row, S: Source, const N: usize>(
     ensures run { IfSome result (λ row. RowScan S.to_come S.reads S.failures N T.kinds
         (slots_by T.given T.listed) format.now limit from.old from.new row) }
     ensures is_run { IfSome result (λ row. is_run row ≡ true) }
+    ensures shape { IfSome result (λ row. difference_of row ≡ None) }
     ensures listed { IfSome result (λ row. IfOk row (λ made. T.listed made
         ≡ present (slots_by T.given T.listed made))) }
     ensures limit { IsSome result → limit ≤ 2147483647 }
@@ -276,7 +247,7 @@ fn row_by_scan<T: Row, S: Source, const N: usize>(
 ) -> Result<T, ScanRowFault>
     requires accepted { IsAccepted format.now }
     requires shape { HasShape T.kinds T.optional format.now }
-    ensures shape { IsErrOf result ScanRowFault.ShapeDiffers → ⊥ }
+    ensures shape { difference_of result ≡ None }
     ensures limit { IsErrOf result (ScanRowFault.Start StartFault.BadLimit) ↔ (2147483647 < limit) }
     ensures start { (fault : StartFault) → IsErrOf result (ScanRowFault.Start fault)
         → (fault ≡ StartFault.BadLimit) ⊎ (fault ≡ StartFault.NoMemory) }
@@ -312,7 +283,7 @@ fn row_over<T: Row, S: Source, const N: usize>(
 ) -> Result<T, ScanRowFault>
     requires accepted { IsAccepted format.now }
     requires shape { HasShape T.kinds T.optional format.now }
-    ensures shape { IsErrOf result ScanRowFault.ShapeDiffers → ⊥ }
+    ensures shape { difference_of result ≡ None }
     ensures limit { IsErrOf result (ScanRowFault.Start StartFault.BadLimit) ↔ (2147483647 < limit) }
     ensures start { (fault : StartFault) → IsErrOf result (ScanRowFault.Start fault)
         → (fault ≡ StartFault.BadLimit) ⊎ (fault ≡ StartFault.NoMemory) }
@@ -345,10 +316,10 @@ fn row_over<T: Row, S: Source, const N: usize>(
 /// Scans as `fscan` does (C11 7.21.6.2), and makes a row of the values.
 ///
 /// Refuses with ShapeDiffers where the slots of the row and their kinds are not the destinations of the format and
-/// theirs, or one of these may be missing; then with Start where `fscan` refuses; nothing was read then. A run that
-/// doesn't end as Done is reported by Failed, and its bytes are consumed. Last comes NoMemory, where memory for the row
-/// was refused; its bytes are consumed too. The numbers of a format that stores at most eight, and no texts, are kept
-/// without memory where the record is held whole.
+/// theirs, or one of these may be missing and not so in the row: it says how they differ first. Then it refuses with
+/// Start where `fscan` refuses; nothing was read then. A run that doesn't end as Done is reported by Failed, and its
+/// bytes are consumed. Last comes NoMemory, where memory for the row was refused; its bytes are consumed too. The
+/// numbers of a format that stores at most eight, and no texts, are kept without memory where the record is held whole.
 ///
 /// At the end of the input a format with a `?` is Done, where each of its items may be missing: the row has no value
 /// then. So with a `?` loop by `sf_loops::Records`, which ends there.
@@ -358,7 +329,8 @@ pub fn scan_row<T: Row, S: Source, const N: usize>(
     format: &ScanFormat,
     limit: u32,
 ) -> Result<T, ScanRowFault>
-    ensures shape { IsErrOf result ScanRowFault.ShapeDiffers ↔ (HasShape T.kinds T.optional format.now → ⊥) }
+    ensures shape { IsSome (difference_of result) ↔ (HasShape T.kinds T.optional format.now → ⊥) }
+    ensures differs { IfSome (difference_of result) (IsDifference T.kinds T.optional format.now) }
     ensures limit { IsErrOf result (ScanRowFault.Start StartFault.BadLimit) ↔
         (HasShape T.kinds T.optional format.now × (2147483647 < limit)) }
     ensures start { (fault : StartFault) → IsErrOf result (ScanRowFault.Start fault)
@@ -372,8 +344,8 @@ pub fn scan_row<T: Row, S: Source, const N: usize>(
     ensures few { IsOfFew format.now → IsDoneWithin format.now limit from.old.held 0
         → IsErrOf result (ScanRowFault.Start StartFault.NoMemory) → ⊥ }
 {
-    if !has_shape::<T>(format) {
-        return Err(ScanRowFault::ShapeDiffers);
+    if let Err(by) = check_shape::<T>(format) {
+        return Err(ScanRowFault::ShapeDiffers(by));
     }
     if let Some(row) = row_of_few(alloc, from, format, limit) {
         return row;
@@ -391,7 +363,8 @@ pub fn scan_row_over<T: Row, S: Source, const N: usize>(
     format: &ScanFormat,
     limit: u32,
 ) -> Result<T, ScanRowFault>
-    ensures shape { IsErrOf result ScanRowFault.ShapeDiffers ↔ (HasShape T.kinds T.optional format.now → ⊥) }
+    ensures shape { IsSome (difference_of result) ↔ (HasShape T.kinds T.optional format.now → ⊥) }
+    ensures differs { IfSome (difference_of result) (IsDifference T.kinds T.optional format.now) }
     ensures limit { IsErrOf result (ScanRowFault.Start StartFault.BadLimit) ↔
         (HasShape T.kinds T.optional format.now × (2147483647 < limit)) }
     ensures start { (fault : StartFault) → IsErrOf result (ScanRowFault.Start fault)
@@ -408,8 +381,8 @@ pub fn scan_row_over<T: Row, S: Source, const N: usize>(
     ensures as_much { is_run result ≡ true → IfSome store.old
         (λ old. IfSome store.new (λ s. capacity_of old ≤ capacity_of s)) }
 {
-    if !has_shape::<T>(format) {
-        return Err(ScanRowFault::ShapeDiffers);
+    if let Err(by) = check_shape::<T>(format) {
+        return Err(ScanRowFault::ShapeDiffers(by));
     }
     row_over(alloc, store, from, format, limit)
 }

@@ -301,6 +301,7 @@ pub(crate) fn held_into<K: Store, S: Source, const N: usize>(
 /// It answers wherever the record is Done before a byte of what is held, or of the limit, is lacking, and the store has
 /// room for its texts. Where it answers None nothing was consumed, and the store may keep something; `fscan_over` with
 /// that store has the result of the record.
+#[inline(always)]
 pub fn fscan_held<S: Source, const N: usize>(
     store: &mut HeapStore,
     from: &mut Lookahead<S, N>,

@@ -1,6 +1,9 @@
 //! Faults as errors: `?` makes an `anyhow::Error` of each, with its text.
+use sf_base::Kind;
 use sf_format::{Profile, ScanFormat};
-use sf_read::{Lookahead, ReadStep, RowFault, ScanRowFault, ScriptSource, SourceFault, scan_row};
+use sf_read::{
+    Lookahead, ReadStep, RowFault, ScanRowFault, ScriptSource, ShapeFault, SourceFault, scan_row,
+};
 use sf_rows::{Named, is_error, says};
 use sf_run::{Ending, Outcome, StartFault, Status};
 use std::alloc::Global;
@@ -66,11 +69,24 @@ fn faults_of_runs(rt: HostRuntime) -> Result<(), Fail> {
 }
 
 /// Why there is no row of a run, and the text.
-static FAULTS: [(ScanRowFault, &str); 3] = [
+static FAULTS: [(ScanRowFault, &str); 6] = [
     (
-        ScanRowFault::ShapeDiffers,
-        "the kinds of the row aren't those of the format's destinations",
+        ScanRowFault::ShapeDiffers(ShapeFault::Kinds {
+            slot: 2,
+            format: Kind::I32,
+            row: Kind::U32,
+        }),
+        "slot 2: the format gives an i32, the row takes a u32",
     ),
+    (
+        ScanRowFault::ShapeDiffers(ShapeFault::Count { format: 2, row: 3 }),
+        "values: the format gives 2, the row takes 3",
+    ),
+    (
+        ScanRowFault::ShapeDiffers(ShapeFault::Missing { slot: 12 }),
+        "slot 12: the format may leave it without a value, the row takes no Option",
+    ),
+    (ScanRowFault::LeftOver { at: 10 }, "left over at 10"),
     (
         ScanRowFault::Start(StartFault::BadLimit),
         "limit above 2147483647",
@@ -115,7 +131,7 @@ static REFUSED: [(&[u8], &[u8], u32, &str); 5] = [
         b"%d",
         b"1 a",
         8,
-        "the kinds of the row aren't those of the format's destinations",
+        "values: the format gives 1, the row takes 2",
     ),
     (b"%d %s", b"1 a", 2147483648, "limit above 2147483647"),
     (

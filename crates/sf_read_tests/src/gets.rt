@@ -21,19 +21,22 @@ fn are_of_the_kind(report: &Report<'_, HeapStore>) -> Result<(), Fail> {
         report.get::<i32>(3),
         report.get::<i64>(4),
     );
-    is(&signed, &(Some(-1), Some(-2), Some(0), Some(-4)), &"signed")?;
     let unsigned = (
         report.get::<u8>(5),
         report.get::<u16>(6),
         report.get::<u32>(7),
         report.get::<u64>(8),
     );
+    let wanted = (
+        (Some(-1), Some(-2), Some(0), Some(-4)),
+        (Some(5), Some(6), Some(7), Some(8)),
+        Some(b"nine".as_slice()),
+    );
     is(
-        &unsigned,
-        &(Some(5), Some(6), Some(7), Some(8)),
-        &"unsigned",
-    )?;
-    is(&report.get::<&[u8]>(9), &Some(b"nine".as_slice()), &"text")
+        &(signed, unsigned, report.get::<&[u8]>(9)),
+        &wanted,
+        &"the kinds",
+    )
 }
 
 fn are_of_another_kind(report: &Report<'_, HeapStore>) -> Result<(), Fail> {
@@ -42,14 +45,17 @@ fn are_of_another_kind(report: &Report<'_, HeapStore>) -> Result<(), Fail> {
         report.get::<i64>(3),
         report.get::<&[u8]>(3),
     );
-    is(&of_a_number, &(None, None, None), &"no i32")?;
     // A text, no slot, and no such slot.
     let numbers = [
         report.get::<i32>(9),
         report.get::<i32>(0),
         report.get::<i32>(10),
     ];
-    is(&numbers, &[None; 3], &"no number")
+    is(
+        &(of_a_number, numbers),
+        &((None, None, None), [None; 3]),
+        &"other kinds",
+    )
 }
 
 /// The slots are given as types of their kinds, and as no others.
@@ -60,25 +66,39 @@ fn is_given(scanned: &Scanned<HeapStore>) -> Result<(), Fail> {
     is(&scanned.outcome(), &report.outcome(), &"the outcome")
 }
 
-/// Floats by the types of Rust; expected values are the decimals as a compiler reads them.
-fn floats_are_given(alloc: Global) -> Result<(), Fail> {
-    let format = ScanFormat::parse(alloc, Profile::Three, b"%f %lf %d %lf")?;
-    let scanned = sscan(alloc, b"0.5 -2.25 7 nan", &format, LIMIT)?;
-    let report = scanned.report();
-    is(&report.get::<f32>(1), &Some(0.5), &"a float of 32 bits")?;
-    is(&report.get::<f64>(2), &Some(-2.25), &"a float of 64 bits")?;
+/// Whether the slot is given a NaN, if it is given a float of 64 bits.
+fn is_nan(report: &Report<'_, HeapStore>, slot: u8) -> Option<bool> {
+    match report.get::<f64>(slot) {
+        Some(float) => Some(float.is_nan()),
+        None => None,
+    }
+}
+
+/// The floats, and no values of other kinds.
+fn are_floats(report: &Report<'_, HeapStore>) -> Result<(), Fail> {
+    let floats = (
+        report.get::<f32>(1),
+        report.get::<f64>(2),
+        is_nan(report, 4),
+    );
     let of_another_kind = (
         report.get::<f64>(1),
         report.get::<f32>(2),
         report.get::<f64>(3),
         report.get::<i32>(2),
     );
-    is(&of_another_kind, &(None, None, None, None), &"another kind")?;
-    is(
-        &report.get::<f64>(4).map(|x| x.is_nan()),
-        &Some(true),
-        &"a NaN",
-    )
+    let wanted = (
+        (Some(0.5), Some(-2.25), Some(true)),
+        (None, None, None, None),
+    );
+    is(&(floats, of_another_kind), &wanted, &"floats")
+}
+
+/// Floats by the types of Rust; expected values are the decimals as a compiler reads them.
+fn floats_are_given(alloc: Global) -> Result<(), Fail> {
+    let format = ScanFormat::parse(alloc, Profile::Three, b"%f %lf %d %lf")?;
+    let scanned = sscan(alloc, b"0.5 -2.25 7 nan", &format, LIMIT)?;
+    are_floats(&scanned.report())
 }
 
 #[test]

@@ -35,8 +35,11 @@ fn next_over(
 /// The store and the source are as the record says.
 fn is_record(store: &HeapStore, from: &Blocks<'_, 16>, record: &Record) -> Result<(), Fail> {
     let (_, first, second, reads) = record;
-    is(&store.value(1), &Some(Value::I32(*first)), record)?;
-    is(&store.value(2), &Some(Value::I32(*second)), record)?;
+    is(
+        &[store.value(1), store.value(2)],
+        &[Some(Value::I32(*first)), Some(Value::I32(*second))],
+        record,
+    )?;
     is(&from.source().reads(), reads, record)
 }
 

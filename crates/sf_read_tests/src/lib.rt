@@ -22,3 +22,5 @@ mod stores;
 #[cfg(test)]
 mod text_rows;
 mod tuples;
+#[cfg(test)]
+mod whole_texts;

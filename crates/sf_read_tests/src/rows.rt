@@ -4,14 +4,16 @@ ghost use Rattle.std.specs.Prelude.{◌≤◌};
 use arrayvec::ArrayVec;
 use sf_base::{Kind, Store, Value};
 use sf_format::{Profile, ScanFormat};
-use sf_read::{Lookahead, ReadStep, Row, RowFault, ScanRowFault, ScriptSource, scan_row};
+use sf_read::{
+    Lookahead, ReadStep, Row, RowFault, ScanRowFault, ScriptSource, ShapeFault, scan_row,
+};
 use sf_rows::{LIMIT, Named, is};
 use sf_run::{Ending, Outcome, Report, StartFault, Status};
 use std::alloc::Global;
 use std::test::Fail;
 
 /// A row of one number, which is always refused.
-#[derive(Debug, Drop)]
+#[derive(Drop)]
 struct Refused {
     number: i32,
 }
@@ -82,7 +84,29 @@ const READ_FAULT: Found<'static> = Err(ScanRowFault::Failed(Outcome {
     met: Some(Ending::Fault),
 }));
 
-const SHAPE_DIFFERS: Found<'static> = Err(ScanRowFault::ShapeDiffers);
+/// The first slot is given a text in place of a number.
+const TEXT_FIRST: Found<'static> = Err(ScanRowFault::ShapeDiffers(ShapeFault::Kinds {
+    slot: 1,
+    format: Kind::Text,
+    row: Kind::I32,
+}));
+
+/// The first slot is given a number without a sign.
+const UNSIGNED_FIRST: Found<'static> = Err(ScanRowFault::ShapeDiffers(ShapeFault::Kinds {
+    slot: 1,
+    format: Kind::U32,
+    row: Kind::I32,
+}));
+
+const ONE_SLOT: Found<'static> = Err(ScanRowFault::ShapeDiffers(ShapeFault::Count {
+    format: 1,
+    row: 2,
+}));
+
+const THREE_SLOTS: Found<'static> = Err(ScanRowFault::ShapeDiffers(ShapeFault::Count {
+    format: 3,
+    row: 2,
+}));
 
 const BAD_LIMIT: Found<'static> = Err(ScanRowFault::Start(StartFault::BadLimit));
 
@@ -91,11 +115,11 @@ const BAD_LIMIT: Found<'static> = Err(ScanRowFault::Start(StartFault::BadLimit))
 static REFUSED: Session = Session {
     steps: &[ReadStep::Give(b"up 7")],
     calls: &[
-        (b"%s %d", LIMIT, SHAPE_DIFFERS, b"", 0),
-        (b"%d", LIMIT, SHAPE_DIFFERS, b"", 0),
-        (b"%d %s %d", LIMIT, SHAPE_DIFFERS, b"", 0),
-        (b"%u %s", LIMIT, SHAPE_DIFFERS, b"", 0),
-        (b"%s %d", 2147483648, SHAPE_DIFFERS, b"", 0),
+        (b"%s %d", LIMIT, TEXT_FIRST, b"", 0),
+        (b"%d", LIMIT, ONE_SLOT, b"", 0),
+        (b"%d %s %d", LIMIT, THREE_SLOTS, b"", 0),
+        (b"%u %s", LIMIT, UNSIGNED_FIRST, b"", 0),
+        (b"%s %d", 2147483648, TEXT_FIRST, b"", 0),
         (b"%d %s", 2147483648, BAD_LIMIT, b"", 0),
         (b"%2$s %1$d", LIMIT, Ok((7, b"up")), b"", 2),
     ],

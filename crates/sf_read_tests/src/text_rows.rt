@@ -1,6 +1,7 @@
 //! Rows of whole texts.
+use sf_base::Kind;
 use sf_format::{Profile, ScanFormat};
-use sf_read::{Row, ScanRowFault, sscan_row};
+use sf_read::{Row, ScanRowFault, ShapeFault, sscan_row};
 use sf_rows::{LIMIT, is};
 use sf_run::{Ending, Outcome, StartFault, Status};
 use std::alloc::Global;
@@ -78,31 +79,58 @@ fn row_of<T: Row>(
 #[test]
 fn rows_with_texts(rt: HostRuntime) -> Result<(), Fail> {
     let row: (i32, Vec<u8>) = row_of(rt.alloc(), b"%d %s", b"-7 up and down", LIMIT)??;
-    is(&row.0, &-7, b"the number")?;
-    is(&row.1.as_slice(), &b"up".as_slice(), b"the text")?;
+    is(
+        &(row.0, row.1.as_slice()),
+        &(-7, b"up".as_slice()),
+        b"a number and a text",
+    )
+}
+
+#[test]
+fn rows_of_six_numbers(rt: HostRuntime) -> Result<(), Fail> {
     let row: (u8, u16, u32, u64, i8, i16) = row_of(
         rt.alloc(),
         b"%hhu%hu%u%lu%hhd%hd",
         b"255 65535 4294967295 18446744073709551615 -128 -32768",
         LIMIT,
     )??;
-    is(
-        &row,
-        &(255, 65535, 4294967295, 18446744073709551615, -128, -32768),
-        b"six numbers",
-    )
+    let wanted = (255, 65535, 4294967295, 18446744073709551615, -128, -32768);
+    is(&row, &wanted, b"six numbers")
 }
+
+/// A format, a text, a limit, and why there is no row of one number.
+type Refused = (&'static [u8], &'static [u8], u32, ScanRowFault);
+
+static REFUSED: [Refused; 2] = [
+    (
+        b"%d",
+        b"1",
+        2147483648,
+        ScanRowFault::Start(StartFault::BadLimit),
+    ),
+    (
+        b"%ld",
+        b"1",
+        LIMIT,
+        ScanRowFault::ShapeDiffers(ShapeFault::Kinds {
+            slot: 1,
+            format: Kind::I64,
+            row: Kind::I32,
+        }),
+    ),
+];
 
 #[test]
 fn rows_that_are_refused(rt: HostRuntime) -> Result<(), Fail> {
-    let row = row_of::<(i32,)>(rt.alloc(), b"%d", b"1", 2147483648)?;
-    is(
-        &row.err(),
-        &Some(ScanRowFault::Start(StartFault::BadLimit)),
-        b"limit",
-    )?;
-    let row = row_of::<(i32,)>(rt.alloc(), b"%ld", b"1", LIMIT)?;
-    is(&row.err(), &Some(ScanRowFault::ShapeDiffers), b"kind")?;
+    for (format, text, limit, fault) in &REFUSED {
+        let row = row_of::<(i32,)>(rt.alloc(), format, text, *limit)?;
+        is(&row.err(), &Some(*fault), format)?;
+    }
+    Ok(())
+}
+
+#[test]
+fn a_limit_within_the_number(rt: HostRuntime) -> Result<(), Fail> {
     let row = row_of::<(i32,)>(rt.alloc(), b"%d", b"123", 2)?;
-    is(&row.is_err(), &true, b"a limit within the number")
+    is(&row.is_err(), &true, b"%d")
 }

@@ -1,7 +1,9 @@
 //! Rows that are tuples, of one to six fields.
-use sf_base::Value;
+use sf_base::{Kind, Value};
 use sf_format::{Profile, ScanFormat};
-use sf_read::{GivenRow, Lookahead, Row, ScanRowFault, SliceSource, scan_row, sscan_row};
+use sf_read::{
+    GivenRow, Lookahead, Row, ScanRowFault, ShapeFault, SliceSource, scan_row, sscan_row,
+};
 use sf_rows::{LIMIT, is};
 use std::alloc::Global;
 use std::test::Fail;
@@ -75,24 +77,70 @@ fn has_row<T: Row + Drop>(alloc: Global, fields: &Fields) -> Result<(), Fail> {
 }
 
 #[test]
-fn up_to_six_fields(rt: HostRuntime) -> Result<(), Fail> {
-    let [one, two, three, four, five, six] = &TUPLES;
-    has_row::<(u64,)>(rt.alloc(), one)?;
-    has_row::<(i32, Vec<u8>)>(rt.alloc(), two)?;
-    has_row::<(Vec<u8>, u16, Vec<u8>)>(rt.alloc(), three)?;
-    has_row::<(i8, i8, i8, i8)>(rt.alloc(), four)?;
-    has_row::<(u8, Vec<u8>, u8, Vec<u8>, u8)>(rt.alloc(), five)?;
-    has_row::<(i16, i64, u32, i32, u64, Vec<u8>)>(rt.alloc(), six)
+fn one_field(rt: HostRuntime) -> Result<(), Fail> {
+    has_row::<(u64,)>(rt.alloc(), &TUPLES[0])
 }
 
-/// Formats whose destinations are not a number and a text.
-static OTHERS: [&[u8]; 5] = [b"%d", b"%s %d", b"%d %d", b"%ld %s", b"%d %s %d"];
+#[test]
+fn two_fields(rt: HostRuntime) -> Result<(), Fail> {
+    has_row::<(i32, Vec<u8>)>(rt.alloc(), &TUPLES[1])
+}
+
+#[test]
+fn three_fields(rt: HostRuntime) -> Result<(), Fail> {
+    has_row::<(Vec<u8>, u16, Vec<u8>)>(rt.alloc(), &TUPLES[2])
+}
+
+#[test]
+fn four_fields(rt: HostRuntime) -> Result<(), Fail> {
+    has_row::<(i8, i8, i8, i8)>(rt.alloc(), &TUPLES[3])
+}
+
+#[test]
+fn five_fields(rt: HostRuntime) -> Result<(), Fail> {
+    has_row::<(u8, Vec<u8>, u8, Vec<u8>, u8)>(rt.alloc(), &TUPLES[4])
+}
+
+#[test]
+fn six_fields(rt: HostRuntime) -> Result<(), Fail> {
+    has_row::<(i16, i64, u32, i32, u64, Vec<u8>)>(rt.alloc(), &TUPLES[5])
+}
+
+/// Formats whose destinations are not a number and a text, and how.
+static OTHERS: [(&[u8], ShapeFault); 5] = [
+    (b"%d", ShapeFault::Count { format: 1, row: 2 }),
+    (
+        b"%s %d",
+        ShapeFault::Kinds {
+            slot: 1,
+            format: Kind::Text,
+            row: Kind::I32,
+        },
+    ),
+    (
+        b"%d %d",
+        ShapeFault::Kinds {
+            slot: 2,
+            format: Kind::I32,
+            row: Kind::Text,
+        },
+    ),
+    (
+        b"%ld %s",
+        ShapeFault::Kinds {
+            slot: 1,
+            format: Kind::I64,
+            row: Kind::I32,
+        },
+    ),
+    (b"%d %s %d", ShapeFault::Count { format: 3, row: 2 }),
+];
 
 #[test]
 fn other_shapes(rt: HostRuntime) -> Result<(), Fail> {
-    for format in &OTHERS {
+    for (format, by) in &OTHERS {
         let found = row_of::<(i32, Vec<u8>)>(rt.alloc(), format, b"1 2 3")?;
-        is(&found.err(), &Some(ScanRowFault::ShapeDiffers), format)?;
+        is(&found.err(), &Some(ScanRowFault::ShapeDiffers(*by)), format)?;
     }
     Ok(())
 }
@@ -165,23 +213,43 @@ fn has_gaps<T: GivenRow + Drop>(alloc: Global, gaps: &Gaps) -> Result<(), Fail> 
 }
 
 #[test]
-fn missing_fields(rt: HostRuntime) -> Result<(), Fail> {
-    let [one, two, three, four, five, six] = &GAPS;
-    has_gaps::<(Option<i64>,)>(rt.alloc(), one)?;
-    has_gaps::<(Option<i32>, Vec<u8>)>(rt.alloc(), two)?;
-    has_gaps::<(Option<i32>, Option<i32>, Option<i32>)>(rt.alloc(), three)?;
-    has_gaps::<(Option<Vec<u8>>, Option<i32>, Option<Vec<u8>>, Option<u8>)>(rt.alloc(), four)?;
-    has_gaps::<(Option<u32>, u32, Option<u32>, u32, Option<Vec<u8>>)>(rt.alloc(), five)?;
-    has_gaps::<
-        (
-            Option<i32>,
-            Option<Vec<u8>>,
-            Option<i32>,
-            Option<i16>,
-            Option<u16>,
-            Option<u64>,
-        ),
-    >(rt.alloc(), six)
+fn one_gap(rt: HostRuntime) -> Result<(), Fail> {
+    has_gaps::<(Option<i64>,)>(rt.alloc(), &GAPS[0])
+}
+
+#[test]
+fn a_gap_before_a_text(rt: HostRuntime) -> Result<(), Fail> {
+    has_gaps::<(Option<i32>, Vec<u8>)>(rt.alloc(), &GAPS[1])
+}
+
+#[test]
+fn gaps_of_three(rt: HostRuntime) -> Result<(), Fail> {
+    has_gaps::<(Option<i32>, Option<i32>, Option<i32>)>(rt.alloc(), &GAPS[2])
+}
+
+#[test]
+fn gaps_of_four(rt: HostRuntime) -> Result<(), Fail> {
+    has_gaps::<(Option<Vec<u8>>, Option<i32>, Option<Vec<u8>>, Option<u8>)>(rt.alloc(), &GAPS[3])
+}
+
+#[test]
+fn gaps_of_five(rt: HostRuntime) -> Result<(), Fail> {
+    has_gaps::<(Option<u32>, u32, Option<u32>, u32, Option<Vec<u8>>)>(rt.alloc(), &GAPS[4])
+}
+
+/// Six fields, of which one is missing.
+type Six = (
+    Option<i32>,
+    Option<Vec<u8>>,
+    Option<i32>,
+    Option<i16>,
+    Option<u16>,
+    Option<u64>,
+);
+
+#[test]
+fn gaps_of_six(rt: HostRuntime) -> Result<(), Fail> {
+    has_gaps::<Six>(rt.alloc(), &GAPS[5])
 }
 
 /// The values of a row that are there.
@@ -193,25 +261,37 @@ fn values_that_are_there(rt: HostRuntime) -> Result<(), Fail> {
         b"7;;8",
     )?;
     let row = read?;
-    is(&(row.0, row.1, row.2), &(Some(7), None, Some(8)), b"7;;8")?;
     let values: &[Value<'_>] = &[Value::I32(7), Value::U8(8)];
-    is(&row.with_values().as_slice(), &values, b"7;;8")
+    let listed = row.with_values();
+    let found = ((row.0, row.1, row.2), listed.as_slice());
+    is(&found, &((Some(7), None, Some(8)), values), b"7;;8")
 }
 
-/// A type that is no Option doesn't take a slot that may be missing; a conversion that assigns no slot may be.
+/// Whether the row has another shape than the format.
+fn differs(row: Result<(Option<i32>, u32), ScanRowFault>) -> bool {
+    matches!(row, Err(ScanRowFault::ShapeDiffers(_)))
+}
+
+/// A format, and whether a row of an Option and of a number has another shape.
+static SHAPES: [(&[u8], bool); 3] = [(b"%?d%u", false), (b"%d%?u", true), (b"%?d%d", true)];
+
+/// A type that is no Option doesn't take a slot that may be missing.
 #[test]
 fn slots_that_need_a_value(rt: HostRuntime) -> Result<(), Fail> {
-    for format in [b"%?d%u", b"%d%?u", b"%?d%d"] {
-        let (read, scanned) = gap_row::<(Option<i32>, u32)>(rt.alloc(), format, b"1 2")?;
-        for found in [read, scanned] {
-            let differs = format != b"%?d%u";
-            is(
-                &(found.err() == Some(ScanRowFault::ShapeDiffers)),
-                &differs,
-                format,
-            )?;
-        }
+    for (format, wanted) in &SHAPES {
+        let (read, scanned) = gap_row(rt.alloc(), format, b"1 2")?;
+        is(
+            &[differs(read), differs(scanned)],
+            &[*wanted, *wanted],
+            format,
+        )?;
     }
+    Ok(())
+}
+
+/// A conversion that assigns no slot may be missing.
+#[test]
+fn a_slot_after_a_gap(rt: HostRuntime) -> Result<(), Fail> {
     let (read, _scanned) = gap_row::<(u32,)>(rt.alloc(), b"%*?d;%u", b";2")?;
-    is(&read?.0, &2, b";2")
+    is(&read, &Ok((2,)), b";2")
 }

@@ -1,5 +1,6 @@
 pub mod Choosing
 pub mod Coming
+pub mod Copied
 pub mod Holding
 pub mod Looping
 pub mod OneTurn

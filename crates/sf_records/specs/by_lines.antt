@@ -1,4 +1,5 @@
 pub mod Coming
+pub mod Copied
 pub mod Judging
 pub mod Laws
 pub mod Loops

@@ -1,8 +1,10 @@
 //! Texts and floats that are written in place, from a place on.
+ghost use Rattle.std.specs.Prelude.{◌≤◌, ◌<◌, length};
 
 use crate::copies::is;
 use sf_base::Real;
 use sf_forms::{OutputForm, write_front_between, write_real};
+use std::process::Abort;
 
 /// Of a front of a piece, so many bytes, what is written.
 type Between = (&'static [u8], usize, &'static [u8]);
@@ -32,25 +34,33 @@ static BETWEEN: [Between; 14] = [
     ),
 ];
 
+/// What is written of so many bytes of a piece, after a byte.
+fn between<'b>(piece: &[u8], count: usize, buf: &'b mut [u8]) -> Option<&'b [u8]>
+    requires { 22 ≤ length buf.old }
+{
+    let end = write_front_between(piece, count.min(piece.len()), buf, 1)?;
+    buf.get(..end)
+}
+
 #[test]
 fn a_front_is_written_between_quotes(rt: HostRuntime) {
-    for &(piece, count, wanted) in &BETWEEN {
+    for (piece, count, wanted) in &BETWEEN {
         let mut buf = [b'.'; 64];
-        let end = write_front_between(piece, count.min(piece.len()), &mut buf, 1);
-        is(&rt, &end, &Some(wanted.len()), &(piece, count));
-        if let Some(end) = end {
-            is(&rt, &&buf[..end], &wanted, &(piece, count));
-        }
+        is(
+            &rt,
+            &between(piece, *count, &mut buf),
+            &Some(*wanted),
+            piece,
+        );
     }
-    // (there is room for the bytes, and not for as many more as are asked for)
+}
+
+/// There is room for the bytes, and not for as many more as are asked for.
+#[test]
+fn there_is_no_room_for_a_front(rt: HostRuntime) {
     let mut buf = [b'.'; 40];
     let long = b"a text of forty bytes, and there is not so much room";
-    is(
-        &rt,
-        &write_front_between(long, 40, &mut buf, 1),
-        &None,
-        &"no room",
-    );
+    is(&rt, &between(long, 40, &mut buf), &None, &"no room");
 }
 
 /// Floats by their patterns, and their texts in two forms.
@@ -62,16 +72,24 @@ static REALS: [(Real, &[u8], &[u8]); 5] = [
     (Real::F32(0xff80_0000), b".-inf", b".\"-inf\""),
 ];
 
+/// What is written of a float, after a byte.
+fn real_in(form: OutputForm, real: Real, buf: &mut [u8]) -> Option<&[u8]>
+    requires { 1 < length buf.old }
+{
+    let end = write_real(form, real, buf, 1)?;
+    buf.get(..end)
+}
+
+/// The float is written so in the form.
+fn is_real(rt: &impl Abort, form: OutputForm, real: Real, wanted: &[u8]) {
+    let mut buf = [b'.'; 64];
+    is(rt, &real_in(form, real, &mut buf), &Some(wanted), &real);
+}
+
 #[test]
 fn floats_are_written_in_two_forms(rt: HostRuntime) {
-    for &(real, plain, json) in &REALS {
-        for (form, wanted) in [(OutputForm::Plain, plain), (OutputForm::Json, json)] {
-            let mut buf = [b'.'; 64];
-            let end = write_real(form, real, &mut buf, 1);
-            is(&rt, &end, &Some(wanted.len()), &(real, form));
-            if let Some(end) = end {
-                is(&rt, &&buf[..end], &wanted, &(real, form));
-            }
-        }
+    for (real, plain, json) in &REALS {
+        is_real(&rt, OutputForm::Plain, *real, plain);
+        is_real(&rt, OutputForm::Json, *real, json);
     }
 }

@@ -1,27 +1,8 @@
 //! Faults as errors: `?` makes an `anyhow::Error` of each, with its text.
 use sf_records::{RecordFault, ToolFault};
+use sf_rows::is_error;
 use sf_run::{Outcome, Status};
-use std::alloc::Global;
-use std::error::Error;
 use std::test::Fail;
-
-/// The fault, handed on.
-fn handed_on<E: Error>(fault: E) -> anyhow::Result<()> {
-    Err::<(), E>(fault)?;
-    Ok(())
-}
-
-/// The fault is an error with this text.
-fn is_error<E: Error>(alloc: Global, fault: E, wanted: &str) -> Result<(), Fail> {
-    let Err(error) = handed_on(fault) else {
-        return Err(Fail::new(wanted));
-    };
-    let text = format!(in alloc; "{error}")?;
-    if text.as_str() != wanted {
-        return Err(Fail::new(wanted));
-    }
-    Ok(())
-}
 
 /// What the first run of `%d` over letters comes to.
 const NO_MATCH: Outcome = Outcome {

@@ -9,6 +9,7 @@ use sf_print::{ListSink, ScriptSink, WriteStep};
 use sf_read::{Lookahead, SliceSource, fscan_fixed};
 use sf_records::{FormWriter, OutputForm, RecordFault, push_record, run_scan_as};
 use sf_run::Report;
+use std::alloc::Global;
 use std::process::Abort;
 use std::test::Fail;
 
@@ -110,55 +111,65 @@ static ROWS: [Row; 8] = [
 ];
 
 /// The records of a text, read by blocks of N bytes, are written so in the form.
-fn are_written<const N: usize>(
+fn is_written<const N: usize>(
     rt: &(impl Abort + AllocGlobal),
-    row: &Row,
+    format: &ScanFormat,
+    text: &[u8],
     form: OutputForm,
     wanted: &[u8],
-) -> Result<(), Fail>
+)
     requires few { N ≤ 4096 }
     requires some { 1 ≤ N }
 {
-    let format = ScanFormat::parse(rt.alloc(), Profile::One, row.format.as_bytes())?;
-    let mut from = Lookahead::<SliceSource<'_>, N>::new(SliceSource::new(row.text));
+    let mut from = Lookahead::<SliceSource<'_>, N>::new(SliceSource::new(text));
     let mut out = ListSink::new(rt.alloc());
-    let end = run_scan_as(rt.alloc(), &mut from, &mut out, &format, form, LIMIT);
-    is(rt, &end.fault, &None, &(row.format, form));
-    is(rt, &out.bytes(), &wanted, &(row.format, form));
+    let end = run_scan_as(rt.alloc(), &mut from, &mut out, format, form, LIMIT);
+    is(rt, &end.fault, &None, &form);
+    is(rt, &out.bytes(), &wanted, &form);
+}
+
+/// The row's records are written in each form.
+fn are_written(rt: &(impl Abort + AllocGlobal), row: &Row) -> Result<(), Fail> {
+    let format = ScanFormat::parse(rt.alloc(), Profile::One, row.format.as_bytes())?;
+    for (form, wanted) in FORMS.iter().zip(&row.forms) {
+        is_written::<3>(rt, &format, row.text, *form, wanted);
+        is_written::<4096>(rt, &format, row.text, *form, wanted);
+    }
     Ok(())
 }
 
 #[test]
 fn rows(rt: HostRuntime) -> Result<(), Fail> {
     for row in &ROWS {
-        for place in 0..4usize {
-            are_written::<3>(&rt, row, FORMS[place], row.forms[place])?;
-            are_written::<4096>(&rt, row, FORMS[place], row.forms[place])?;
-        }
+        are_written(&rt, row)?;
     }
     Ok(())
+}
+
+/// So many letters, and quotes, as they are read.
+fn quotes_after(alloc: Global, len: usize) -> Result<Vec<u8>, Fail> {
+    let mut text = Vec::new(alloc);
+    text.resize(len, b'a')?;
+    text.extend_from_slice(b"\"\"\"\"\"\"\"\"\"\n")?;
+    Ok(text)
+}
+
+/// The same, as they are written.
+fn quotes_written(alloc: Global, len: usize) -> Result<Vec<u8>, Fail> {
+    let mut text = b"\"".to_vec(alloc)?;
+    text.resize(len.saturating_add(1), b'a')?;
+    text.extend_from_slice(b"\" \"\\\"\\\"\\\"\\\"\\\"\\\"\\\"\\\"\\\"\"\n")?;
+    Ok(text)
 }
 
 /// A text of quotes after a long text, around the length from which on a record isn't written in place.
 #[test]
 fn quotes_after_a_long_text(rt: HostRuntime) -> Result<(), Fail> {
     let format = ScanFormat::parse(rt.alloc(), Profile::One, b"%1100[a]%9[\"]%*1[\n]")?;
-    for len in 900..1040u16 {
-        let mut text = Vec::<u8>::new(rt.alloc());
-        let mut wanted = Vec::<u8>::new(rt.alloc());
-        wanted.push(b'"')?;
-        for _ in 0..len {
-            text.push(b'a')?;
-            wanted.push(b'a')?;
-        }
-        text.extend_from_slice(b"\"\"\"\"\"\"\"\"\"\n")?;
-        wanted.extend_from_slice(b"\" \"\\\"\\\"\\\"\\\"\\\"\\\"\\\"\\\"\\\"\"\n")?;
-        let mut from = Lookahead::<SliceSource<'_>, 64>::new(SliceSource::new(&text));
-        let mut out = ListSink::new(rt.alloc());
-        let form = OutputForm::Plain;
-        let end = run_scan_as(rt.alloc(), &mut from, &mut out, &format, form, LIMIT);
-        is(&rt, &end.fault, &None, &len);
-        is(&rt, &out.bytes(), &wanted.as_slice(), &len);
+    for len in 900..1040usize {
+        let text = quotes_after(rt.alloc(), len)?;
+        let wanted = quotes_written(rt.alloc(), len)?;
+        is_written::<64>(&rt, &format, &text, OutputForm::Plain, &wanted);
     }
     Ok(())
 }

@@ -15,6 +15,7 @@ mod errors;
 #[cfg(test)]
 mod forms;
 pub mod lines_again;
+pub mod lines_copied;
 #[cfg(test)]
 mod memory;
 pub mod named;

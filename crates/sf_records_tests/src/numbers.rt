@@ -1,6 +1,8 @@
 //! Copies of many random numbers of each kind and letter: what they come to is written by std.
 use crate::copies::Formats;
 use crate::random::{Records, before, next};
+use std::alloc::Global;
+use std::io;
 use std::io::Write;
 use std::test::Fail;
 
@@ -97,15 +99,25 @@ fn zeros(letter: Letter, state: u64) -> &'static str {
 }
 
 /// Appends the digits of a number, and what ends it.
-fn push_digits(text: &mut Vec<u8>, letter: Letter, magnitude: u64) -> Result<(), Fail> {
+fn push_digits(text: &mut Vec<u8>, letter: Letter, magnitude: u64) -> io::Result<()> {
     match letter {
-        Letter::Signed | Letter::Auto | Letter::Unsigned => write!(text, "{magnitude};")?,
-        Letter::Octal => write!(text, "{magnitude:o};")?,
-        Letter::Prefixed if magnitude > 0 => write!(text, "0x{magnitude:x};")?,
-        Letter::Hex | Letter::Prefixed => write!(text, "{magnitude:x};")?,
-        Letter::UpperHex => write!(text, "{magnitude:X};")?,
+        Letter::Signed | Letter::Auto | Letter::Unsigned => write!(text, "{magnitude};"),
+        Letter::Octal => write!(text, "{magnitude:o};"),
+        Letter::Prefixed if magnitude > 0 => write!(text, "0x{magnitude:x};"),
+        Letter::Hex | Letter::Prefixed => write!(text, "{magnitude:x};"),
+        Letter::UpperHex => write!(text, "{magnitude:X};"),
     }
-    Ok(())
+}
+
+/// The sign of a number, and as it may be written.
+fn signs(negative: bool, state: u64) -> (&'static str, &'static str) {
+    if negative {
+        ("-", "-")
+    } else if (state >> 47) % 4 == 1 {
+        ("", "+")
+    } else {
+        ("", "")
+    }
 }
 
 /// Appends a number as it may be written, and as it is copied.
@@ -114,32 +126,31 @@ fn push_number(records: &mut Records, row: &Row, state: u64) -> Result<(), Fail>
     let is_signed = matches!(letter, Letter::Signed | Letter::Auto);
     let negative = is_signed && (state >> 45) % 2 == 1;
     let magnitude = magnitude(state, most).saturating_add(u64::from(negative));
-    let minus = if negative { "-" } else { "" };
-    let sign = if !negative && (state >> 47) % 4 == 1 {
-        "+"
-    } else {
-        minus
-    };
-    let (text, copy) = (&mut records.text, &mut records.copy);
-    text.extend_from_slice(before(state).as_bytes())?;
-    text.extend_from_slice(sign.as_bytes())?;
-    text.extend_from_slice(zeros(letter, state).as_bytes())?;
-    push_digits(text, letter, magnitude)?;
-    copy.extend_from_slice(minus.as_bytes())?;
-    push_digits(copy, letter, magnitude)
+    let (minus, sign) = signs(negative, state);
+    for part in [before(state), sign, zeros(letter, state)] {
+        records.text.extend_from_slice(part.as_bytes())?;
+    }
+    push_digits(&mut records.text, letter, magnitude)?;
+    records.copy.extend_from_slice(minus.as_bytes())?;
+    Ok(push_digits(&mut records.copy, letter, magnitude)?)
+}
+
+/// Many numbers of the row.
+fn numbers(alloc: Global, row: &Row) -> Result<Records, Fail> {
+    let mut records = Records::new(alloc);
+    let mut state = 11;
+    for _ in 0..100000 {
+        state = next(state);
+        push_number(&mut records, row, state)?;
+    }
+    records.count = 100000;
+    Ok(records)
 }
 
 #[test]
 fn many_numbers(rt: HostRuntime) -> Result<(), Fail> {
     for row in &ROWS {
-        let mut records = Records::new(rt.alloc());
-        let mut state = 11;
-        for _ in 0..100000 {
-            state = next(state);
-            push_number(&mut records, row, state)?;
-        }
-        records.count = 100000;
-        records.are_copied(&rt, row.0)?;
+        numbers(rt.alloc(), row)?.are_copied(&rt, row.0)?;
     }
     Ok(())
 }

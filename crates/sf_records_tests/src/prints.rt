@@ -1,7 +1,7 @@
 //! Records printed by a print format, without a pair.
 ghost use Rattle.std.specs.Prelude.{◌≤◌};
 
-use crate::copies::{LIMIT, clean_end, is};
+use crate::copies::{LIMIT, is};
 use sf_format::{PrintFormat, Profile, ScanFormat};
 use sf_print::{ListSink, ScriptSink, WriteStep};
 use sf_read::{Lookahead, SliceSource};
@@ -18,14 +18,41 @@ type Row = (
     ToolEnd,
 );
 
-/// The end at a record whose values the print format can't print.
-fn unfit_end(records: u32, number: u32) -> ToolEnd {
-    ToolEnd {
-        status: 1,
-        records,
-        fault: Some(ToolFault::Unfit { number }),
-    }
-}
+/// The end of a loop over so many records.
+const NONE: ToolEnd = ToolEnd {
+    status: 0,
+    records: 0,
+    fault: None,
+};
+
+const ONE: ToolEnd = ToolEnd { records: 1, ..NONE };
+
+const TWO: ToolEnd = ToolEnd { records: 2, ..NONE };
+
+/// The end at a record whose values the print format can't print: at the second, and at the first.
+const SECOND_UNFIT: ToolEnd = ToolEnd {
+    status: 1,
+    records: 1,
+    fault: Some(ToolFault::Unfit { number: 2 }),
+};
+
+const FIRST_UNFIT: ToolEnd = ToolEnd {
+    status: 1,
+    records: 0,
+    fault: Some(ToolFault::Unfit { number: 1 }),
+};
+
+static ROWS: [Row; 6] = [
+    ("%d %s", "%2$s,%1$d\n", "1 ab\n2 cd\n", "ab,1\ncd,2\n", TWO),
+    ("%d", "%d;", "", "", NONE),
+    // A number as one of a kind that has it, and what `%n` counts.
+    ("%hhd %hhu%n", "%d %hd %d\n", "-7 200", "-7 200 6\n", ONE),
+    // A text that `c` prints has one byte.
+    ("%s", "%c", "a bc", "a", SECOND_UNFIT),
+    // As many values, and of the same kinds.
+    ("%d", "%d %d", "1", "", FIRST_UNFIT),
+    ("%u", "%d", "1", "", FIRST_UNFIT),
+];
 
 /// The row, read by blocks of N bytes.
 fn by_blocks<const N: usize>(rt: &(impl Abort + AllocGlobal), row: &Row) -> Result<(), Fail>
@@ -45,30 +72,7 @@ fn by_blocks<const N: usize>(rt: &(impl Abort + AllocGlobal), row: &Row) -> Resu
 
 #[test]
 fn records_are_printed(rt: HostRuntime) -> Result<(), Fail> {
-    let rows: [Row; 6] = [
-        (
-            "%d %s",
-            "%2$s,%1$d\n",
-            "1 ab\n2 cd\n",
-            "ab,1\ncd,2\n",
-            clean_end(2),
-        ),
-        ("%d", "%d;", "", "", clean_end(0)),
-        // A number as one of a kind that has it, and what `%n` counts.
-        (
-            "%hhd %hhu%n",
-            "%d %hd %d\n",
-            "-7 200",
-            "-7 200 6\n",
-            clean_end(1),
-        ),
-        // A text that `c` prints has one byte.
-        ("%s", "%c", "a bc", "a", unfit_end(1, 2)),
-        // As many values, and of the same kinds.
-        ("%d", "%d %d", "1", "", unfit_end(0, 1)),
-        ("%u", "%d", "1", "", unfit_end(0, 1)),
-    ];
-    for row in &rows {
+    for row in &ROWS {
         by_blocks::<1>(&rt, row)?;
         by_blocks::<4096>(&rt, row)?;
     }

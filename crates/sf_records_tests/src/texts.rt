@@ -1,6 +1,7 @@
 //! Copies of many random texts of each letter.
 use crate::copies::Formats;
 use crate::random::{Records, before, next};
+use std::alloc::Global;
 use std::test::Fail;
 
 /// What a text may hold.
@@ -43,34 +44,53 @@ fn length(letter: Letter, state: u64) -> u32 {
     }
 }
 
-/// Appends a text as it may be written, and as it is copied; the state after it.
-fn push_text(records: &mut Records, row: &Row, state: u64) -> Result<u64, Fail> {
-    let (_, letter, end) = *row;
-    let mut state = next(state);
-    if matches!(letter, Letter::Word) {
-        records.text.extend_from_slice(before(state).as_bytes())?;
-    }
+/// Appends the bytes of a text, as it is written and as it is copied; the state after it.
+fn push_bytes(records: &mut Records, letter: Letter, state: u64) -> Result<u64, Fail> {
+    let mut state = state;
     for _ in 0..length(letter, state) {
         state = next(state);
         let byte = byte(letter, state);
         records.text.push(byte)?;
         records.copy.push(byte)?;
     }
+    Ok(state)
+}
+
+/// What may stand before a text.
+fn front(letter: Letter, state: u64) -> &'static str {
+    match letter {
+        Letter::Word => before(state),
+        _ => "",
+    }
+}
+
+/// Appends a text as it may be written, and as it is copied; the state after it.
+fn push_text(records: &mut Records, row: &Row, state: u64) -> Result<u64, Fail> {
+    let (_, letter, end) = *row;
+    let state = next(state);
+    let front = front(letter, state);
+    records.text.extend_from_slice(front.as_bytes())?;
+    let state = push_bytes(records, letter, state)?;
     records.text.extend_from_slice(end)?;
     records.copy.extend_from_slice(end)?;
     Ok(state)
 }
 
+/// Many texts of the row.
+fn texts(alloc: Global, row: &Row) -> Result<Records, Fail> {
+    let mut records = Records::new(alloc);
+    let mut state = 13;
+    for _ in 0..100000 {
+        state = push_text(&mut records, row, state)?;
+    }
+    records.count = 100000;
+    Ok(records)
+}
+
 #[test]
 fn many_texts(rt: HostRuntime) -> Result<(), Fail> {
     for row in &TEXTS {
-        let mut records = Records::new(rt.alloc());
-        let mut state = 13;
-        for _ in 0..100000 {
-            state = push_text(&mut records, row, state)?;
-        }
-        records.count = 100000;
-        records.are_copied(&rt, row.0)?;
+        texts(rt.alloc(), row)?.are_copied(&rt, row.0)?;
     }
     Ok(())
 }

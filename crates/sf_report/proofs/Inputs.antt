@@ -50,7 +50,7 @@ closed_more ds proper x z closed o =
           absurd (omega (arith, long, same, uses_within ds 1 nothing_yet x, length-append x z)))
     ]
 
-none_met : (met : Option Ending) (P : Type 0) (ending : Ending) → SomeIff met P ending → (P → ⊥) → met ≡ None
+pub none_met : (met : Option Ending) (P : Type 0) (ending : Ending) → SomeIff met P ending → (P → ⊥) → met ≡ None
 none_met met P ending h never = grind arith
 
 pub closed_inputs_stay : EachClosedInputStays

@@ -12,6 +12,7 @@ pub mod Joined
 pub mod Openness
 pub mod Inputs
 pub mod Fronts
+pub mod Early
 pub mod Filling
 pub mod Values
 pub mod HaveRows

@@ -77,11 +77,11 @@ rest_too_long_at m (d ∷ ds) q at t x h = grind (arith, too_long_at)
 
 -- ---- open or closed
 
-abbrev more_left : Part → List ℕ → Part
+abbrev pub more_left : Part → List ℕ → Part
 more_left p z = record { used = p.used; left = p.left ++ z; end = p.end }
 
 -- a directive that ended before a byte of x ends there on every longer input
-stops_early : (d : Directive) (q : Stage) (n : ℕ) (x z : List ℕ) → stepped_all d q x ≡ None
+pub stops_early : (d : Directive) (q : Stage) (n : ℕ) (x z : List ℕ) → stepped_all d q x ≡ None
     → one_from d q n (x ++ z) ≡ more_left (one_from d q n x) z
 stops_early d q n [] z e = absurd cc
 stops_early d q n (b ∷ x) z e = go (stepped d q b) e (λ r h. stops_early d r (n + 1) x z h)

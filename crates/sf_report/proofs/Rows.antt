@@ -1,27 +1,31 @@
 -- Worked examples: what each format makes of an input, computed, is its one report.
-use Rattle.std.proofs.Common.{◌≡◌, ℕ, zero, suc, ◌+◌, Bool, false, ◌&&◌, ◌||◌, nat_eq, nat_le, List, [], ◌∷◌, Option, Some, None, pos}
-use Rattle.std.proofs.Common.{negsuc, refl, ◌∙◌, subst, lit<, lit≤}
-use Rattle.sf_base.specs.Data.{Datum, Number, Bytes, Assigned}
-use Rattle.sf_base.specs.declared.values.Kind.{Kind}
+use Rattle.std.proofs.Common.{◌≡◌, ℕ, ◌+◌, ◌-◌, ◌&&◌, ◌||◌, nat_eq, nat_le, Bool, List, [], ◌∷◌, ◌++◌, length, codes, drop}
+use Rattle.std.proofs.Common.{Some, None, pos, negsuc, refl, ap, ◌∙◌, subst, inr, arith, lit<, lit≤}
+use Rattle.std.specs.Float.{float_is_infinite}
+use Rattle.std.specs.Float.Numeral.{scan_numeral}
+use Rattle.std.specs.Float.Parse.{read_float}
+use lib.Ieee.{round, to_bits}
+use Rattle.sf_base.specs.Data.{Number, Bytes}
 use Rattle.sf_base.specs.declared.values.Kind.TheVariants as kind
-use Rattle.sf_format.specs.declared.directive.Base.{Base}
+use Rattle.sf_float_read.specs.value.Computed.{stored_in}
 use Rattle.sf_format.specs.declared.directive.Base.TheVariants.{Dec, Hex, Auto}
-use Rattle.sf_format.specs.declared.directive.Shape.TheVariants.{Int, Text, Set, Chars, Count}
 use Rattle.sf_format.specs.declared.directive.Directive.{Directive}
-use Rattle.sf_format.specs.declared.directive.Directive.TheVariants.{Space, Byte, Percent, Conv}
+use Rattle.sf_format.specs.declared.directive.Directive.TheVariants.{Space, Byte}
 use Rattle.sf_format.specs.Proper.{AreProper}
 use Rattle.sf_report.specs.declared.outcome.Ending.{Ending}
 use Rattle.sf_report.specs.declared.outcome.Ending.TheVariants.{End, Fault}
-use Rattle.sf_report.specs.declared.outcome.Status.{Status}
-use Rattle.sf_report.specs.declared.outcome.Status.TheVariants.{Done, InputFailure, MatchingFailure, OutOfRange, TooLong}
-use Rattle.sf_report.specs.Runs.{RunReport, c_return}
-use Rattle.sf_report.specs.Limits.{RunWithin}
+use Rattle.sf_report.specs.declared.outcome.Status.TheVariants.{Done, InputFailure, MatchingFailure, OutOfRange}
+use Rattle.sf_report.specs.Steps.{StepEnd, Passes, Stores, Misses, Fails}
+use Rattle.sf_report.specs.Runs.{Ran, GoesOn, Steps, RunReport, c_return}
+use Rattle.sf_report.specs.Limits as limits
+use Rattle.sf_report.specs.Limits.{RunWithin, RunRefused}
+use Rattle.sf_report.specs.Runs as runs
+use Rattle.sf_report.specs.Examples.{Reports, int, suppressed, word, chars, set, report, given, most, first_format, second_format}
+use Rattle.sf_report.specs.Examples.{third_format, rest_of_line, fourth_format, Example2, Example3, Example4, C11Examples, PosixExamples}
+use Rattle.sf_report.specs.Examples.{CountExamples, LimitExamples, MemoryExamples, OurExamples}
+use Rattle.sf_report.proofs.RunLaws.{steps_is}
+use Rattle.sf_report.proofs.Skips.{skip_is}
 use Rattle.sf_report.proofs.Told.{is_open, report_within, report_is, report_only}
-
--- the report of the directives under the limit, and no other is
-pub record Reports (ds : List Directive) (m : ℕ) (x : List ℕ) (ending : Ending) (told : RunReport) : Type 0 where
-  pub is : RunWithin ds m x ending told
-  pub only : (other : RunReport) → RunWithin ds m x ending other → other ≡ told
 
 -- what is computed is the one report
 pub row_is : (ds : List Directive) → AreProper ds → (m : ℕ) (x : List ℕ) (ending : Ending) (told : RunReport)
@@ -30,45 +34,6 @@ row_is ds proper m x ending told e = record {
   is = subst (RunWithin ds m x ending) e (report_is ds proper m x ending);
   only = λ other h. report_only ds proper m x ending other h ∙ e;
 }
-
--- ---- directives
-
--- an integer, assigned to the slot
-abbrev int : Base → Kind → Option ℕ → ℕ → Directive
-int base kind width slot = Conv (record { shape = Int base; kind = kind; width = width; slot = Some slot; optional = false })
-
-abbrev suppressed : Base → Kind → Directive
-suppressed base kind = Conv (record { shape = Int base; kind = kind; width = None; slot = None; optional = false })
-
-abbrev word : Option ℕ → ℕ → Directive
-word width slot = Conv (record { shape = Text; kind = kind.Text; width = width; slot = Some slot; optional = false })
-
-abbrev chars : Option ℕ → ℕ → Directive
-chars width slot = Conv (record { shape = Chars; kind = kind.Text; width = width; slot = Some slot; optional = false })
-
-abbrev count : Kind → ℕ → Directive
-count kind slot = Conv (record { shape = Count; kind = kind; width = None; slot = Some slot; optional = false })
-
--- the test at n bytes from b on
-abbrev marks : ℕ → ℕ → (ℕ → Bool) → List Bool
-marks zero b test = []
-marks (suc n) b test = test b ∷ marks n (b + 1) test
-
-abbrev set : (ℕ → Bool) → ℕ → Directive
-set test slot = Conv (record { shape = Set (marks 256 0 test); kind = kind.Text; width = None; slot = Some slot; optional = false })
-
--- ---- reports
-
-abbrev report : Status → (at assigned converted used : ℕ) → Option Ending → List Assigned → RunReport
-report status at assigned converted used met values =
-    record { status = status; at = at; assigned = assigned; converted = converted; used = used; met = met; values = values }
-
-abbrev given : ℕ → Datum → Assigned
-given slot datum = record { slot = slot; datum = datum }
-
--- a limit that no example reaches
-abbrev most : ℕ
-most = 2147483647
 
 -- ---- rows
 
@@ -149,22 +114,10 @@ abbrev listed : ℕ → Bool
 listed b = nat_eq b 93 || (nat_le 97 b && nat_le b 99)
 
 -- %[]a-c] on a]cd
-row_set : Reports (set listed 1 ∷ []) most (97 ∷ 93 ∷ 99 ∷ 100 ∷ []) End
+row_set : Reports (set listed (Some 1) ∷ []) most (97 ∷ 93 ∷ 99 ∷ 100 ∷ []) End
     (report Done 0 1 1 3 None (given 1 (Bytes (97 ∷ 93 ∷ 99 ∷ [])) ∷ []))
 unfolding is_open
 row_set = row_is _ (((93, lit< tt, refl), tt), tt) _ _ _ _ refl
-
--- %*d%n on two blanks and 12x
-row_count : Reports (suppressed Dec kind.I32 ∷ count kind.I32 1 ∷ []) most (32 ∷ 32 ∷ 49 ∷ 50 ∷ 120 ∷ []) End
-    (report Done 0 0 1 4 None (given 1 (Number kind.I32 (pos 4)) ∷ []))
-unfolding is_open
-row_count = row_is _ ((tt, tt), ((tt, tt), tt)) _ _ _ _ refl
-
--- %d%% on 5 %
-row_percent : Reports (int Dec kind.I32 None 1 ∷ Percent ∷ []) most (53 ∷ 32 ∷ 37 ∷ []) End
-    (report Done 0 1 1 3 None (given 1 (Number kind.I32 (pos 5)) ∷ []))
-unfolding is_open
-row_percent = row_is _ ((tt, tt), (tt, tt)) _ _ _ _ refl
 
 -- %2$d %1$s on 7 up
 row_numbered : Reports (int Dec kind.I32 None 2 ∷ Space ∷ word None 1 ∷ []) most (55 ∷ 32 ∷ 117 ∷ 112 ∷ []) End
@@ -220,24 +173,6 @@ row_after_suppressed : Reports (suppressed Dec kind.I32 ∷ int Dec kind.I32 Non
 unfolding is_open
 row_after_suppressed = row_is _ ((tt, tt), ((tt, tt), tt)) _ _ _ _ refl
 
--- %s on abcd, under a limit of 3 bytes
-row_cut_word : Reports (word None 1 ∷ []) 3 (97 ∷ 98 ∷ 99 ∷ 100 ∷ []) End
-    (report TooLong 1 0 0 3 None [])
-unfolding is_open
-row_cut_word = row_is _ ((tt, tt), tt) _ _ _ _ refl
-
--- %s on abc, under a limit of 3 bytes
-row_at_limit : Reports (word None 1 ∷ []) 3 (97 ∷ 98 ∷ 99 ∷ []) End
-    (report Done 0 1 1 3 (Some End) (given 1 (Bytes (97 ∷ 98 ∷ 99 ∷ [])) ∷ []))
-unfolding is_open
-row_at_limit = row_is _ ((tt, tt), tt) _ _ _ _ refl
-
--- %d %s on 12 ab, under a limit of 4 bytes
-row_cut_later : Reports (int Dec kind.I32 None 1 ∷ Space ∷ word None 2 ∷ []) 4 (49 ∷ 50 ∷ 32 ∷ 97 ∷ 98 ∷ []) End
-    (report TooLong 3 1 1 4 None (given 1 (Number kind.I32 (pos 12)) ∷ []))
-unfolding is_open
-row_cut_later = row_is _ ((tt, tt), (tt, ((tt, tt), tt))) _ _ _ _ refl
-
 -- ---- what fscanf returns
 
 return_at_end : c_return (report InputFailure 1 0 0 0 (Some End) []) ≡ negsuc 0
@@ -248,3 +183,120 @@ return_after_suppressed = refl
 
 return_unmatched : c_return (report MatchingFailure 1 0 0 1 (Some End) []) ≡ pos 0
 return_unmatched = refl
+
+-- ---- C11 and POSIX
+
+first_proper : AreProper first_format
+first_proper = ((tt, tt), ((tt, tt), ((tt, tt), tt)))
+
+second_proper : AreProper second_format
+second_proper = ((tt, lit≤ tt), ((tt, tt), ((tt, tt), (tt, (((48, lit< tt, refl), tt), tt)))))
+
+third_proper : AreProper third_format
+third_proper = ((tt, tt), ((tt, lit≤ tt), (tt, (lit< tt, (lit< tt, (tt, ((tt, lit≤ tt), tt)))))))
+
+rest_proper : AreProper rest_of_line
+rest_proper = (((0, lit< tt, refl), tt), tt)
+
+fourth_proper : AreProper fourth_format
+fourth_proper = ((tt, tt), ((tt, tt), ((tt, tt), ((tt, tt), tt))))
+
+second : Example2
+unfolding is_open stored_in read_float scan_numeral float_is_infinite round to_bits
+second = row_is _ second_proper _ _ _ _ refl
+
+third : Example3
+unfolding is_open stored_in read_float scan_numeral float_is_infinite round to_bits
+third = record {
+  quarts = row_is _ third_proper _ _ _ _ refl;
+  nothing_left = row_is _ rest_proper _ _ _ _ refl;
+  degrees = row_is _ third_proper _ _ _ _ refl;
+  celsius = row_is _ rest_proper _ _ _ _ refl;
+  lots = row_is _ third_proper _ _ _ _ refl;
+  dirt = row_is _ third_proper _ _ _ _ refl;
+  ergs = row_is _ third_proper _ _ _ _ refl;
+  end = row_is _ third_proper _ _ _ _ refl;
+  eof = refl;
+}
+
+fourth : Example4
+unfolding is_open stored_in read_float scan_numeral float_is_infinite round to_bits
+fourth = record { counts = row_is _ fourth_proper _ _ _ _ refl; returned = refl }
+
+pub c11_examples : C11Examples
+unfolding is_open stored_in read_float scan_numeral float_is_infinite round to_bits
+c11_examples = record { first = row_is _ first_proper _ _ _ _ refl; second = second; third = third; fourth = fourth }
+
+pub posix_examples : PosixExamples
+unfolding is_open stored_in read_float scan_numeral float_is_infinite round to_bits
+posix_examples = record { first = row_is _ first_proper _ _ _ _ refl; second = second }
+
+-- ---- ours
+
+counts : CountExamples
+unfolding is_open
+counts = record {
+  percent = row_is _ ((tt, tt), (tt, tt)) _ _ _ _ refl;
+  suppressed_then_count = row_is _ ((tt, tt), ((tt, tt), tt)) _ _ _ _ refl;
+}
+
+limited : LimitExamples
+unfolding is_open
+limited = record {
+  cut_word = row_is _ ((tt, tt), tt) _ _ _ _ refl;
+  at_limit = row_is _ ((tt, tt), tt) _ _ _ _ refl;
+  cut_later = row_is _ ((tt, tt), (tt, ((tt, tt), tt))) _ _ _ _ refl;
+}
+
+-- no directive runs after the last one
+ends : (end : StepEnd) (y : List ℕ) (n : ℕ) (before : List Ran) (cut : Ran) (rest : List Ran)
+    → GoesOn end (Steps [] y n (before ++ (cut ∷ rest))) (before ++ (cut ∷ rest)) → ⊥
+ends Passes y n [] cut rest h = h
+ends Passes y n (b ∷ before) cut rest h = h
+ends (Stores slot v) y n [] cut rest h = h
+ends (Stores slot v) y n (b ∷ before) cut rest h = h
+ends Misses y n [] cut rest h = h
+ends Misses y n (b ∷ before) cut rest h = h
+ends (Fails status) y n [] cut rest h = absurd (omega (arith, ap (λ (t : List Ran). length t) h))
+ends (Fails status) y n (b ∷ before) cut rest h = absurd (omega (arith, ap (λ (t : List Ran). length t) h))
+
+-- a run of one directive was cut in this one
+alone : (d : Directive) (x : List ℕ) (before : List Ran) (cut : Ran) (rest : List Ran) → Steps (d ∷ []) x 0 (before ++ (cut ∷ rest))
+    → cut.directive ≡ d
+alone d x [] cut rest h = h.0
+alone d x (b ∷ before) cut rest h = absurd (ends b.end (drop b.bytes x) (0 + b.bytes) before cut rest h.2)
+
+-- where it stores no text, memory is never refused
+never : (d : Directive) → ((y : List ℕ) (k : ℕ) → limits.Stores d y k → ⊥) → (m : ℕ) (x : List ℕ) (r : RunReport)
+    → RunRefused (d ∷ []) m x r → ⊥
+never d stores m x r h =
+    let before = h.2.0 in
+    let cut = h.2.1 in
+    stores _ _ (subst (λ (z : Directive). limits.Stores z (drop (runs.used before) x) (h.0 - runs.used before))
+    (alone d x before cut.cut cut.rest cut.steps) h.2.2)
+
+refused : MemoryExamples
+refused = record {
+  text =
+      inr (
+        1,
+        lit< tt,
+        (
+          [],
+          record {
+            cut = record { directive = word None 1; bytes = 2; end = Stores 1 (Bytes (codes "ab")) };
+            rest = [];
+            steps = steps_is (word None 1 ∷ []) ((tt, tt), tt) (codes "ab") 0;
+            low = lit≤ tt;
+            high = lit< tt;
+          },
+          (refl, (0, skip_is (codes "ab"), lit≤ tt)),
+          refl,
+        ),
+      );
+  integer = λ m x r. never (int Dec kind.I32 None 1) (λ y k h. h) m x r;
+  byte = λ m x r. never (Byte 97) (λ y k h. h) m x r;
+}
+
+pub our_examples : OurExamples
+our_examples = record { counts = counts; limits = limited; memory = refused }

@@ -43,6 +43,12 @@ EachDoneRunStays =
     → RunWithin ds m (x ++ z) first report → report.status ≡ Done → report.used ≤ length x
     → (met : Option Ending) × RunWithin ds m x second (record report { met = met })
 
+-- Where a run leaves a byte of a front of its input, it is the same on that front, with every ending.
+abbrev pub EachEarlyRunStays : Type 0
+EachEarlyRunStays =
+    (ds : List Directive) → AreProper ds → (m : ℕ) (x z : List ℕ) (first second : Ending) (report : RunReport)
+    → RunWithin ds m (x ++ z) first report → report.used < length x → RunWithin ds m x second report
+
 -- where a run of an accepted format over bytes is Done, each slot was given a value of its kind, or may be missing
 abbrev pub EachDoneRunFillsSlots : Type 0
 EachDoneRunFillsSlots =

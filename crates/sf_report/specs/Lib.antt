@@ -9,3 +9,4 @@ pub mod Memory
 pub mod Rows
 pub mod Laws
 pub mod Wording
+pub mod Examples

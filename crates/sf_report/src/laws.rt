@@ -1,10 +1,12 @@
 //! Laws of the definitions.
+ghost use Rattle.sf_report.specs.Examples.{C11Examples, OurExamples, PosixExamples};
 ghost use Rattle.sf_report.specs.Laws.{
   EachByteIsTried,
   EachClosedInputStays,
   EachDoneRunFillsSlots,
   EachDoneRunHasItsRow,
   EachDoneRunStays,
+  EachEarlyRunStays,
   EachHasOneReport,
   EachMachineSteps,
   EachOpenInputIsUsed,
@@ -35,6 +37,12 @@ pub fn done_runs_stay()
     ensures { EachDoneRunStays }
 {}
 
+/// A run that leaves a byte of a front of its input, however it ends, has the same report on that front, with every
+/// ending. With `closed_inputs_stay` it has that report on every input that begins so.
+pub fn early_runs_stay()
+    ensures { EachEarlyRunStays }
+{}
+
 /// A run of an accepted format that is Done has given each slot, from 1 to the count of the destinations, a value of
 /// the slot's kind: a number that the kind holds, the bytes of a text, or a float. Only a slot with a `?` may have
 /// been given nothing; without one there is a row of values.
@@ -60,4 +68,11 @@ pub fn runs_are_computed()
 /// Whether some byte below a number passes a test is computed by trying each.
 pub fn bytes_are_tried()
     ensures { EachByteIsTried }
+{}
+
+/// The examples of C11 7.21.6.2, those of POSIX, and ours of what counts, of limits and of memory.
+pub fn worked_examples()
+    ensures c11 { C11Examples }
+    ensures posix { PosixExamples }
+    ensures ours { OurExamples }
 {}

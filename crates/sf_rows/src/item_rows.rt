@@ -2,7 +2,7 @@
 use sf_format::Base;
 
 /// What reads an item.
-#[derive(Clone, Copy, Debug, PartialEq, Eq)]
+#[derive(Clone, Copy)]
 pub enum Reader {
     Integer(Base),
     Text,
@@ -12,7 +12,7 @@ pub enum Reader {
 }
 
 /// What an item is.
-#[derive(Clone, Copy, Debug, PartialEq, Eq)]
+#[derive(Clone, Copy)]
 pub enum Found {
     Empty,
     Unmatched,

@@ -6,7 +6,7 @@ use sf_run::Report;
 use std::alloc::Global;
 
 /// A name with its number.
-#[derive(Debug, Drop)]
+#[derive(Drop)]
 pub struct Named {
     pub number: i32,
     pub name: Vec<u8>,

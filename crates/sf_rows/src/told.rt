@@ -2,7 +2,7 @@
 use sf_run::{Ending, Outcome, Status};
 
 /// What stands behind the last byte that a run used.
-#[derive(Clone, Copy, Debug, PartialEq, Eq)]
+#[derive(Clone, Copy, PartialEq, Eq)]
 pub enum Met {
     /// The end of the input, where the run would have gone on.
     End,
@@ -26,7 +26,7 @@ impl Met {
 }
 
 /// What a run comes to.
-#[derive(Clone, Copy, Debug, PartialEq, Eq)]
+#[derive(Clone, Copy)]
 pub enum Told {
     /// The values assigned, the bytes used, and what it met.
     Done(u8, u32, Met),

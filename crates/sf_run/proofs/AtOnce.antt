@@ -1,38 +1,52 @@
 -- Runs that begin and pass within a piece.
 use Rattle.std.proofs.lemmas.Grind.{common_steps}
-use Rattle.std.proofs.Common.{◌≡◌, ℕ, ◌+◌, ◌-◌, ◌<◌, ◌≤◌, Bool, true, false, cond, List, [], ◌∷◌, ◌++◌, length, take, drop, Some, None}
-use Rattle.std.proofs.Common.{refl, sym, ap, subst, ◌∙◌, arith, length-drop}
-use Rattle.std.specs.Prelude.{slice_get}
+use Rattle.std.proofs.Common.{◌≡◌, ℕ, ◌+◌, ◌-◌, ◌<◌, ◌≤◌, Bool, true, false, cond, List, [], ◌∷◌, ◌++◌, length, take, drop}
+use Rattle.std.proofs.Common.{Option, Some, None}
+use Rattle.std.proofs.Common.{refl, sym, ap, subst, ◌∙◌, arith, is_some, length-drop, true≢false}
+use Rattle.std.specs.Prelude.{◌≢◌, slice_get}
 use Rattle.std.specs.List.{count_by}
 use Rattle.std.proofs.lemmas.List.Sums.{sum_by_more}
 use Rattle.std.proofs.lemmas.Option.{get_or_from_slice_get, slice_get_within}
 use Rattle.std.proofs.lemmas.List.{append-nil, append_assoc, drop-drop, length-append, take_all, take-append-drop}
 use Rattle.sf_base.specs.Data.{Assigned, Bytes, Real as RealOf}
 use Rattle.sf_base.specs.declared.real.Real as real
-use Rattle.sf_base.specs.stores.Kept.{Kept, nothing_kept, texts_in, with_text, with_value}
+use Rattle.sf_base.specs.stores.Kept.{Kept, Opened, nothing_kept, text_of, texts_in, with_text, with_value}
 use Rattle.sf_format.specs.declared.directive.Directive.{Directive}
 use Rattle.sf_format.specs.Layout.{assigns_item, items_assigned, items_taken, takes_item}
-use Rattle.sf_format.specs.Proper.{AreProper, IsProper, destinations_of, slots_of}
+use Rattle.sf_format.specs.Proper.{AreProper, IsProper, destinations_of, is_optional, slots_of}
+use Rattle.sf_format.specs.Slots.{AreSlots}
 use Rattle.sf_run.specs.declared.directive.Finished.{Finished}
 use Rattle.sf_run.specs.declared.directive.Ended.{Ended}
 use Rattle.sf_report.specs.declared.outcome.Ending.{Ending}
+use Rattle.sf_report.specs.declared.outcome.Outcome.{Outcome}
+use Rattle.sf_report.specs.declared.outcome.Status.{Status}
 use Rattle.sf_report.specs.declared.outcome.Status.TheVariants.{Done}
 use Rattle.sf_run.specs.declared.tally.Tally as code
-use Rattle.sf_run.specs.Holding.{are_apart, are_placed}
+use Rattle.sf_run.specs.Holding.{are_among, are_apart, are_placed}
 use Rattle.sf_report.specs.Limits.{RunWithin, TellsWithin}
-use Rattle.sf_report.specs.Machine.{Skipping}
+use Rattle.sf_report.specs.Memory.{HoldsValues}
+use Rattle.sf_report.specs.Machine.{Stage, Skipping, finished, stepped}
 use Rattle.sf_run.specs.Phases.{end_of, is_failing, is_missing, slot_given}
-use Rattle.sf_run.specs.Pieces.{EndsAtOnce}
-use Rattle.sf_run.specs.Places.{is_destination, places_left}
-use Rattle.sf_run.specs.Quick.{GivesTo, IsSure, MayBeGiven, Passes, PassesWithin, done_by, slot_stored, text_stored}
-use Rattle.sf_report.specs.Residual.{Tally, counted, nothing_yet, one_from, out_of, run_of, with_used}
-use Rattle.sf_report.specs.Runs.{IsOpen, RunReport, is_conversion, passed, stored}
-use Rattle.sf_report.specs.Steps.{StepEnd, Stores}
+use Rattle.sf_run.specs.Pieces.{EndsAtOnce, EndsIn}
+use Rattle.sf_run.specs.Places.{is_destination}
+use Rattle.sf_run.specs.Quick.{EndsSo, GivenSo, GivesTo, IsSure, MayBeGiven, Passes, PassesWithin, done_by, slot_stored, text_stored}
+use Rattle.sf_run.specs.Quick.{ungiven_end}
+use Rattle.sf_run.specs.Counting.{Counted, Few, Going, HasCome, none_missing}
+use Rattle.sf_run.specs.declared.quick.Missing.{Missing}
+use Rattle.sf_run.specs.declared.quick.Place.{Place}
+use Rattle.sf_run.specs.declared.quick.Passage.{Passage}
+use Rattle.sf_run.specs.declared.quick.PassageEnd.{PassageEnd}
+use Rattle.sf_run.specs.declared.quick.PassageEnd.TheVariants as ends
+use Rattle.sf_report.specs.Residual.{Part, Tally, counted, nothing_yet, one_from, out_of, run_of, then_on, with_used}
+use Rattle.sf_report.specs.Runs.{IsOpen, RunReport, is_conversion, passed}
+use Rattle.sf_report.specs.Steps.{StepEnd, Passes as Passed, Stores, Misses, Fails}
+use Rattle.sf_report.specs.Views.{report_by}
 use Rattle.sf_run.specs.Tallies.{PassesSo, tally_of, values_with}
 use Rattle.sf_run.specs.Texts.{slot_of, slots_in}
 use Rattle.sf_run.proofs.Moves.{drop_at, place_taken}
 use Rattle.sf_report.proofs.Openness.{within_limit}
-use Rattle.sf_run.proofs.Slots.{joined_text, slot_free, slot_placed, slots_more, slots_none}
+use Rattle.sf_run.proofs.Slots.{given_more, given_on, joined_text, placed_from, slot_placed, slot_unused, slots_more, slots_none}
+use Rattle.sf_report.proofs.Machines.{by_option}
 use Rattle.sf_report.proofs.Told.{told_exists, uses_is, within_met}
 use Rattle.sf_report.proofs.Inputs.{open_all}
 
@@ -50,12 +64,31 @@ pub passes_within : (d : Directive) (n : ℕ) (piece : List ℕ) (e : Ended) (st
     → PassesWithin d n piece (e.before + e.item) stores old new
 passes_within d n piece e stores old new proper is gives = grind arith
 
--- one that passes surely, and ends so, is given to a store with so much room
-pub sure_given : (d : Directive) (n : ℕ) (piece : List ℕ) (room : ℕ) (e : Ended) → IsProper d → EndsAtOnce d n piece e
-    → IsSure d n piece room
-    → (passed (end_of (take e.item (drop e.before piece)) e.finished) ≡ true
-    → room < length (text_stored (end_of (take e.item (drop e.before piece)) e.finished))) → ⊥
-sure_given d n piece room e proper is sure full = grind arith
+-- one that surely ends, and ends so, gives something for which a store with so much room has room
+pub sure_text : (d : Directive) (n : ℕ) (piece : List ℕ) (room : ℕ) (e : Ended) → IsProper d → EndsAtOnce d n piece e
+    → IsSure d n piece room → length (text_stored (end_of (take e.item (drop e.before piece)) e.finished)) ≤ room
+sure_text d n piece room e proper is sure =
+    subst (λ (p : Part). length (text_stored p.end) ≤ room) ((is.answers proper).goes.takes sure.after) sure.fits
+
+-- one that passes within the piece
+pub ends_passing : (d : Directive) (n : ℕ) (piece : List ℕ) (taken : ℕ) (old new : Kept) → Passes d n piece taken old new
+    → EndsSo d n piece (record { taken = taken; end = ends.Passes }) old new
+ends_passing d n piece taken old new w = record { end = w.1.end; takes = w.1.takes; gives = (w.0, w.1.gives, w.1.own) }
+
+given_nothing : (how : PassageEnd) (d : Directive) (end : StepEnd) (old new : Kept) → how ≢ ends.Passes → end ≡ ungiven_end how
+    → new ≡ old → GivenSo how d end old new
+given_nothing ends.Passes d end old new other is same = absurd (other refl)
+given_nothing ends.Misses d end old new other is same = (is, same)
+given_nothing (ends.Fails status) d end old new other is same = (is, same)
+
+-- one that ends so, and gives nothing
+pub ends_giving_nothing : (d : Directive) (n : ℕ) (piece : List ℕ) (e : Ended) (how : PassageEnd) (old new : Kept) → IsProper d
+    → EndsAtOnce d n piece e → how ≢ ends.Passes
+    → end_of (take e.item (drop e.before piece)) e.finished ≡ ungiven_end how → new ≡ old
+    → EndsSo d n piece (record { taken = e.before + e.item; end = how }) old new
+ends_giving_nothing d n piece e how old new proper is other gives same =
+    let end : StepEnd = end_of (take e.item (drop e.before piece)) e.finished in
+    record { end = end; takes = (is.answers proper).goes; gives = given_nothing how d end old new other gives same }
 
 -- a text that the store was given is what the directive gives
 pub text_given : (slot : ℕ) (text : List ℕ) (room : ℕ) (old new : Kept) → new ≡ with_text slot text room old
@@ -69,44 +102,46 @@ real_given slot r old new none is = grind (arith, common_steps, joined_text)
 
 -- ---- directive after directive
 
--- The directives before this place have passed within the front, in which the run has come so far, and the store was given what they gave.
-pub record Going (ds : List Directive) (front : List ℕ) (p : ℕ) (t : code.Tally) (kept : Kept) : Type 0 where
-  pub same : (z : List ℕ) → run_of None ds 1 nothing_yet (front ++ z)
-      ≡ run_of None (drop p ds) (p + 1) (tally_of t kept.values) (drop t.used front ++ z)
-  pub within : t.used ≤ length front
-  pub given : slots_in kept.values ≡ slots_of (take p ds)
-  pub opened : kept.opened ≡ None
-  pub joined : kept.closed ≡ texts_in kept.values
-  pub assigned : t.assigned + places_left ds p ≤ 32
-  pub converted : t.converted ≤ p
+-- a directive that ends so doesn't fail
+abbrev pub goes : StepEnd → Bool
+goes (Fails status) = false
+goes _ = true
 
--- a directive that passes takes the run on
-passes_on : (d : Directive) (ds : List Directive) (at : ℕ) (t : Tally) (x y : List ℕ) (taken : ℕ) (end : StepEnd) → passed end ≡ true
+-- it takes the run on
+goes_on : (d : Directive) (ds : List Directive) (at : ℕ) (t : Tally) (x y : List ℕ) (taken : ℕ) (end : StepEnd) → goes end ≡ true
     → one_from d Skipping t.used x ≡ record { used = t.used + taken; left = y; end = end }
     → run_of None (d ∷ ds) at t x ≡ run_of None ds (at + 1) (counted d end (with_used (t.used + taken) t)) y
-passes_on d ds at t x y taken end ok is = grind arith
+goes_on d ds at t x y taken end ok is = grind arith
 
-some_slot : (ds : List Directive) (p : ℕ) (d : Directive) (values : List Assigned) (end : StepEnd) → slice_get ds p ≡ Some d
+-- the slots of the values are those of the directives that have passed
+pub some_slot : (ds : List Directive) (p : ℕ) (d : Directive) (values : List Assigned) (end : StepEnd) → slice_get ds p ≡ Some d
     → slot_stored end ≡ slot_of d → passed end ≡ true
     → slots_in values ≡ slots_of (take p ds) → slots_in (values_with end values) ≡ slots_of (take (p + 1) ds)
 some_slot ds p d values end at own ok given = grind (arith, slots_none, slots_more)
 
-stores_own : (d : Directive) (end : StepEnd) (stores : Bool) → slot_stored end ≡ slot_of d → stored end ≡ stores → stores ≡ true
-    → is_destination d ≡ true
-stores_own d end stores own is some = grind arith
+-- they are among those of the directives that have ended
+some_given : (ds : List Directive) (p : ℕ) (d : Directive) (values : List Assigned) (end : StepEnd) → slice_get ds p ≡ Some d
+    → slot_stored end ≡ slot_of d → passed end ≡ true → are_among (slots_in values) (slots_of (take p ds)) ≡ true
+    → are_among (slots_in (values_with end values)) (slots_of (take (p + 1) ds)) ≡ true
+some_given ds p d values Passed at own ok given = given_on ds p d values at given
+some_given ds p d values (Stores slot v) at own ok given = given_more ds p d values slot v at (sym own) given
+some_given ds p d values Misses at own ok given = absurd (true≢false (sym ok))
+some_given ds p d values (Fails status) at own ok given = absurd (true≢false (sym ok))
 
--- the next directive has passed
-pub going_on : (ds : List Directive) (front : List ℕ) (p : ℕ) (d : Directive) (t u : code.Tally) (old new : Kept) (piece : List ℕ)
-    (taken : ℕ) (stores : Bool) → slice_get ds p ≡ Some d
-    → Going ds front p t old → piece ≡ drop t.used front → PassesWithin d t.used piece taken stores old new
-    → ((end : StepEnd) (values : List Assigned) → PassesSo end stores
-    → tally_of u (values_with end values) ≡ counted d end (with_used (t.used + taken) (tally_of t values)))
-    → u.used ≡ t.used + taken → u.assigned ≤ t.assigned + cond stores 1 0 → u.converted ≤ t.converted + 1 → Going ds front (p + 1) u new
-going_on ds front p d t u old new piece taken stores at h is w tally used assigned' converted' =
-    let end : StepEnd = w.end in
-    let ok : passed end ≡ true = w.gives.passes.passes in
+passed_goes : (end : StepEnd) → passed end ≡ true → goes end ≡ true
+passed_goes end ok = grind arith
+
+-- the next directive has ended so, and the store has these values
+going_on : (ds : List Directive) (front : List ℕ) (p : ℕ) (d : Directive) (t u : code.Tally) (old new : Kept) (piece : List ℕ)
+    (taken : ℕ) (end : StepEnd) → slice_get ds p ≡ Some d
+    → Going ds front p t old → piece ≡ drop t.used front → EndsIn d Skipping t.used piece taken end → goes end ≡ true
+    → new.values ≡ values_with end old.values → new.opened ≡ None → new.closed ≡ texts_in new.values
+    → are_among (slots_in (values_with end old.values)) (slots_of (take (p + 1) ds)) ≡ true
+    → tally_of u (values_with end old.values) ≡ counted d end (with_used (t.used + taken) (tally_of t old.values))
+    → u.used ≡ t.used + taken → Going ds front (p + 1) u new
+going_on ds front p d t u old new piece taken end at h is takes ok values opened joined given tally used =
     let rest : List ℕ = drop t.used front in
-    let behind : taken ≤ length rest = subst (λ y. taken ≤ length y) is w.takes.within in
+    let behind : taken ≤ length rest = subst (λ y. taken ≤ length y) is takes.within in
     let left : length rest ≡ length front - t.used = length-drop t.used front in
     let low = h.within in
     record {
@@ -114,18 +149,16 @@ going_on ds front p d t u old new piece taken stores at h is w tally used assign
           let next : List ℕ = drop u.used front in
           let place : drop taken piece ≡ next = ap (drop taken) is ∙ drop-drop taken t.used front ∙ ap (λ n. drop n front) (sym used) in
           let step : one_from d Skipping t.used (rest ++ z) ≡ record { used = t.used + taken; left = next ++ z; end = end } =
-          ap (λ y. one_from d Skipping t.used (y ++ z)) (sym is) ∙ w.takes.takes z
+          ap (λ y. one_from d Skipping t.used (y ++ z)) (sym is) ∙ takes.takes z
           ∙ ap (λ (y : List ℕ). record { used = t.used + taken; left = y ++ z; end = end }) place in
           h.same z ∙ ap (λ l. run_of None l (p + 1) (tally_of t old.values) (rest ++ z)) (drop_at ds p d at)
-          ∙ passes_on d (drop (p + 1) ds) (p + 1) (tally_of t old.values) (rest ++ z) (next ++ z) taken end ok step
+          ∙ goes_on d (drop (p + 1) ds) (p + 1) (tally_of t old.values) (rest ++ z) (next ++ z) taken end ok step
           ∙ ap (λ v. run_of None (drop (p + 1) ds) (p + 1 + 1) v (next ++ z))
-          (sym (tally end old.values w.gives.passes) ∙ ap (tally_of u) (sym w.gives.values));
+          (sym tally ∙ ap (tally_of u) (sym values));
       within = omega (arith, used, behind, left, low);
-      given = ap slots_in w.gives.values ∙ some_slot ds p d old.values end at w.own ok h.given;
-      opened = w.gives.opened;
-      joined = w.gives.joined h.joined;
-      assigned = grind (arith, place_taken, stores_own);
-      converted = grind arith;
+      given = ap (λ v. are_among (slots_in v) (slots_of (take (p + 1) ds))) values ∙ given;
+      opened = opened;
+      joined = joined;
     }
 
 -- the totals with a directive that has passed, which counts as a conversion or not, and stores or not
@@ -140,10 +173,6 @@ totals_counted : (d : Directive) (end : StepEnd) (stores : Bool) (taken : ℕ) (
     → tally_of (totals (is_conversion d) stores taken t) (values_with end values)
     ≡ counted d end (with_used (t.used + taken) (tally_of t values))
 totals_counted d end stores taken t values so = grind arith
-
-values_more : (end : StepEnd) (stores : Bool) (values : List Assigned) → PassesSo end stores
-    → length (values_with end values) ≡ length values + cond stores 1 0
-values_more end stores values so = grind (arith, length-append)
 
 -- ---- what is counted
 
@@ -161,74 +190,166 @@ assigns_more d end stores n so own = grind arith
 takes_more : (d : Directive) (n : ℕ) → cond (is_conversion d) (n + 1) n ≡ n + cond (takes_item d) 1 0
 takes_more d n = grind arith
 
--- what a directive that has passed adds at most
-record Adds (v stores : Bool) (t : code.Tally) : Type 0 where
-  pub assigned : cond stores (cond v (t.assigned + 1) t.assigned) t.assigned ≤ t.assigned + cond stores 1 0
-  pub converted : cond v (t.converted + 1) t.converted ≤ t.converted + 1
+-- an item that is missing is one that the directive takes, and it may be
+misses_only : (d : Directive) (q : Stage) (n : ℕ) (more : Bool) → finished d q n more ≡ Misses
+    → (is_optional d ≡ true) × (takes_item d ≡ true)
+misses_only d q n more e = grind arith
 
-adds : (v stores : Bool) (t : code.Tally) → Adds v stores t
-adds true true t = record { assigned = omega arith; converted = omega arith }
-adds true false t = record { assigned = omega arith; converted = omega arith }
-adds false true t = record { assigned = omega arith; converted = omega arith }
-adds false false t = record { assigned = omega arith; converted = omega arith }
+pub one_misses : (d : Directive) (q : Stage) (n : ℕ) (x : List ℕ) → (one_from d q n x).end ≡ Misses
+    → (is_optional d ≡ true) × (takes_item d ≡ true)
+one_misses d q n [] e = misses_only d q n false e
+one_misses d q n (b ∷ x) e = by_option (λ p. p.end ≡ Misses → (is_optional d ≡ true) × (takes_item d ≡ true)) (stepped d q b) _ _
+    (misses_only d q n true) (λ r. one_misses d r (n + 1) x) e
 
--- The directives before this place have passed within the front; after the bytes that they took is the rest, and their
--- items are counted.
-pub record Counted (ds : List Directive) (front tail : List ℕ) (p : ℕ) (kept : Kept) : Type 0 where
-  pub tally : code.Tally
-  pub going : Going ds front p tally kept
-  pub rest : tail ≡ drop tally.used front
-  pub short : length tail ≤ length front
-  pub assigned : tally.assigned ≡ items_assigned (take p ds)
-  pub converted : tally.converted ≡ items_taken (take p ds)
+abbrev one_if : Bool → ℕ
+one_if v = cond v 1 0
+
+assigns_taken : (d : Directive) → takes_item d ≡ true → assigns_item d ≡ is_some (slot_of d)
+assigns_taken d takes = grind arith
+
+assigns_destination : (d : Directive) → assigns_item d ≡ true → is_destination d ≡ true
+assigns_destination d is = grind arith
+
+-- ---- the first directives of a format
+
+few_more : (ds : List Directive) (p : ℕ) (d : Directive) → slice_get ds p ≡ Some d → Few ds p → Few ds (p + 1)
+few_more ds p d at h =
+    let given = count_more assigns_item ds p d at in
+    let taken = count_more takes_item ds p d at in
+    let place = place_taken ds p d (assigns_item d) at (assigns_destination d) in
+    let assigned = h.assigned in
+    let converted = h.converted in
+    let one : cond (takes_item d) 1 0 ≤ 1 = grind arith in
+    record { assigned = omega (arith, given, place, assigned); converted = omega (arith, taken, one, converted) }
+
+-- what the run used so far
+pub used_is : (ds : List Directive) (front tail : List ℕ) (p : ℕ) (missing : Missing) (kept : Kept)
+    → (h : Counted ds front tail p missing kept) → h.tally.used ≡ length front - length tail
+used_is ds front tail p missing kept h =
+    let low = h.going.within in
+    let short = ap length h.rest ∙ length-drop h.tally.used front in
+    omega (arith, short, low)
 
 -- the next directive has passed
-pub counting_on : (ds : List Directive) (front rest left : List ℕ) (p : ℕ) (d : Directive) (n : ℕ) (old new : Kept)
+pub counting_on : (ds : List Directive) (front rest left : List ℕ) (p : ℕ) (d : Directive) (n : ℕ) (missing : Missing) (old new : Kept)
     (taken : ℕ) → slice_get ds p ≡ Some d
-    → (h : Counted ds front rest p old) → n ≡ length front - length rest → Passes d n rest taken old new
-    → left ≡ drop taken rest → Counted ds front left (p + 1) new
-counting_on ds front rest left p d n old new taken at h begins w on =
+    → (h : Counted ds front rest p missing old) → n ≡ length front - length rest → Passes d n rest taken old new
+    → left ≡ drop taken rest → Counted ds front left (p + 1) missing new
+counting_on ds front rest left p d n missing old new taken at h begins w on =
     let t : code.Tally = h.tally in
     let v : Bool = is_conversion d in
     let stores : Bool = w.0 in
     let u : code.Tally = totals v stores taken t in
-    let low = h.going.within in
-    let short = ap length h.rest ∙ length-drop t.used front in
-    let here : n ≡ t.used = omega (arith, begins, short, low) in
+    let here : n ≡ t.used = begins ∙ sym (used_is ds front rest p missing old h) in
     let is : PassesWithin d t.used rest taken stores old new = subst (λ m. PassesWithin d m rest taken stores old new) here w.1 in
-    let more : Adds v stores t = adds v stores t in
+    let so : PassesSo is.end stores = is.gives.passes in
+    let assigned' = assigns_more d is.end stores t.assigned so is.own in
+    let converted' = takes_more d t.converted in
+    let given = count_more assigns_item ds p d at in
+    let taken' = count_more takes_item ds p d at in
+    let assigned = h.assigned in
+    let converted = h.converted in
     record {
       tally = u;
-      going = going_on ds front p d t u old new rest taken stores at h.going h.rest is
-          (λ end values so. totals_counted d end stores taken t values so) refl more.assigned more.converted;
+      going = going_on ds front p d t u old new rest taken is.end at h.going h.rest is.takes (passed_goes is.end so.passes)
+          is.gives.values is.gives.opened (is.gives.joined h.going.joined)
+          (some_given ds p d old.values is.end at is.own so.passes h.going.given)
+          (totals_counted d is.end stores taken t old.values so) refl;
       rest = on ∙ ap (drop taken) h.rest ∙ drop-drop taken t.used front;
-      short = grind (arith, length-drop, rest, short);
-      assigned = assigns_more d is.end stores t.assigned is.gives.passes is.own
-          ∙ ap (λ k. k + cond (assigns_item d) 1 0) h.assigned ∙ sym (count_more assigns_item ds p d at);
-      converted = takes_more d t.converted ∙ ap (λ k. k + cond (takes_item d) 1 0) h.converted ∙ sym (count_more takes_item ds p d at);
+      short = grind (arith, length-drop, on, (h.short));
+      assigned = omega (arith, assigned', given, assigned);
+      converted = omega (arith, converted', taken', converted);
+      few = few_more ds p d at h.few;
     }
+
+-- its item is missing
+pub counting_missing : (ds : List Directive) (front rest left : List ℕ) (p : ℕ) (d : Directive) (n : ℕ) (missing more : Missing)
+    (old new : Kept) (taken : ℕ) → slice_get ds p ≡ Some d → (h : Counted ds front rest p missing old)
+    → n ≡ length front - length rest → EndsIn d Skipping n rest taken Misses → new ≡ old → left ≡ drop taken rest
+    → more.assigned ≡ missing.assigned + cond (is_some (slot_of d)) 1 0 → more.converted ≡ missing.converted + 1
+    → Counted ds front left (p + 1) more new
+counting_missing ds front rest left p d n missing more old new taken at h begins takes same on assigned' converted' =
+    let t : code.Tally = h.tally in
+    let u : code.Tally = record { used = t.used + taken; assigned = t.assigned; converted = t.converted } in
+    let here : n ≡ t.used = begins ∙ sym (used_is ds front rest p missing old h) in
+    let is : EndsIn d Skipping t.used rest taken Misses = subst (λ m. EndsIn d Skipping m rest taken Misses) here takes in
+    let item = (one_misses d Skipping t.used (rest ++ []) (ap (λ (q : Part). q.end) (is.takes []))).1 in
+    let one : one_if (assigns_item d) ≡ one_if (is_some (slot_of d)) = ap one_if (assigns_taken d item) in
+    let two : one_if (takes_item d) ≡ 1 = ap one_if item in
+    let given = count_more assigns_item ds p d at in
+    let taken' = count_more takes_item ds p d at in
+    let assigned = h.assigned in
+    let converted = h.converted in
+    record {
+      tally = u;
+      going = going_on ds front p d t u old new rest taken Misses at h.going h.rest is refl (ap (λ (k : Kept). k.values) same)
+          (ap (λ (k : Kept). k.opened) same ∙ h.going.opened)
+          (subst (λ (k : Kept). k.closed ≡ texts_in k.values) (sym same) h.going.joined)
+          (given_on ds p d old.values at h.going.given) refl refl;
+      rest = on ∙ ap (drop taken) h.rest ∙ drop-drop taken t.used front;
+      short = grind (arith, length-drop, on, (h.short));
+      assigned = omega (arith, assigned', given, assigned, one);
+      converted = omega (arith, converted', taken', converted, two);
+      few = few_more ds p d at h.few;
+    }
+
+-- the same by how it ended
+pub counting : (ds : List Directive) (front rest left : List ℕ) (p : ℕ) (d : Directive) (n : ℕ) (missing : Missing) (old new : Kept)
+    (passage : Passage) → slice_get ds p ≡ Some d → Counted ds front rest p missing old
+    → n ≡ length front - length rest → EndsSo d n rest passage old new → left ≡ drop passage.taken rest
+    → (passage.end ≡ ends.Passes → Counted ds front left (p + 1) missing new)
+    × ((more : Missing) → passage.end ≡ ends.Misses → more.assigned ≡ missing.assigned + cond (is_some (slot_of d)) 1 0
+    → more.converted ≡ missing.converted + 1 → Counted ds front left (p + 1) more new)
+counting ds front rest left p d n missing old new passage at h begins w on = (
+  λ is. (let so : GivenSo ends.Passes d w.end old new = subst (λ how. GivenSo how d w.end old new) is w.gives in
+      counting_on ds front rest left p d n missing old new passage.taken at h begins
+      (so.0, record { end = w.end; takes = w.takes; gives = so.1; own = so.2 }) on),
+  λ more is assigned converted. (let so : GivenSo ends.Misses d w.end old new = subst (λ how. GivenSo how d w.end old new) is w.gives in
+      counting_missing ds front rest left p d n missing more old new passage.taken at h begins
+      (subst (λ end. EndsIn d Skipping n rest passage.taken end) so.0 w.takes) so.1 on assigned converted),
+)
+
+-- the same of what is the same
+pub counted_as : (ds : List Directive) (front tail : List ℕ) (p : ℕ) (one missing : Missing) (new kept : Kept) → one ≡ missing
+    → new ≡ kept → Counted ds front tail p missing kept → Counted ds front tail p one new
+counted_as ds front tail p one missing new kept e f h =
+    subst (λ m. Counted ds front tail p m new) (sym e) (subst (λ k. Counted ds front tail p missing k) (sym f) h)
 
 -- the slot of the next directive is free
 pub free_at : (slots : ℕ) (ds : List Directive) (p : ℕ) (d : Directive) (values : List Assigned) → slice_get ds p ≡ Some d
     → are_placed slots ds ≡ true → are_apart (slots_of ds) ≡ true
-    → slots_in values ≡ slots_of (take p ds) → MayBeGiven slots (slot_of d) values
-free_at slots ds p d values at placed apart given = grind (arith, slot_placed, slot_free)
+    → are_among (slots_in values) (slots_of (take p ds)) ≡ true → MayBeGiven slots (slot_of d) values
+free_at slots ds p d values at placed apart given = grind (arith, slot_placed, slot_unused)
+
+-- the slots of a format are those of a store with as many
+pub placed : (slots : ℕ) (ds all : List Directive) → ds ≡ all → length (destinations_of all) ≤ slots → AreSlots (destinations_of ds)
+    → are_placed slots ds ≡ true
+placed slots ds all is many known =
+    let same = ap (λ (l : List Directive). length (destinations_of l)) is in
+    placed_from _ slots _ (omega (arith, many, same)) known.each
 
 -- ---- the end
+
+-- the report of a run that ends so and met no end, with these counts
+abbrev pub told : Status → ℕ → ℕ → ℕ → ℕ → List Assigned → RunReport
+told status at used assigned converted values =
+    out_of status at (record { used = used; assigned = assigned; converted = converted; values = values })
 
 -- past the last directive
 all_passed : (ds : List Directive) (p : ℕ) (x : List ℕ) (t : Tally) → length ds ≤ p → run_of None (drop p ds) (p + 1) t x ≡ out_of Done 0 t
 all_passed ds p x t h = grind (arith, common_steps)
 
 -- a run that is the same however the input goes on is the report
-pub done_is : (ds : List Directive) → AreProper ds → (m : ℕ) (x : List ℕ) (ending : Ending) (t : Tally)
-    → ((z : List ℕ) → run_of None ds 1 nothing_yet (x ++ z) ≡ out_of Done 0 t)
-    → t.used ≤ m → t.used ≤ length x → RunWithin ds m x ending (out_of Done 0 t)
-done_is ds proper m x ending t same fits within =
-    let here : run_of None ds 1 nothing_yet x ≡ out_of Done 0 t = ap (run_of None ds 1 nothing_yet) (sym (append-nil x)) ∙ same [] in
+ended_is : (ds : List Directive) → AreProper ds → (m : ℕ) (x : List ℕ) (ending : Ending) (status : Status) (at : ℕ) (t : Tally)
+    → ((z : List ℕ) → run_of None ds 1 nothing_yet (x ++ z) ≡ out_of status at t)
+    → t.used ≤ m → t.used ≤ length x → RunWithin ds m x ending (out_of status at t)
+ended_is ds proper m x ending status at t same fits within =
+    let here : run_of None ds 1 nothing_yet x ≡ out_of status at t =
+    ap (run_of None ds 1 nothing_yet) (sym (append-nil x)) ∙ same [] in
     let used : (run_of None ds 1 nothing_yet x).used ≡ t.used = ap (λ (r : RunReport). r.used) here in
-    let cut : run_of (Some m) ds 1 nothing_yet x ≡ out_of Done 0 t = within_limit m ds 1 nothing_yet x (omega (arith, used, fits)) ∙ here in
-    within_met open_all ds proper m x ending None (out_of Done 0 t)
+    let cut : run_of (Some m) ds 1 nothing_yet x ≡ out_of status at t =
+    within_limit m ds 1 nothing_yet x (omega (arith, used, fits)) ∙ here in
+    within_met open_all ds proper m x ending None (out_of status at t)
     (subst (λ r. TellsWithin ds m x r) cut (told_exists ds proper m x)) closed
   where
     closed : IsOpen ds x × (length x ≤ m) → ⊥
@@ -239,32 +360,26 @@ done_is ds proper m x ending t same fits within =
         omega (arith, long, short, within)
 
 -- what was read within a front of a piece is the report of each input that begins with the piece
-pub quick_is : (ds : List Directive) → AreProper ds → (m most : ℕ) (piece front : List ℕ) (t : code.Tally) (kept : Kept) (p : ℕ)
-    → length ds ≤ p → front ≡ take most piece → length front ≤ m
-    → Going ds front p t kept → (z : List ℕ) (ending : Ending) → RunWithin ds m (piece ++ z) ending (out_of Done 0 (tally_of t kept.values))
-quick_is ds proper m most piece front t kept p all is fits h z ending =
+sure_is : (ds : List Directive) → AreProper ds → (m most : ℕ) (piece front : List ℕ) (status : Status) (at : ℕ) (t : Tally)
+    → front ≡ take most piece → length front ≤ m → t.used ≤ length front
+    → ((z : List ℕ) → run_of None ds 1 nothing_yet (front ++ z) ≡ out_of status at t)
+    → (z : List ℕ) (ending : Ending) → RunWithin ds m (piece ++ z) ending (out_of status at t)
+sure_is ds proper m most piece front status at t is fits low same z ending =
     let rest : List ℕ = drop most piece ++ z in
     let whole : front ++ rest ≡ piece ++ z = ap (λ y. y ++ rest) is ∙ sym (append_assoc (take most piece) (drop most piece) z)
     ∙ ap (λ y. y ++ z) (take-append-drop most piece) in
-    let low = h.within in
     let long : length (front ++ rest) ≡ length front + length rest = length-append front rest in
-    subst (λ y. RunWithin ds m y ending (out_of Done 0 (tally_of t kept.values))) whole
-    (done_is ds proper m (front ++ rest) ending (tally_of t kept.values)
-    (λ y. ap (run_of None ds 1 nothing_yet) (append_assoc front rest y) ∙ h.same (rest ++ y)
-    ∙ all_passed ds p _ (tally_of t kept.values) all)
+    subst (λ y. RunWithin ds m y ending (out_of status at t)) whole
+    (ended_is ds proper m (front ++ rest) ending status at t
+    (λ y. ap (run_of None ds 1 nothing_yet) (append_assoc front rest y) ∙ same (rest ++ y))
     (omega (arith, low, fits)) (omega (arith, low, long)))
 
 -- ---- the whole run
 
--- the same of what is the same
-pub passes_as : (d : Directive) (n : ℕ) (rest : List ℕ) (t u : ℕ) (old before new after : Kept) → u ≡ t → before ≡ old → after ≡ new
-    → Passes d n rest t old new → Passes d n rest u before after
-passes_as d n rest t u old before new after e f g h = grind arith
-
 -- before the first directive
 pub nothing_counted : (ds : List Directive) (front : List ℕ) (kept : Kept) (room : ℕ) → kept ≡ nothing_kept room
-    → length (destinations_of ds) ≤ 32 → Counted ds front front 0 kept
-nothing_counted ds front kept room is few = subst (λ k. Counted ds front front 0 k) (sym is)
+    → length (destinations_of ds) ≤ 32 → Counted ds front front 0 (record { assigned = 0; converted = 0 }) kept
+nothing_counted ds front kept room is few = subst (λ k. Counted ds front front 0 (record { assigned = 0; converted = 0 }) k) (sym is)
     (record {
       tally = record { used = 0; assigned = 0; converted = 0 };
       going = record {
@@ -273,33 +388,172 @@ nothing_counted ds front kept room is few = subst (λ k. Counted ds front front 
         given = refl;
         opened = refl;
         joined = refl;
-        assigned = omega (arith, few);
-        converted = omega arith;
       };
       rest = refl;
       short = omega arith;
       assigned = refl;
       converted = refl;
+      few = record { assigned = omega (arith, few); converted = omega arith };
     })
 
--- the report of a run that is Done, with these counts
-abbrev pub told : ℕ → ℕ → ℕ → List Assigned → RunReport
-told used assigned converted values =
-    out_of Done 0 (record { used = used; assigned = assigned; converted = converted; values = values })
+-- that of an outcome
+pub told_by : (o : Outcome) (values : List Assigned) (status : Status) (at used assigned converted : ℕ) → o.status ≡ status → o.at ≡ at
+    → o.used ≡ used → o.assigned ≡ assigned → o.converted ≡ converted → o.met ≡ None
+    → told status at used assigned converted values ≡ report_by o values
+told_by o values status at used assigned converted is_status is_at is_used is_assigned is_converted is_met = grind arith
 
--- past the last directive the run is the report with the counts of the format
-pub counted_run : (ds : List Directive) → AreProper ds → (m most : ℕ) (piece front rest : List ℕ) (kept : Kept) (p : ℕ)
-    → length ds ≤ p → front ≡ take most piece → length front ≤ m → Counted ds front rest p kept → (z : List ℕ) (ending : Ending)
-    → RunWithin ds m (piece ++ z) ending (done_by ds (length front - length rest) kept.values)
-counted_run ds proper m most piece front rest kept p all is fits h z ending =
+same_told : (status : Status) (at used used' assigned assigned' converted converted' : ℕ) (values : List Assigned) → used ≡ used'
+    → assigned ≡ assigned' → converted ≡ converted'
+    → told status at used assigned converted values ≡ told status at used' assigned' converted' values
+same_told status at used used' assigned assigned' converted converted' values e f g =
+    ap (λ n. told status at n assigned converted values) e ∙ ap (λ n. told status at used' n converted values) f
+    ∙ ap (λ n. told status at used' assigned' n values) g
+
+-- past the last directive the run is Done, and counts all items but those that are missing
+pub counted_done : (ds : List Directive) → AreProper ds → (m most : ℕ) (piece front rest : List ℕ) (missing : Missing) (kept : Kept)
+    (p : ℕ) → length ds ≤ p → front ≡ take most piece → length front ≤ m → Counted ds front rest p missing kept → (z : List ℕ)
+    (ending : Ending) → RunWithin ds m (piece ++ z) ending (told Done 0 (length front - length rest)
+    (items_assigned ds - missing.assigned) (items_taken ds - missing.converted) kept.values)
+counted_done ds proper m most piece front rest missing kept p all is fits h z ending =
     let t : code.Tally = h.tally in
-    let values : List Assigned = kept.values in
+    let assigned' = h.assigned ∙ ap items_assigned (take_all p ds all) in
+    let converted' = h.converted ∙ ap items_taken (take_all p ds all) in
+    subst (λ r. RunWithin ds m (piece ++ z) ending r)
+    (same_told Done 0 t.used (length front - length rest) t.assigned (items_assigned ds - missing.assigned) t.converted
+    (items_taken ds - missing.converted) kept.values (used_is ds front rest p missing kept h) (omega (arith, assigned'))
+    (omega (arith, converted')))
+    (sure_is ds proper m most piece front Done 0 (tally_of t kept.values) is fits h.going.within
+    (λ y. h.going.same y ∙ all_passed ds p _ (tally_of t kept.values) all) z ending)
+
+-- a directive that fails ends the run
+fails_on : (d : Directive) (ds : List Directive) (at : ℕ) (t : Tally) (x y : List ℕ) (n : ℕ) (status : Status)
+    → one_from d Skipping t.used x ≡ record { used = n; left = y; end = Fails status }
+    → run_of None (d ∷ ds) at t x ≡ out_of status at (with_used n t)
+fails_on d ds at t x y n status is = ap (λ q. then_on None d at t q (run_of None ds (at + 1))) is
+
+-- where the next directive fails, the run counts the items before it but those that are missing
+pub counted_failed : (ds : List Directive) → AreProper ds → (m most n : ℕ) (piece front rest : List ℕ) (missing : Missing)
+    (old new : Kept) (p : ℕ) (d : Directive) (passage : Passage) (status : Status) → slice_get ds p ≡ Some d → front ≡ take most piece
+    → length front ≤ m → (h : Counted ds front rest p missing old) → n ≡ length front - length rest → EndsSo d n rest passage old new
+    → passage.end ≡ ends.Fails status → (z : List ℕ) (ending : Ending)
+    → RunWithin ds m (piece ++ z) ending (told status (p + 1) (n + passage.taken)
+    (items_assigned (take p ds) - missing.assigned) (items_taken (take p ds) - missing.converted) new.values)
+counted_failed ds proper m most n piece front rest missing old new p d passage status at is fits h begins w how z ending =
+    let t : code.Tally = h.tally in
+    let used : ℕ = t.used + passage.taken in
+    let u : Tally = with_used used (tally_of t old.values) in
+    let so : GivenSo (ends.Fails status) d w.end old new = subst (λ e. GivenSo e d w.end old new) how w.gives in
+    let here : n ≡ t.used = begins ∙ sym (used_is ds front rest p missing old h) in
+    let takes : EndsIn d Skipping t.used rest passage.taken (Fails status) =
+    subst (λ m. EndsIn d Skipping m rest passage.taken (Fails status)) here
+    (subst (λ end. EndsIn d Skipping n rest passage.taken end) so.0 w.takes) in
+    let within = takes.within in
     let low = h.going.within in
     let short = ap length h.rest ∙ length-drop t.used front in
-    let used : t.used ≡ length front - length rest = omega (arith, short, low) in
-    let assigned : t.assigned ≡ items_assigned ds = h.assigned ∙ ap items_assigned (take_all p ds all) in
-    let converted : t.converted ≡ items_taken ds = h.converted ∙ ap items_taken (take_all p ds all) in
+    let assigned' = h.assigned in
+    let converted' = h.converted in
     subst (λ r. RunWithin ds m (piece ++ z) ending r)
-    (ap (λ n. told n t.assigned t.converted values) used ∙ ap (λ n. told (length front - length rest) n t.converted values) assigned
-    ∙ ap (λ n. told (length front - length rest) (items_assigned ds) n values) converted)
-    (quick_is ds proper m most piece front t kept p all is fits h.going z ending)
+    (ap (out_of status (p + 1)) (ap (λ v. record u { values = v }) (ap (λ (k : Kept). k.values) (sym so.1)))
+    ∙ same_told status (p + 1) used (n + passage.taken) t.assigned (items_assigned (take p ds) - missing.assigned) t.converted
+    (items_taken (take p ds) - missing.converted) new.values (omega (arith, here)) (omega (arith, assigned'))
+    (omega (arith, converted')))
+    (sure_is ds proper m most piece front status (p + 1) u is fits (omega (arith, within, low, short))
+    (λ y. h.going.same y ∙ ap (λ l. run_of None l (p + 1) (tally_of t old.values) (drop t.used front ++ y)) (drop_at ds p d at)
+    ∙ fails_on d (drop (p + 1) ds) (p + 1) (tally_of t old.values) (drop t.used front ++ y) (drop passage.taken rest ++ y) used status
+    (ap (λ x. one_from d Skipping t.used (x ++ y)) (sym h.rest) ∙ takes.takes y)) z ending)
+
+-- a run that misses no item is the report with the counts of the format
+pub counted_run : (ds : List Directive) → AreProper ds → (m most : ℕ) (piece front rest : List ℕ) (kept : Kept) (p : ℕ)
+    → length ds ≤ p → front ≡ take most piece → length front ≤ m
+    → Counted ds front rest p (record { assigned = 0; converted = 0 }) kept → (z : List ℕ) (ending : Ending)
+    → RunWithin ds m (piece ++ z) ending (done_by ds (length front - length rest) kept.values)
+counted_run ds proper m most piece front rest kept p all is fits h z ending =
+    let used : ℕ = length front - length rest in
+    subst (λ r. RunWithin ds m (piece ++ z) ending r)
+    (same_told Done 0 used used (items_assigned ds - 0) (items_assigned ds) (items_taken ds - 0) (items_taken ds) kept.values refl
+    (omega arith) (omega arith))
+    (counted_done ds proper m most piece front rest (record { assigned = 0; converted = 0 }) kept p all is fits h z ending)
+
+-- ---- from place to place
+
+-- the store then holds the values alone
+pub values_held : (kept : Kept) → kept.opened ≡ None → kept.closed ≡ texts_in kept.values → HoldsValues kept
+values_held kept opened joined = record {
+  opened = opened;
+  joined = ap (λ (o : Option Opened). kept.closed ++ text_of o) opened ∙ append-nil kept.closed ∙ joined;
+}
+
+-- the bytes after a place
+pub after_place : (front : List ℕ) (used : ℕ) → used ≤ length front → used ≡ length front - length (drop used front)
+after_place front used low = let left = length-drop used front in omega (arith, left, low)
+
+-- before the first directive
+pub come_start : (ds : List Directive) (front : List ℕ) (kept : Kept) (room n : ℕ) → kept ≡ nothing_kept room
+    → length (destinations_of ds) ≤ 32 → n ≡ length ds → HasCome ds front (record { left = n; used = 0 }) none_missing kept
+come_start ds front kept room n is few all =
+    let none : 0 ≡ length ds - n = omega (arith, all) in
+    subst (λ p. Counted ds front front p none_missing kept) none (nothing_counted ds front kept room is few)
+
+-- where the rest is what stands after a place, the run has come there
+pub come_of : (ds all : List Directive) (front rest : List ℕ) (p : ℕ) (from place : Place) (missing : Missing) (old kept new : Kept)
+    → new ≡ kept → ds ≡ all → p ≡ length ds - place.left → place.used ≡ length front - length rest
+    → (HasCome ds front from missing old → Counted ds front rest p missing kept)
+    → HasCome all front from missing old → HasCome all front place missing new
+come_of ds all front rest p from place missing old kept new same is here used on come =
+    let h : Counted ds front rest p missing kept = on (subst (λ (l : List Directive). HasCome l front from missing old) (sym is) come) in
+    let tail : rest ≡ drop place.used front = h.rest ∙ ap (λ n. drop n front) (used_is ds front rest p missing kept h ∙ sym used) in
+    subst (λ (l : List Directive). HasCome l front place missing new) is
+    (counted_as ds front (drop place.used front) (length ds - place.left) missing missing new kept refl same
+    (subst (λ (y : List ℕ). Counted ds front y (length ds - place.left) missing kept) tail
+    (subst (λ n. Counted ds front rest n missing kept) here h)))
+
+-- the next directive has ended so
+pub come_on : (ds : List Directive) (front : List ℕ) (place next : Place) (d : Directive) (missing : Missing) (old new : Kept)
+    (passage : Passage) → slice_get ds (length ds - place.left) ≡ Some d → 0 < place.left → place.left ≤ length ds
+    → place.used ≤ length front → HasCome ds front place missing old
+    → EndsSo d place.used (drop place.used front) passage old new → next.left ≡ place.left - 1 → next.used ≡ place.used + passage.taken
+    → (passage.end ≡ ends.Passes → HasCome ds front next missing new)
+    × ((more : Missing) → passage.end ≡ ends.Misses → more.assigned ≡ missing.assigned + cond (is_some (slot_of d)) 1 0
+    → more.converted ≡ missing.converted + 1 → HasCome ds front next more new)
+come_on ds front place next d missing old new passage at some most low h w left used =
+    let on : drop next.used front ≡ drop passage.taken (drop place.used front) =
+    ap (λ n. drop n front) used ∙ sym (drop-drop passage.taken place.used front) in
+    let p : length ds - place.left + 1 ≡ length ds - next.left = omega (arith, some, most, left) in
+    let both = counting ds front (drop place.used front) (drop next.used front) (length ds - place.left) d place.used missing old new
+    passage at h (after_place front place.used low) w on in (
+      λ is. subst (λ n. Counted ds front (drop next.used front) n missing new) p (both.0 is),
+      λ more is assigned converted. subst (λ n. Counted ds front (drop next.used front) n more new) p (both.1 more is assigned converted),
+    )
+
+-- past the last directive, an outcome that counts so is that of the run
+pub come_done : (ds : List Directive) → AreProper ds → (m most : ℕ) (piece front : List ℕ) (place : Place) (missing : Missing) (kept : Kept)
+    (o : Outcome) → place.left ≡ 0 → place.used ≤ length front → front ≡ take most piece → length front ≤ m
+    → HasCome ds front place missing kept → o.status ≡ Done → o.at ≡ 0 → o.used ≡ place.used
+    → o.assigned ≡ items_assigned ds - missing.assigned → o.converted ≡ items_taken ds - missing.converted → o.met ≡ None
+    → (z : List ℕ) (ending : Ending) → RunWithin ds m (piece ++ z) ending (report_by o kept.values)
+come_done ds proper m most piece front place missing kept o none low is fits h status at used assigned converted met z ending =
+    let rest : List ℕ = drop place.used front in
+    let begins : length front - length rest ≡ o.used = sym (used ∙ after_place front place.used low) in
+    subst (λ r. RunWithin ds m (piece ++ z) ending r)
+    (same_told Done 0 (length front - length rest) o.used _ _ _ _ kept.values begins refl refl
+    ∙ told_by o kept.values Done 0 o.used (items_assigned ds - missing.assigned) (items_taken ds - missing.converted)
+    status at refl assigned converted met)
+    (counted_done ds proper m most piece front rest missing kept (length ds - place.left) (omega (arith, none)) is fits h z ending)
+
+-- so is one that counts so where the next directive fails
+pub come_failed : (ds : List Directive) → AreProper ds → (m most : ℕ) (piece front : List ℕ) (place : Place) (missing : Missing)
+    (old new : Kept) (d : Directive) (passage : Passage) (status : Status) (o : Outcome) → slice_get ds (length ds - place.left) ≡ Some d
+    → place.used ≤ length front → front ≡ take most piece → length front ≤ m → HasCome ds front place missing old
+    → EndsSo d place.used (drop place.used front) passage old new → passage.end ≡ ends.Fails status
+    → o.status ≡ status → o.at ≡ length ds - place.left + 1 → o.used ≡ place.used + passage.taken
+    → o.assigned ≡ items_assigned (take (length ds - place.left) ds) - missing.assigned
+    → o.converted ≡ items_taken (take (length ds - place.left) ds) - missing.converted → o.met ≡ None
+    → (z : List ℕ) (ending : Ending) → RunWithin ds m (piece ++ z) ending (report_by o new.values)
+come_failed ds proper m most piece front place missing old new d passage status o here low is fits h w how is_status at used assigned
+    converted met z ending =
+    let p : ℕ = length ds - place.left in
+    subst (λ r. RunWithin ds m (piece ++ z) ending r)
+    (told_by o new.values status (p + 1) (place.used + passage.taken) (items_assigned (take p ds) - missing.assigned)
+    (items_taken (take p ds) - missing.converted) is_status at used assigned converted met)
+    (counted_failed ds proper m most place.used piece front (drop place.used front) missing old new p d passage status here is fits h
+    (after_place front place.used low) w how z ending)

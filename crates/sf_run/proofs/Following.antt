@@ -1,5 +1,5 @@
 -- When a run whose values are written as they are read is told.
-use Rattle.std.proofs.Common.{[], ◌≡◌, ◌≢◌, ℕ, ◌+◌, ◌-◌, ◌<◌, ◌≤◌, min, List, ◌++◌, length, take, Some, sym, ap, subst, ◌∙◌, arith}
+use Rattle.std.proofs.Common.{[], ◌≡◌, ◌≢◌, ℕ, ◌+◌, ◌-◌, ◌<◌, ◌≤◌, min, List, ◌++◌, length, take, drop, Some, sym, ap, subst, ◌∙◌, arith}
 use Rattle.std.proofs.lemmas.List.{append-nil, length-take-le}
 use Rattle.std.specs.Prelude.{slice_get}
 use Rattle.sf_base.specs.Data.{Datum}
@@ -14,8 +14,8 @@ use Rattle.sf_report.proofs.Told.{one_report}
 use Rattle.sf_run.specs.Quick.{IsDoneWithin, done_by}
 use Rattle.sf_run.specs.Written.{CanFollow, IsWritten, IsWrittenSurely, PassesWriting, text_given, texts_by}
 use Rattle.sf_run.specs.declared.written.WrittenRun.{WrittenRun}
-use Rattle.sf_run.proofs.AtOnce.{Counted}
-use Rattle.sf_run.proofs.Surely.{next_of}
+use Rattle.sf_run.specs.Counting.{Counted}
+use Rattle.sf_run.proofs.Surely.{ended_of, next_of, next_passes}
 
 -- what was written of a directive, under other names
 pub written_as : (text : Datum → List ℕ) (d : Directive) (n : ℕ) (piece : List ℕ) (run run' : WrittenRun) (old room room' : List ℕ)
@@ -28,7 +28,8 @@ written_as text d n piece run run' old room room' run_is room_is w =
 -- the next directive of a run that is Done within the piece, and whose texts the room has, is surely written
 pub next_written : (text : Datum → List ℕ) (spare : ℕ) (ds all : List Directive) → ds ≡ all → AreProper ds → (limit most n : ℕ)
     (piece front rest : List ℕ) (p : ℕ) (d : Directive) (kept : Kept) (capacity end : ℕ) (room : List ℕ) → slice_get ds p ≡ Some d
-    → front ≡ take most piece → length front ≡ most → most ≡ min limit (length piece) → Counted ds front rest p kept
+    → front ≡ take most piece → length front ≡ most → most ≡ min limit (length piece)
+    → Counted ds front rest p (record { assigned = 0; converted = 0 }) kept
     → n ≡ length front - length rest → kept.room ≡ capacity → end ≤ length room → take end room ≡ texts_by text kept.values
     → (done : IsDoneWithin all limit piece capacity) → length (texts_by text done.report.values) + spare ≤ length room
     → (free : ℕ) × IsWrittenSurely text d n rest free × (end + free + spare ≤ length room)
@@ -37,13 +38,15 @@ next_written text spare ds all same proper limit most n piece front rest p d kep
     subst (λ (l : List Directive). (done : IsDoneWithin l limit piece capacity)
     → length (texts_by text done.report.values) + spare ≤ length room
     → (free : ℕ) × IsWrittenSurely text d n rest free × (end + free + spare ≤ length room)) same (λ done fits.
-    let next = next_of ds proper limit most n piece front rest p d kept capacity at is long least h begins (omega (arith, roomy)) done in
-    let sure = next.sure in
+    let next = next_of ds proper limit most n piece front rest p d (record { assigned = 0; converted = 0 }) kept capacity at is long
+    least h begins (omega (arith, roomy)) (ended_of done) in
+    let passes = next_passes ds proper limit most n piece front rest p d kept capacity at is h begins done in
+    let after : List ℕ = drop most piece in
     let whole : length (take end room) ≡ end = length-take-le end room place in
     let texts : length (take end room) ≡ length (texts_by text kept.values) = ap length written in
     let part = next.written text in (
-      length (text_given text (one_from d Skipping n (rest ++ sure.after)).end),
-      record { after = sure.after; passes = sure.passes; early = sure.early; fits = omega arith },
+      length (text_given text (one_from d Skipping n (rest ++ after)).end),
+      record { after = after; passes = passes; early = next.early; fits = omega arith },
       omega (arith, whole, texts, part, fits),
     ))
 

@@ -341,6 +341,16 @@ nothing_taken c n piece end proper other some ink never is =
     (λ m z. stays_next (Conv c) Skipping 0 piece some (first_refused c piece proper some ink never) m z
     ∙ same_part refl refl (other_finished c c.shape Skipping m true other ∙ sym is))
 
+-- the same, where that is computed
+pub none_taken : (c : Conversion) (n : ℕ) (piece : List ℕ) (end : Finished) → IsProperShape c.shape → is_count c.shape ≡ false
+    → 0 < length piece → (shape_skips c.shape && is_white (get_or piece 0 0)) ≡ false
+    → can_take c (get_or piece 0 0 ∷ []) ≡ false → end_of [] end ≡ empty_end c true → Answers (Conv c) Skipping n piece
+    (record { before = 0; item = 0; phase = phase.Skipping; ends = Some end })
+none_taken c n [] end proper other some ink none is = absurd (omega (arith, some))
+none_taken c n (b ∷ piece) end proper other some ink none is =
+    nothing_taken c n (b ∷ piece) end proper other some ink
+    (λ can. true≢false (sym ((tests_can_take c proper (b ∷ [])).to can) ∙ none)) is
+
 -- an item that is over ends as the code tells
 pub over_ends : (c k : Conversion) (h rest : List ℕ) (end : Finished) → k ≡ c → is_count c.shape ≡ false → StaysAt (Conv k) (Item h) rest
     → end_of h end ≡ item_end c h → EndsAt (Conv c) h rest end

@@ -1,11 +1,13 @@
 -- The rows of a format that are left of those of its directives.
-use Rattle.std.proofs.Common.{◌≡◌, ◌<◌, ◌≤◌, ◌+◌, ◌-◌, [], ◌∷◌, ◌∙◌, ℕ, List, length, map, drop, refl, sym, ap, subst, None, Some, arith}
+use Rattle.std.proofs.Common.{◌≡◌, ◌<◌, ◌≤◌, ◌+◌, ◌-◌, [], ◌∷◌, ◌∙◌, ℕ, List, length}
+use Rattle.std.proofs.Common.{map, drop, get_or, refl, sym, ap, subst, None, Some, arith}
 use Rattle.std.proofs.lemmas.List.{drop-drop, drop-map, length-map}
-use Rattle.std.proofs.lemmas.Option.{none-some}
+use Rattle.std.proofs.lemmas.Option.{none-some, slice_get_read}
 use Rattle.std.specs.Prelude.{slice_get}
 use Rattle.sf_format.specs.declared.directive.Directive.{Directive}
 use Rattle.sf_format.specs.declared.layout.Row.{Row}
 use Rattle.sf_format.specs.Layout.{row_of}
+use Rattle.sf_run.specs.Texts.{slot_of}
 use Rattle.sf_run.proofs.Moves.{drop_at}
 
 -- a format has as many rows as directives
@@ -54,3 +56,26 @@ pub from_end : (rows : List Row) (ds all : List Directive) (left : ℕ) (d : Dir
 from_end rows ds all left d is same at =
     let many : length rows ≡ length all = ap length is ∙ length-map all row_of in
     subst (λ n. slice_get all (n - left) ≡ Some d) many (subst (λ (l : List Directive). slice_get l (length rows - left) ≡ Some d) same at)
+
+-- and back
+pub from_start : (rows : List Row) (ds all : List Directive) (left : ℕ) (d : Directive) → rows ≡ map row_of all → ds ≡ all
+    → slice_get all (length all - left) ≡ Some d → slice_get ds (length rows - left) ≡ Some d
+from_start rows ds all left d is same at =
+    let many : length rows ≡ length all = ap length is ∙ length-map all row_of in
+    subst (λ (l : List Directive). slice_get l (length rows - left) ≡ Some d) (sym same)
+    (subst (λ n. slice_get all (n - left) ≡ Some d) (sym many) at)
+
+-- the directive at the place of the first row that is left
+pub there : (rows : List Row) (ds all : List Directive) (left : List Row) (row : Row) (d : Directive) → rows ≡ map row_of all → ds ≡ all
+    → length left ≤ length rows → Some row ≡ slice_get left 0 → d ≡ get_or ds (length rows - length left) d
+    → slice_get ds (length rows - length left) ≡ Some d
+there rows ds all left row d is same short some at =
+    let within = still_left rows ds all left (drop 1 left) row is same short (opens left row some) in
+    slice_get_read ds (length ds) (length rows - length left) d refl within at
+
+row_slot : (d : Directive) → (row_of d).slot ≡ slot_of d
+row_slot d = grind arith
+
+-- a row has the slot of its directive
+pub slot_in_row : (row : Row) (d : Directive) → row ≡ row_of d → row.slot ≡ slot_of d
+slot_in_row row d is = ap (λ (r : Row). r.slot) is ∙ row_slot d

@@ -189,14 +189,6 @@ slot_unused ds p d slot values apart h at own =
     (apart_before (slots_of (take p ds)) slot (slots_of (drop (p + 1) ds))
     (subst (λ l. are_apart l ≡ true) (slots_at ds p d slot at own) apart)))
 
-pub slot_free : (ds : List Directive) (p : ℕ) (d : Directive) (slot : ℕ) (values : List Assigned) → are_apart (slots_of ds) ≡ true
-    → slots_in values ≡ slots_of (take p ds)
-    → slice_get ds p ≡ Some d → slot_of d ≡ Some slot → datum_at slot values ≡ None
-slot_free ds p d slot values apart is at own =
-    no_datum slot values (ap (list_any (nat_eq slot)) is
-    ∙ apart_before (slots_of (take p ds)) slot (slots_of (drop (p + 1) ds))
-    (subst (λ l. are_apart l ≡ true) (slots_at ds p d slot at own) apart))
-
 -- ---- destinations
 
 pub is_destination_of : (d : Directive) (slot : ℕ) → slot_of d ≡ Some slot → is_destination d ≡ true

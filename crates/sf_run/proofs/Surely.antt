@@ -1,5 +1,5 @@
 -- When a run that begins and passes within a piece is told.
-use Rattle.std.proofs.Common.{◌≡◌, ℕ, zero, suc, ◌+◌, ◌-◌, ◌<◌, ◌≤◌, min, Bool, true, false, cond, List, [], ◌∷◌, ◌++◌, length, take, drop}
+use Rattle.std.proofs.Common.{◌≡◌, ℕ, zero, suc, ◌+◌, ◌-◌, ◌<◌, ◌≤◌, min, Bool, true, cond, List, [], ◌∷◌, ◌++◌, length, take, drop}
 use Rattle.std.proofs.Common.{Option, Some, None, refl, sym, ap, subst, ◌∙◌, arith, length-append, length-drop}
 use Rattle.std.specs.Prelude.{slice_get}
 use Rattle.std.specs.List.{list_any}
@@ -11,24 +11,29 @@ use Rattle.sf_base.specs.stores.Kept.{Kept, texts_in, text_of, Opened, buffer_of
 use Rattle.sf_format.specs.declared.directive.Directive.{Directive}
 use Rattle.sf_format.specs.Layout.{items_taken, takes_item}
 use Rattle.sf_format.specs.Proper.{AreProper, has_optional, is_optional}
+use Rattle.sf_report.specs.declared.outcome.Ending.{Ending}
+use Rattle.sf_report.specs.declared.outcome.Status.{Status}
 use Rattle.sf_report.specs.declared.outcome.Status.TheVariants.{Done}
 use Rattle.sf_run.specs.declared.tally.Tally as code
-use Rattle.sf_report.specs.Machine.{Stage, Skipping, finished, stepped}
+use Rattle.sf_report.specs.Machine.{Skipping}
+use Rattle.sf_report.specs.Limits.{RunWithin}
 use Rattle.sf_report.specs.Memory.{capacity_of}
-use Rattle.sf_run.specs.Quick.{IsDoneWithin, IsSure, text_stored}
+use Rattle.sf_run.specs.Quick.{IsDoneWithin, IsEndedWithin, IsSure, text_stored}
+use Rattle.sf_run.specs.declared.quick.Missing.{Missing}
 use Rattle.sf_report.specs.Residual.{Part, Tally, by_end, counted, nothing_yet, one_from, out_of, run_of, with_used}
 use Rattle.sf_report.specs.Runs.{RunReport, passed}
 use Rattle.sf_report.specs.Steps.{StepEnd, Passes, Stores, Misses, Fails}
 use Rattle.sf_run.specs.Tallies.{tally_of}
 use Rattle.sf_run.specs.Written.{text_given, texts_by}
-use Rattle.sf_run.proofs.AtOnce.{Counted, Going}
+use Rattle.sf_run.specs.Counting.{Counted, Going}
+use Rattle.sf_run.proofs.AtOnce.{one_misses, used_is}
 use Rattle.sf_run.proofs.Moves.{drop_at}
-use Rattle.sf_report.proofs.Machines.{by_option, some_is}
+use Rattle.sf_report.proofs.Machines.{some_is}
 use Rattle.sf_report.proofs.Openness.{counted-used, uses_more}
 use Rattle.sf_run.proofs.Refusals.{never_done}
 use Rattle.sf_run.proofs.Slots.{texts-push}
 use Rattle.sf_run.proofs.Writing.{text_after}
-use Rattle.sf_report.proofs.Told.{run_told}
+use Rattle.sf_report.proofs.Told.{one_report, run_told}
 
 -- ---- the texts of a run
 
@@ -56,17 +61,6 @@ written_more text (d ∷ ds) at t x = grind (arith, by_counted, length-append, w
 
 -- ---- what a run counts
 
--- only a conversion that may be missing is, and it counts where it isn't
-misses_only : (d : Directive) (q : Stage) (n : ℕ) (more : Bool) → finished d q n more ≡ Misses
-    → (is_optional d ≡ true) × (takes_item d ≡ true)
-misses_only d q n more e = grind arith
-
-one_misses : (d : Directive) (q : Stage) (n : ℕ) (x : List ℕ) → (one_from d q n x).end ≡ Misses
-    → (is_optional d ≡ true) × (takes_item d ≡ true)
-one_misses d q n [] e = misses_only d q n false e
-one_misses d q n (b ∷ x) e = by_option (λ p. p.end ≡ Misses → (is_optional d ≡ true) × (takes_item d ≡ true)) (stepped d q b) _ _
-    (misses_only d q n true) (λ r. one_misses d r (n + 1) x) e
-
 abbrev one_if : Bool → ℕ
 one_if v = cond v 1 0
 
@@ -82,11 +76,10 @@ converted_most : (ds : List Directive) (at : ℕ) (t : Tally) (x : List ℕ)
 converted_most [] at t x = omega arith
 converted_most (d ∷ ds) at t x = grind (arith, counted_most, items-cons, converted_most ds)
 
--- ---- the next directive of a run that is Done
+-- ---- the next directive of a run
 
--- what is known of the first directive of a run that is Done
+-- what is known of the first directive of a run
 record FirstOf (d : Directive) (t : Tally) (x : List ℕ) (r : RunReport) : Type 0 where
-  pub passes : passed (one_from d Skipping t.used x).end ≡ true
   pub early : (one_from d Skipping t.used x).used ≤ r.used
   pub texts : length (texts_in t.values) + length (text_stored (one_from d Skipping t.used x).end) ≤ length (texts_in r.values)
   pub written : (text : Datum → List ℕ)
@@ -110,16 +103,14 @@ none_missing d ds at t x whole is =
     let more = items-cons d ds ∙ ap (λ v. one_if v + items_taken ds) takes in
     omega (arith, all, same, most, more)
 
-first_of : (d : Directive) (ds : List Directive) (at : ℕ) (t : Tally) (x : List ℕ) → (run_of None (d ∷ ds) at t x).status ≡ Done
-    → (is_optional d ≡ true → (run_of None (d ∷ ds) at t x).converted ≡ t.converted + items_taken (d ∷ ds))
-    → FirstOf d t x (run_of None (d ∷ ds) at t x)
-first_of d ds at t x done whole = by_case (one_from d Skipping t.used x).end refl
+first_of : (d : Directive) (ds : List Directive) (at : ℕ) (t : Tally) (x : List ℕ) → FirstOf d t x (run_of None (d ∷ ds) at t x)
+first_of d ds at t x = by_case (one_from d Skipping t.used x).end refl
   where
-    more : (end : StepEnd) → passed end ≡ true → (one_from d Skipping t.used x).end ≡ end
+    more : (end : StepEnd) → (one_from d Skipping t.used x).end ≡ end
         → behind d ds at t (one_from d Skipping t.used x) end ≡ run_of None ds (at + 1)
         (counted d end (with_used (one_from d Skipping t.used x).used t)) (one_from d Skipping t.used x).left
         → FirstOf d t x (run_of None (d ∷ ds) at t x)
-    more end ok is same =
+    more end is same =
         let p : Part = one_from d Skipping t.used x in
         let u : Tally = counted d end (with_used p.used t) in
         let whole : run_of None (d ∷ ds) at t x ≡ run_of None ds (at + 1) u p.left = ap (behind d ds at t p) is ∙ same in
@@ -134,7 +125,6 @@ first_of d ds at t x done whole = by_case (one_from d Skipping t.used x).end ref
         let later = uses_more ds (at + 1) u p.left in
         let longer = texts_more ds (at + 1) u p.left in
         record {
-          passes = ap passed is ∙ ok;
           early = omega (arith, used', on, later);
           texts = omega (arith, texts', same', long, own, longer);
           written = λ text.
@@ -150,10 +140,39 @@ first_of d ds at t x done whole = by_case (one_from d Skipping t.used x).end ref
               omega (arith, all, with, both, one, more);
         }
 
+    -- it fails, and the run is over
+    over : (status : Status) → (one_from d Skipping t.used x).end ≡ Fails status → FirstOf d t x (run_of None (d ∷ ds) at t x)
+    over status is =
+        let p : Part = one_from d Skipping t.used x in
+        let whole : run_of None (d ∷ ds) at t x ≡ out_of status at (with_used p.used t) = ap (behind d ds at t p) is in
+        let used' = ap (λ (r : RunReport). r.used) whole in
+        let texts' = ap (λ (r : RunReport). length (texts_in r.values)) whole in
+        let own : length (text_stored p.end) ≡ 0 = ap (λ (e : StepEnd). length (text_stored e)) is in
+        record {
+          early = omega (arith, used');
+          texts = omega (arith, texts', own);
+          written = λ text.
+              let all = ap (λ (r : RunReport). length (texts_by text r.values)) whole in
+              let one : length (text_given text p.end) ≡ 0 = ap (λ (e : StepEnd). length (text_given text e)) is in
+              omega (arith, all, one);
+        }
+
     by_case : (end : StepEnd) → (one_from d Skipping t.used x).end ≡ end → FirstOf d t x (run_of None (d ∷ ds) at t x)
+    by_case Misses is = more Misses is refl
+    by_case Passes is = more Passes is refl
+    by_case (Stores slot v) is = more (Stores slot v) is refl
+    by_case (Fails status) is = over status is
+
+-- where the run is Done, and counts all that it may count, it passes
+first_passes : (d : Directive) (ds : List Directive) (at : ℕ) (t : Tally) (x : List ℕ) → (run_of None (d ∷ ds) at t x).status ≡ Done
+    → (is_optional d ≡ true → (run_of None (d ∷ ds) at t x).converted ≡ t.converted + items_taken (d ∷ ds))
+    → passed (one_from d Skipping t.used x).end ≡ true
+first_passes d ds at t x done whole = by_case (one_from d Skipping t.used x).end refl
+  where
+    by_case : (end : StepEnd) → (one_from d Skipping t.used x).end ≡ end → passed (one_from d Skipping t.used x).end ≡ true
     by_case Misses is = absurd (none_missing d ds at t x whole is)
-    by_case Passes is = more Passes refl is refl
-    by_case (Stores slot v) is = more (Stores slot v) refl is refl
+    by_case Passes is = ap passed is
+    by_case (Stores slot v) is = ap passed is
     by_case (Fails status) is = absurd (never_done d Skipping t.used x status is
         (ap (λ (r : RunReport). r.status) (sym (ap (behind d ds at t (one_from d Skipping t.used x)) is)) ∙ done))
 
@@ -167,30 +186,32 @@ items_split : (ds : List Directive) (p : ℕ) → items_taken ds ≡ items_taken
 items_split ds p = ap items_taken (sym (take-append-drop p ds))
     ∙ sum_by-append (λ e. one_if (takes_item e)) (take p ds) (drop p ds)
 
--- the next directive of a run with this report passes within the rest, and what is written of it and before is a part of what is
--- written of the run
-pub record NextOf (d : Directive) (n : ℕ) (rest : List ℕ) (room : ℕ) (values : List Assigned) (report : RunReport) : Type 0 where
-  pub sure : IsSure d n rest room
+-- the next directive of a run with this report, whose input goes on so after the rest, ends within the rest, and what is written of it and
+-- before is a part of what is written of the run
+pub record NextOf (d : Directive) (n : ℕ) (rest after : List ℕ) (room : ℕ) (values : List Assigned) (report : RunReport) : Type 0 where
+  pub early : (one_from d Skipping n (rest ++ after)).used < n + length rest
+  pub fits : length (text_stored (one_from d Skipping n (rest ++ after)).end) ≤ room
   pub written : (text : Datum → List ℕ) → length (texts_by text values)
-      + length (text_given text (one_from d Skipping n (rest ++ sure.after)).end) ≤ length (texts_by text report.values)
+      + length (text_given text (one_from d Skipping n (rest ++ after)).end) ≤ length (texts_by text report.values)
 
--- where the run on the front and what follows is Done within the front, and no item of it is missing, the next directive passes within it
-sure_at : (ds : List Directive) (front rest : List ℕ) (p : ℕ) (d : Directive) (t : code.Tally) (kept : Kept) (capacity : ℕ)
-    → slice_get ds p ≡ Some d → Going ds front p t kept
-    → (run_of None ds 1 nothing_yet (front ++ rest)).status ≡ Done → (run_of None ds 1 nothing_yet (front ++ rest)).used < length front
+-- the run from the next directive on
+whole_at : (ds : List Directive) (front rest : List ℕ) (p : ℕ) (d : Directive) (t : code.Tally) (kept : Kept) → slice_get ds p ≡ Some d
+    → Going ds front p t kept → run_of None ds 1 nothing_yet (front ++ rest)
+    ≡ run_of None (d ∷ drop (p + 1) ds) (p + 1) (tally_of t kept.values) (drop t.used front ++ rest)
+whole_at ds front rest p d t kept at h =
+    h.same rest ∙ ap (λ l. run_of None l (p + 1) (tally_of t kept.values) (drop t.used front ++ rest)) (drop_at ds p d at)
+
+-- where the run on the front and what follows ends within the front, the next directive ends within it
+next_at : (ds : List Directive) (front rest : List ℕ) (p : ℕ) (d : Directive) (t : code.Tally) (kept : Kept) (capacity : ℕ)
+    → slice_get ds p ≡ Some d → Going ds front p t kept → (run_of None ds 1 nothing_yet (front ++ rest)).used < length front
     → length (texts_in (run_of None ds 1 nothing_yet (front ++ rest)).values) ≤ capacity → capacity ≤ capacity_of kept
-    → t.converted ≡ items_taken (take p ds)
-    → (has_optional ds ≡ true → (run_of None ds 1 nothing_yet (front ++ rest)).converted ≡ items_taken ds)
-    → NextOf d t.used (drop t.used front) kept.room kept.values (run_of None ds 1 nothing_yet (front ++ rest))
-sure_at ds front rest p d t kept capacity at h done early fits roomy counts all =
+    → NextOf d t.used (drop t.used front) rest kept.room kept.values (run_of None ds 1 nothing_yet (front ++ rest))
+next_at ds front rest p d t kept capacity at h early fits roomy =
     let x : List ℕ = drop t.used front ++ rest in
     let u : Tally = tally_of t kept.values in
     let whole : run_of None ds 1 nothing_yet (front ++ rest) ≡ run_of None (d ∷ drop (p + 1) ds) (p + 1) u x =
-    h.same rest ∙ ap (λ l. run_of None l (p + 1) u x) (drop_at ds p d at) in
-    let first : FirstOf d u x (run_of None (d ∷ drop (p + 1) ds) (p + 1) u x) =
-    first_of d (drop (p + 1) ds) (p + 1) u x (sym (ap (λ (r : RunReport). r.status) whole) ∙ done)
-    (λ is. sym (ap (λ (r : RunReport). r.converted) whole) ∙ all (optional_at ds p d at is) ∙ items_split ds p
-    ∙ ap (λ n. n + items_taken (drop p ds)) (sym counts) ∙ ap (λ l. t.converted + items_taken l) (drop_at ds p d at)) in
+    whole_at ds front rest p d t kept at h in
+    let first : FirstOf d u x (run_of None (d ∷ drop (p + 1) ds) (p + 1) u x) = first_of d (drop (p + 1) ds) (p + 1) u x in
     let used' = ap (λ (r : RunReport). r.used) whole in
     let texts' = ap (λ (r : RunReport). length (texts_in r.values)) whole in
     let left = length-drop t.used front in
@@ -201,59 +222,100 @@ sure_at ds front rest p d t kept capacity at h done early fits roomy counts all 
     let held : length (buffer_of kept) ≡ length kept.closed = ap (λ (o : Option Opened). length (kept.closed ++ text_of o)) h.opened
     ∙ ap length (append-nil kept.closed) in
     record {
-      sure = record {
-        after = rest;
-        passes = first.passes;
-        early = omega (arith, used', left, low, soon, early);
-        fits = omega (arith, texts', text, closed, held, fits, roomy);
-      };
+      early = omega (arith, used', left, low, soon, early);
+      fits = omega (arith, texts', text, closed, held, fits, roomy);
       written = λ text.
           let all = ap (λ (r : RunReport). length (texts_by text r.values)) whole in
           let part = first.written text in
           omega (arith, all, part);
     }
 
--- the run on the front of a piece that is Done before a byte of it is lacking
-pub done_on : (ds : List Directive) → AreProper ds → (limit : ℕ) (piece : List ℕ) (capacity : ℕ)
-    → (h : IsDoneWithin ds limit piece capacity) → run_of None ds 1 nothing_yet piece ≡ record h.report { met = None }
-done_on ds proper limit piece capacity h = grind (arith, run_told)
+-- and where it is Done, and no item of it is missing, the next directive passes
+passes_at : (ds : List Directive) (front rest : List ℕ) (p : ℕ) (d : Directive) (t : code.Tally) (kept : Kept) → slice_get ds p ≡ Some d
+    → Going ds front p t kept → (run_of None ds 1 nothing_yet (front ++ rest)).status ≡ Done → t.converted ≡ items_taken (take p ds)
+    → (has_optional ds ≡ true → (run_of None ds 1 nothing_yet (front ++ rest)).converted ≡ items_taken ds)
+    → passed (one_from d Skipping t.used (drop t.used front ++ rest)).end ≡ true
+passes_at ds front rest p d t kept at h done counts all =
+    let u : Tally = tally_of t kept.values in
+    let whole = whole_at ds front rest p d t kept at h in
+    first_passes d (drop (p + 1) ds) (p + 1) u (drop t.used front ++ rest) (sym (ap (λ (r : RunReport). r.status) whole) ∙ done)
+    (λ is. sym (ap (λ (r : RunReport). r.converted) whole) ∙ all (optional_at ds p d at is) ∙ items_split ds p
+    ∙ ap (λ n. n + items_taken (drop p ds)) (sym counts) ∙ ap (λ l. t.converted + items_taken l) (drop_at ds p d at))
 
--- the next directive of a run on a piece that is Done before a byte of it is lacking
+-- a run that is Done has ended
+abbrev pub ended_of : {ds : List Directive} {limit : ℕ} {piece : List ℕ} {capacity : ℕ} → IsDoneWithin ds limit piece capacity
+    → IsEndedWithin ds limit piece capacity
+ended_of h = record { ending = h.ending; report = h.report; is = h.is; early = h.early; low = h.low; fits = h.fits }
+
+-- the run on the front of a piece that ends before a byte of it is lacking
+pub ended_on : (ds : List Directive) → AreProper ds → (limit : ℕ) (piece : List ℕ) (capacity : ℕ)
+    → (h : IsEndedWithin ds limit piece capacity) → run_of None ds 1 nothing_yet piece ≡ record h.report { met = None }
+ended_on ds proper limit piece capacity h = grind (arith, run_told)
+
+-- the same, where the front is cut by the limit
+on_front : (ds : List Directive) → AreProper ds → (limit most : ℕ) (piece front : List ℕ) (capacity : ℕ) → front ≡ take most piece
+    → (h : IsEndedWithin ds limit piece capacity)
+    → run_of None ds 1 nothing_yet (front ++ drop most piece) ≡ record h.report { met = None }
+on_front ds proper limit most piece front capacity is h =
+    ap (run_of None ds 1 nothing_yet) (ap (λ (y : List ℕ). y ++ drop most piece) is ∙ take-append-drop most piece)
+    ∙ ended_on ds proper limit piece capacity h
+
+-- the next directive of a run on a piece that ends before a byte of it is lacking
 pub next_of : (ds : List Directive) → AreProper ds → (limit most n : ℕ) (piece front rest : List ℕ) (p : ℕ) (d : Directive)
-    (kept : Kept) (capacity : ℕ) → slice_get ds p ≡ Some d
-    → front ≡ take most piece → length front ≡ most → most ≡ min limit (length piece) → Counted ds front rest p kept
+    (missing : Missing) (kept : Kept) (capacity : ℕ) → slice_get ds p ≡ Some d
+    → front ≡ take most piece → length front ≡ most → most ≡ min limit (length piece) → Counted ds front rest p missing kept
     → n ≡ length front - length rest → capacity ≤ capacity_of kept
-    → (done : IsDoneWithin ds limit piece capacity) → NextOf d n rest kept.room kept.values done.report
-next_of ds proper limit most n piece front rest p d kept capacity at is long least h begins roomy done =
-    let r : RunReport = record done.report { met = None } in
-    let whole : front ++ drop most piece ≡ piece = ap (λ (y : List ℕ). y ++ drop most piece) is ∙ take-append-drop most piece in
-    let same : run_of None ds 1 nothing_yet (front ++ drop most piece) ≡ r =
-    ap (run_of None ds 1 nothing_yet) whole ∙ done_on ds proper limit piece capacity done in
+    → (ended : IsEndedWithin ds limit piece capacity) → NextOf d n rest (drop most piece) kept.room kept.values ended.report
+next_of ds proper limit most n piece front rest p d missing kept capacity at is long least h begins roomy ended =
+    let r : RunReport = record ended.report { met = None } in
+    let same : run_of None ds 1 nothing_yet (front ++ drop most piece) ≡ r = on_front ds proper limit most piece front capacity is ended in
     let used' : (run_of None ds 1 nothing_yet (front ++ drop most piece)).used ≡ r.used = ap (λ (r : RunReport). r.used) same in
     let texts' : length (texts_in (run_of None ds 1 nothing_yet (front ++ drop most piece)).values) ≡ length (texts_in r.values) =
     ap (λ (r : RunReport). length (texts_in r.values)) same in
-    let early = done.early in
-    let low = done.low in
-    let fits = done.fits in
-    let within = h.going.within in
-    let short = ap length h.rest ∙ length-drop h.tally.used front in
-    let here : h.tally.used ≡ n = omega (arith, begins, short, within) in
-    let next : NextOf d h.tally.used (drop h.tally.used front) kept.room kept.values
+    let early = ended.early in
+    let low = ended.low in
+    let fits = ended.fits in
+    let here : h.tally.used ≡ n = used_is ds front rest p missing kept h ∙ sym begins in
+    let next : NextOf d h.tally.used (drop h.tally.used front) (drop most piece) kept.room kept.values
     (run_of None ds 1 nothing_yet (front ++ drop most piece)) =
-    sure_at ds front (drop most piece) p d h.tally kept capacity at h.going (ap (λ (r : RunReport). r.status) same ∙ done.done)
-    (omega (arith, used', early, low, long, least)) (omega (arith, texts', fits)) roomy h.converted
-    (λ is. ap (λ (r : RunReport). r.converted) same ∙ done.whole is) in
-    let of : NextOf d n rest kept.room kept.values r =
-    subst (λ q. NextOf d n rest kept.room kept.values q) same (subst (λ m. NextOf d m rest kept.room kept.values
-    (run_of None ds 1 nothing_yet (front ++ drop most piece))) here
-    (subst (λ y. NextOf d h.tally.used y kept.room kept.values (run_of None ds 1 nothing_yet (front ++ drop most piece))) (sym h.rest)
-    next)) in
-    record { sure = of.sure; written = of.written }
+    next_at ds front (drop most piece) p d h.tally kept capacity at h.going
+    (omega (arith, used', early, low, long, least)) (omega (arith, texts', fits)) roomy in
+    let of : NextOf d n rest (drop most piece) kept.room kept.values r =
+    subst (λ q. NextOf d n rest (drop most piece) kept.room kept.values q) same (subst (λ m. NextOf d m rest (drop most piece) kept.room
+    kept.values (run_of None ds 1 nothing_yet (front ++ drop most piece))) here
+    (subst (λ y. NextOf d h.tally.used y (drop most piece) kept.room kept.values
+    (run_of None ds 1 nothing_yet (front ++ drop most piece))) (sym h.rest) next)) in
+    record { early = of.early; fits = of.fits; written = of.written }
+
+-- and where it is Done, and no item of it is missing
+pub next_passes : (ds : List Directive) → AreProper ds → (limit most n : ℕ) (piece front rest : List ℕ) (p : ℕ) (d : Directive)
+    (kept : Kept) (capacity : ℕ) → slice_get ds p ≡ Some d → front ≡ take most piece
+    → Counted ds front rest p (record { assigned = 0; converted = 0 }) kept
+    → n ≡ length front - length rest → IsDoneWithin ds limit piece capacity
+    → passed (one_from d Skipping n (rest ++ drop most piece)).end ≡ true
+next_passes ds proper limit most n piece front rest p d kept capacity at is h begins done =
+    let same = on_front ds proper limit most piece front capacity is (ended_of done) in
+    let here : h.tally.used ≡ n = used_is ds front rest p (record { assigned = 0; converted = 0 }) kept h ∙ sym begins in
+    let counts = h.converted in
+    subst (λ m. passed (one_from d Skipping m (rest ++ drop most piece)).end ≡ true) here
+    (subst (λ y. passed (one_from d Skipping h.tally.used (y ++ drop most piece)).end ≡ true) (sym h.rest)
+    (passes_at ds front (drop most piece) p d h.tally kept at h.going (ap (λ (r : RunReport). r.status) same ∙ done.done)
+    (omega (arith, counts)) (λ is. ap (λ (r : RunReport). r.converted) same ∙ done.whole is)))
 
 pub sure_next : (ds : List Directive) → AreProper ds → (limit most n : ℕ) (piece front rest : List ℕ) (p : ℕ) (d : Directive)
-    (kept : Kept) (capacity : ℕ) → slice_get ds p ≡ Some d
-    → front ≡ take most piece → length front ≡ most → most ≡ min limit (length piece) → Counted ds front rest p kept
+    (missing : Missing) (kept : Kept) (capacity : ℕ) → slice_get ds p ≡ Some d
+    → front ≡ take most piece → length front ≡ most → most ≡ min limit (length piece) → Counted ds front rest p missing kept
     → n ≡ length front - length rest → capacity ≤ capacity_of kept
-    → IsDoneWithin ds limit piece capacity → IsSure d n rest kept.room
-sure_next ds proper limit most n piece front rest p d kept capacity at is long least h begins roomy done =
-    (next_of ds proper limit most n piece front rest p d kept capacity at is long least h begins roomy done).sure
+    → IsEndedWithin ds limit piece capacity → IsSure d n rest kept.room
+sure_next ds proper limit most n piece front rest p d missing kept capacity at is long least h begins roomy ended =
+    let next = next_of ds proper limit most n piece front rest p d missing kept capacity at is long least h begins roomy ended in
+    record { after = drop most piece; early = next.early; fits = next.fits }
+
+-- the report of a run on a piece, whatever follows, is that of the run that is Done on it
+pub done_seen : (ds : List Directive) → AreProper ds → (limit : ℕ) (piece : List ℕ) (capacity : ℕ) (report : RunReport)
+    → ((z : List ℕ) (ending : Ending) → RunWithin ds limit (piece ++ z) ending report) → IsDoneWithin ds limit piece capacity
+    → report.status ≡ Done
+done_seen ds proper limit piece capacity report run done =
+    let all = one_report ds proper limit piece done.ending in
+    let own = subst (λ y. RunWithin ds limit y done.ending report) (append-nil piece) (run [] done.ending) in
+    ap (λ (r : RunReport). r.status) (all.only report own ∙ sym (all.only done.report done.is)) ∙ done.done

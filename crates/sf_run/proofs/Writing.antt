@@ -99,7 +99,7 @@ pub stored_surely : (text : Datum → List ℕ) (d : Directive) (n : ℕ) (piece
     → (capacity : ℕ) × IsSure d n piece capacity
 stored_surely text d n piece room sure = (
   length (text_stored (one_from d Skipping n (piece ++ sure.after)).end),
-  record { after = sure.after; passes = sure.passes; early = sure.early; fits = omega arith },
+  record { after = sure.after; early = sure.early; fits = omega arith },
 )
 
 -- ---- run after run

@@ -4,6 +4,7 @@ use Rattle.sf_format.specs.declared.directive.Directive.{Directive}
 use Rattle.sf_format.specs.Proper.{AreProper}
 use Rattle.sf_report.specs.declared.outcome.Ending.{Ending}
 pub use Rattle.sf_report.specs.Laws.{HasOneReport, EachHasOneReport, EachClosedInputStays, EachOpenInputIsUsed, EachDoneRunStays}
+pub use Rattle.sf_report.specs.Laws.{EachEarlyRunStays}
 pub use Rattle.sf_report.specs.Laws.{EachDoneRunFillsSlots, EachDoneRunHasItsRow}
 pub use Rattle.sf_report.specs.Laws.{EachStepIsComputed, EachStepIsWithin, EachMachineSteps, EachRunIsComputed, EachRunIsTold}
 pub use Rattle.sf_report.specs.Laws.{EachByteIsTried}

@@ -21,5 +21,6 @@ pub mod Standing
 pub mod Scanner
 pub mod Laws
 pub mod Quick
+pub mod Counting
 pub mod Written
 pub mod Wording

@@ -1,5 +1,5 @@
 //! What one directive makes of a piece of the input, and how it ends (C11 7.21.6.2p4 to p10).
-ghost use Rattle.std.specs.Prelude.{◌≡◌, ◌≢◌, ◌+◌, ◌<◌, ◌≤◌, ◌&&◌, ◌^◌, true, false, ℕ, ℤ, List, [], ◌++◌, length};
+ghost use Rattle.std.specs.Prelude.{◌≡◌, ◌≢◌, ◌+◌, ◌<◌, ◌≤◌, ◌&&◌, ◌^◌, true, false, ℕ, ℤ, List, [], ◌∷◌, ◌++◌, length};
 ghost use Rattle.std.specs.Prelude.{◌-◌, slice_get, take, drop, get_or, if◌then◌else◌, not};
 ghost use Rattle.std.specs.Prelude.{Option, Some, None, IfSome, IsNone};
 ghost use Rattle.sf_base.specs.Bytes.{is_white};
@@ -16,6 +16,7 @@ ghost use Rattle.sf_format.specs.Layout.{most_of, row_of};
 ghost use Rattle.sf_format.specs.Proper.{IsProper, IsProperShape};
 ghost use Rattle.sf_item.specs.Scan.{HasLeft};
 ghost use Rattle.sf_item.specs.Taking.{CanTake, HasTaken, conversion_of, left_of};
+ghost use Rattle.sf_item.specs.Tests.{can_take};
 ghost use Rattle.sf_item.specs.Wholes.{EndsWithin, ItemWithin};
 ghost use Rattle.sf_report.specs.Steps.{StepEnd};
 ghost use Rattle.sf_run.specs.declared.directive.Phase.TheVariants as phase;
@@ -32,7 +33,7 @@ ghost use Rattle.sf_run.specs.Quick.{IsSure};
 ghost use Rattle.sf_run.specs.Stopping.{is_memory_status};
 
 use crate::number::{decimal_real, number_of};
-use sf_base::{Kind, Number, Real, is_space, space_run};
+use sf_base::{Kind, Number, Real, digit_value, is_space, space_run};
 use sf_float_read::numeral_within;
 use sf_format::{Base, Conversion, Directive, Row, ScanFormat, Shape};
 use sf_item::{
@@ -862,18 +863,23 @@ pub(crate) fn whole_space(piece: &[u8]) -> Option<Ended>
     })
 }
 
-/// The byte that is due, where it is the first of the piece.
+/// The byte that is due, or how the directive fails where another byte is the first of the piece.
 #[inline(always)]
 pub(crate) fn whole_byte(due: u8, piece: &[u8]) -> Option<Ended>
     ensures { (n : ℕ) → IfSome result (EndsAtOnce (directive.Byte due) n piece.now) }
 {
     match piece.first() {
+        None => None,
         Some(b) if *b == due => Some(Ended {
             before: 1,
             item: 0,
             finished: Finished::Passes,
         }),
-        _ => None,
+        Some(_) => Some(Ended {
+            before: 0,
+            item: 0,
+            finished: Finished::Fails(Status::MatchingFailure),
+        }),
     }
 }
 
@@ -956,6 +962,108 @@ pub(crate) fn real_at_once(directive: &Directive, piece: &[u8]) -> Option<ReadRe
     })
 }
 
+/// Whether the byte is the first of no item of a conversion of the shape, where that is seen at once.
+#[inline(always)]
+fn begins_none(shape: &Shape, b: u8) -> bool
+    ensures none { result ≡ true → (c : Conversion) → c.shape ≡ shape.now → can_take c (b ∷ []) ≡ false }
+    ensures item { result ≡ true → is_count shape.now ≡ false }
+{
+    match shape {
+        Shape::Int(_) => b != b'+' && b != b'-' && digit_value(b, 16).is_none(),
+        Shape::Set(members) => !members.contains(b),
+        Shape::Text | Shape::Chars | Shape::Float | Shape::Count => false,
+    }
+}
+
+/// How a conversion ends, whose first byte is that of the piece, where that is the first of no item.
+#[inline(always)]
+fn without_item(conversion: &Conversion, piece: &[u8]) -> Option<Ended>
+    ensures answers { IsProper (directive.Conv conversion.now)
+        → (0 < length piece.now → (shape_skips conversion.now.shape && is_white (get_or piece.now 0 0)) ≡ false)
+        → (n : ℕ)
+        → IfSome result (λ e. Answers (directive.Conv conversion.now) Skipping n piece.now (run_of e)) }
+    ensures fits { IfSome result (IsEndIn (directive.Conv conversion.now) piece.now) }
+    ensures before { IfSome result (λ e. e.before ≡ 0) }
+{
+    let first = piece.first()?;
+    if !begins_none(&conversion.shape, *first) {
+        return None;
+    }
+    Some(Ended {
+        before: 0,
+        item: 0,
+        finished: finish_nothing(conversion, Status::MatchingFailure),
+    })
+}
+
+/// As `number_within`, of an integer whose base its digits say: no row reads it.
+#[inline(always)]
+fn number_of_any_base(conversion: &Conversion, piece: &[u8]) -> Option<Ended>
+    ensures answers { IsProper (directive.Conv conversion.now)
+        → (0 < length piece.now → (shape_skips conversion.now.shape && is_white (get_or piece.now 0 0)) ≡ false)
+        → (n : ℕ)
+        → IfSome result (λ e. Answers (directive.Conv conversion.now) Skipping n piece.now (run_of e)) }
+    ensures fits { IfSome result (IsEndIn (directive.Conv conversion.now) piece.now) }
+    ensures before { IfSome result (λ e. e.before ≡ 0) }
+{
+    match conversion.shape {
+        Shape::Int(Base::Auto | Base::AutoBin) => number_within(conversion, piece),
+        _ => None,
+    }
+}
+
+/// How a conversion ends, whose first byte is that of the piece, where that is seen at once: by such an integer, or
+/// without an item.
+#[inline(always)]
+fn item_at_once(conversion: &Conversion, piece: &[u8]) -> Option<Ended>
+    ensures answers { IsProper (directive.Conv conversion.now)
+        → (0 < length piece.now → (shape_skips conversion.now.shape && is_white (get_or piece.now 0 0)) ≡ false)
+        → (n : ℕ)
+        → IfSome result (λ e. Answers (directive.Conv conversion.now) Skipping n piece.now (run_of e)) }
+    ensures fits { IfSome result (IsEndIn (directive.Conv conversion.now) piece.now) }
+    ensures before { IfSome result (λ e. e.before ≡ 0) }
+{
+    if let Some(ended) = number_of_any_base(conversion, piece) {
+        return Some(ended);
+    }
+    without_item(conversion, piece)
+}
+
+/// How a directive ends that took nothing yet, where that is seen at once, and its row doesn't say so.
+#[inline(always)]
+fn seen_at_once(directive: &Directive, piece: &[u8]) -> Option<Ended>
+    ensures { (n : ℕ) → IfSome result (EndsAtOnce directive.now n piece.now) }
+{
+    match directive {
+        Directive::Byte(due) => whole_byte(*due, piece),
+        Directive::Conv(conversion) => {
+            // the shape first, so that one of which nothing is seen at once costs no look at the piece
+            if !matches!(conversion.shape, Shape::Int(_) | Shape::Set(_)) {
+                return None;
+            }
+            let before = skipped(&conversion.shape, piece);
+            let (_, rest) = piece.split_at(before);
+            let ended = item_at_once(conversion, rest)?;
+            Some(Ended {
+                before,
+                item: ended.item,
+                finished: ended.finished,
+            })
+        }
+        Directive::Space | Directive::Percent => None,
+    }
+}
+
+/// As `ended_within`, whichever directive it is. It stands apart, since what it makes on the way is large.
+#[cold]
+#[inline(never)]
+fn ended_by_run(directive: &Directive, piece: &[u8], used: u32) -> Option<Ended>
+    ensures ends { IfSome result (EndsAtOnce directive.now used piece.now) }
+    ensures waits { IsNone result → IsProper directive.now → (room : ℕ) → IsSure directive.now used piece.now room → ⊥ }
+{
+    as_ended(run_on(directive, Phase::Skipping, piece, used))
+}
+
 /// How the directive ends, which took nothing yet, where it does so within the piece, which comes so many bytes into
 /// the run.
 #[inline(always)]
@@ -963,5 +1071,8 @@ pub(crate) fn ended_within(directive: &Directive, piece: &[u8], used: u32) -> Op
     ensures ends { IfSome result (EndsAtOnce directive.now used piece.now) }
     ensures waits { IsNone result → IsProper directive.now → (room : ℕ) → IsSure directive.now used piece.now room → ⊥ }
 {
-    as_ended(run_on(directive, Phase::Skipping, piece, used))
+    if let Some(ended) = seen_at_once(directive, piece) {
+        return Some(ended);
+    }
+    ended_by_run(directive, piece, used)
 }

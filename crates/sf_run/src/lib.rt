@@ -11,7 +11,7 @@ mod tally;
 mod written;
 
 pub use feeding::{Fed, FeedState, StartFault};
-pub use quick::{quick_run, quick_run_into};
+pub use quick::{quick_run, quick_run_into, sure_run};
 pub use scanner::{MOST_BYTES, Scanner};
 pub use sf_report::{Ending, Outcome, Report, Scanned, Status};
 pub use written::{ValueWriter, WrittenRuns, is_in_order, write_runs};

@@ -1,18 +1,22 @@
 //! Runs that begin and pass within a piece of the input, read at once.
-ghost use Rattle.std.specs.Prelude.{◌≡◌, ◌<◌, ◌≤◌, ◌+◌, ◌-◌, ◌^◌, ◌++◌, ℕ, List, length, slice_get, take, drop, true};
-ghost use Rattle.std.specs.Prelude.{None, Some, IfSome, IsNone, IsSome};
+ghost use Rattle.std.specs.Prelude.{◌≡◌, ◌≢◌, ◌<◌, ◌≤◌, ◌+◌, ◌-◌, ◌^◌, ◌++◌, ℕ, List, length, slice_get, take, drop};
+ghost use Rattle.std.specs.Prelude.{None, Some, IfErr, IfOk, IfSome, IsNone, IsSome, is_some, if◌then◌else◌};
 ghost use Rattle.sf_format.specs.declared.directive.Directive.{Directive};
+ghost use Rattle.sf_base.specs.Data.{Assigned};
 ghost use Rattle.sf_base.specs.stores.Kept.{buffer_of, nothing_kept};
-ghost use Rattle.sf_format.specs.Layout.{row_of};
+ghost use Rattle.sf_format.specs.Layout.{assigns_item, items_assigned, items_taken, row_of};
 ghost use Rattle.sf_format.specs.Proper.{IsProper, destinations_of};
 ghost use Rattle.sf_report.specs.declared.outcome.Ending.{Ending};
-ghost use Rattle.sf_report.specs.declared.outcome.Status.TheVariants as status;
+ghost use Rattle.sf_report.specs.declared.outcome.Status.TheVariants as statuses;
 ghost use Rattle.sf_report.specs.Limits.{RunWithin};
 ghost use Rattle.sf_report.specs.Memory.{HoldsValues, capacity_of};
 ghost use Rattle.sf_run.specs.Phases.{IsNumberGiven, end_of, slot_given};
 ghost use Rattle.sf_run.specs.Pieces.{EndsAtOnce};
-ghost use Rattle.sf_run.specs.Quick.{GivesTo, IsDoneWithin, IsSure, MayBeGiven, Passes, done_by, text_stored};
-ghost use Rattle.sf_report.specs.Runs.{passed};
+ghost use Rattle.sf_run.specs.Counting.{HasCome, front_of, none_missing};
+ghost use Rattle.sf_run.specs.Quick.{EndsSo, GivesTo, IsDoneWithin, IsEndedWithin, IsSure, IsUngiven, MayBeGiven};
+ghost use Rattle.sf_run.specs.Quick.{text_stored, ungiven_end};
+ghost use Rattle.sf_run.specs.declared.quick.Missing.{Missing};
+ghost use Rattle.sf_run.specs.declared.quick.PassageEnd.TheVariants as ends;
 ghost use Rattle.sf_run.specs.Texts.{slot_of};
 ghost use Rattle.sf_report.specs.Views.{report_by};
 
@@ -21,9 +25,72 @@ use crate::directive::{
     real_at_once, text_at_once, until_at_once, whole_byte, whole_space,
 };
 use crate::number::real_of;
+use crate::tally::is_conversion;
 use sf_base::{HeapStore, Number, Store};
 use sf_format::{Base, Directive, Row, ScanFormat, Way};
 use sf_report::{Outcome, Status};
+
+/// How a directive ends within a piece of the input, whatever follows that.
+#[derive(Clone, Copy)]
+enum PassageEnd {
+    /// It passes, and the store has what it gives.
+    Passes,
+    /// Its item is missing, and may be.
+    Misses,
+    Fails(Status),
+}
+
+/// What a directive makes of a piece.
+#[derive(Clone, Copy)]
+struct Passage {
+    /// How many bytes it takes.
+    taken: usize,
+    end: PassageEnd,
+}
+
+/// How many items of a run are missing.
+#[derive(Clone, Copy)]
+struct Missing {
+    /// Those that a destination would have been given.
+    assigned: u8,
+    /// All, those of suppressed conversions too.
+    converted: u16,
+}
+
+/// Before an item is missing.
+const NONE_MISSING: Missing = Missing {
+    assigned: 0,
+    converted: 0,
+};
+
+/// How far a run has come in which no directive has failed.
+#[derive(Clone, Copy)]
+struct Place {
+    /// How many directives are left.
+    left: usize,
+    /// How many bytes those before them took.
+    used: usize,
+}
+
+impl Missing {
+    /// With the item of this directive.
+    #[inline(always)]
+    fn with(self, directive: &Directive) -> Missing
+        requires assigned { self.assigned < 2 ^ 8 - 1 }
+        requires converted { self.converted < 2 ^ 16 - 1 }
+        ensures assigned { result.assigned ≡ self.assigned + (if is_some (slot_of directive.now) then 1 else 0) }
+        ensures converted { result.converted ≡ self.converted + 1 }
+    {
+        let assigned = match directive {
+            Directive::Conv(conversion) if conversion.slot.is_some() => self.assigned + 1,
+            _ => self.assigned,
+        };
+        Missing {
+            assigned,
+            converted: self.converted + 1,
+        }
+    }
+}
 
 /// Gives a store without an opened text what a directive gives that ends so within the piece. Answers whether that is
 /// something. None where the directive fails, or the storing is refused.
@@ -35,9 +102,8 @@ fn give<S: Store>(store: &mut S, ended: Ended, piece: &[u8]) -> Option<bool>
     requires within { ended.before + ended.item ≤ length piece.now }
     ensures gives { IfSome result (λ stores. GivesTo (end_of
         (take ended.item (drop ended.before piece.now)) ended.finished) stores (S.kept store.old) (S.kept store.new)) }
-    ensures none { IsNone result → passed (end_of (take ended.item (drop ended.before piece.now)) ended.finished) ≡ true
-        → (S.kept store.old).room
-        < length (text_stored (end_of (take ended.item (drop ended.before piece.now)) ended.finished)) }
+    ensures none { IsNone result → IsUngiven (end_of
+        (take ended.item (drop ended.before piece.now)) ended.finished) (S.kept store.old).room }
     ensures same { IsNone result → S.kept store.new ≡ S.kept store.old }
     ensures room { capacity_of (S.kept store.old) ≤ capacity_of (S.kept store.new) }
 {
@@ -74,8 +140,25 @@ fn give<S: Store>(store: &mut S, ended: Ended, piece: &[u8]) -> Option<bool>
     }
 }
 
-/// Passes a directive that ends so within the piece, and says how many bytes it took. None where it isn't said to end,
-/// where it fails, or where the storing is refused: then nothing has changed.
+/// How a directive ends that gives nothing: its item is missing, it fails, or what it reads is no float of its kind.
+#[inline(always)]
+fn ungiven(finished: Finished) -> Option<PassageEnd>
+    ensures is { (text : List ℕ) (room : ℕ) → IsUngiven (end_of text finished) room
+        → IfSome result (λ end. end_of text finished ≡ ungiven_end end) }
+    ensures gives { IfSome result (λ end. end ≢ ends.Passes) }
+    ensures some { (text : List ℕ) (room : ℕ) → IsUngiven (end_of text finished) room
+        → length (text_stored (end_of text finished)) ≤ room → IsSome result }
+{
+    match finished {
+        Finished::Misses => Some(PassageEnd::Misses),
+        Finished::Fails(status) => Some(PassageEnd::Fails(status)),
+        Finished::Reads { .. } => Some(PassageEnd::Fails(Status::OutOfRange)),
+        Finished::Passes | Finished::Stores { .. } | Finished::Closes { .. } => None,
+    }
+}
+
+/// Passes a directive that ends so within the piece, and says how many bytes it takes. None where it isn't said to end,
+/// where it fails or its item is missing, or where the storing is refused: then nothing has changed.
 #[inline(always)]
 fn pass_so<S: Store>(
     store: &mut S,
@@ -87,11 +170,9 @@ fn pass_so<S: Store>(
     requires opened { (S.kept store.old).opened ≡ None }
     requires free { MayBeGiven S.slots (slot_of directive.now) (S.kept store.old).values }
     requires ends { IfSome ended (EndsAtOnce directive.now used piece.now) }
-    ensures passes { IsProper directive.now → IfSome result
-        (λ taken. Passes directive.now used piece.now taken (S.kept store.old) (S.kept store.new)) }
+    ensures passes { IsProper directive.now → IfSome result (λ taken. EndsSo directive.now used piece.now
+        (record { taken = taken; end = ends.Passes }) (S.kept store.old) (S.kept store.new)) }
     ensures within { IfSome result (λ taken. taken ≤ length piece.now) }
-    ensures sure { IsSome ended → IsProper directive.now → IsSure directive.now used piece.now (S.kept store.old).room
-        → IsSome result }
     ensures same { IsNone result → S.kept store.new ≡ S.kept store.old }
     ensures room { capacity_of (S.kept store.old) ≤ capacity_of (S.kept store.new) }
 {
@@ -102,85 +183,94 @@ fn pass_so<S: Store>(
     Some(ended.before + ended.item)
 }
 
-/// As `pass_so`, of a directive that is seen at once to give its slot a float.
+/// As `pass_so`, also of a directive that fails, or whose item is missing: what it makes of the piece. None where it
+/// isn't said to end, or where the storing is refused.
+#[inline(always)]
+fn end_so<S: Store>(
+    store: &mut S,
+    directive: &Directive,
+    ended: Option<Ended>,
+    piece: &[u8],
+    used: u32,
+) -> Option<Passage>
+    requires opened { (S.kept store.old).opened ≡ None }
+    requires free { MayBeGiven S.slots (slot_of directive.now) (S.kept store.old).values }
+    requires ends { IfSome ended (EndsAtOnce directive.now used piece.now) }
+    ensures ends { IsProper directive.now → IfSome result
+        (λ passage. EndsSo directive.now used piece.now passage (S.kept store.old) (S.kept store.new)) }
+    ensures within { IfSome result (λ passage. passage.taken ≤ length piece.now) }
+    ensures sure { IsSome ended → IsProper directive.now → IsSure directive.now used piece.now (S.kept store.old).room
+        → IsSome result }
+    ensures same { IsNone result → S.kept store.new ≡ S.kept store.old }
+    ensures room { capacity_of (S.kept store.old) ≤ capacity_of (S.kept store.new) }
+{
+    let _directive = directive;
+    let _used = used;
+    let ended = ended?;
+    let taken = ended.before + ended.item;
+    if let Some(_stores) = give(store, ended, piece) {
+        return Some(Passage {
+            taken,
+            end: PassageEnd::Passes,
+        });
+    }
+    let end = ungiven(ended.finished)?;
+    Some(Passage { taken, end })
+}
+
+/// As `end_so`, of a directive that is seen at once to give its slot a float.
 #[inline(always)]
 fn pass_real<S: Store>(
     store: &mut S,
     directive: &Directive,
     piece: &[u8],
     used: u32,
-) -> Option<usize>
+) -> Option<Passage>
     requires opened { (S.kept store.old).opened ≡ None }
     requires free { MayBeGiven S.slots (slot_of directive.now) (S.kept store.old).values }
-    ensures passes { IsProper directive.now → IfSome result
-        (λ taken. Passes directive.now used piece.now taken (S.kept store.old) (S.kept store.new)) }
-    ensures within { IfSome result (λ taken. taken ≤ length piece.now) }
+    ensures ends { IsProper directive.now → IfSome result
+        (λ passage. EndsSo directive.now used piece.now passage (S.kept store.old) (S.kept store.new)) }
+    ensures within { IfSome result (λ passage. passage.taken ≤ length piece.now) }
     ensures same { IsNone result → S.kept store.new ≡ S.kept store.old }
     ensures room { capacity_of (S.kept store.old) ≤ capacity_of (S.kept store.new) }
 {
     let _used = used;
     let read = real_at_once(directive, piece)?;
     store.set_real(read.slot, read.real);
-    Some(read.ended.before + read.ended.item)
+    Some(Passage {
+        taken: read.ended.before + read.ended.item,
+        end: PassageEnd::Passes,
+    })
 }
 
-/// As `pass`, whichever directive it is. None only where it may go on after the piece, where it fails, or where the
-/// storing is refused.
+/// What a directive makes of the piece, whichever it is, and however it ends. None only where it may go on after the
+/// piece, or where the storing is refused.
 #[inline(always)]
 fn pass_whole<S: Store>(
     store: &mut S,
     directive: &Directive,
     piece: &[u8],
     used: u32,
-) -> Option<usize>
+) -> Option<Passage>
     requires opened { (S.kept store.old).opened ≡ None }
     requires free { MayBeGiven S.slots (slot_of directive.now) (S.kept store.old).values }
-    ensures passes { IsProper directive.now → IfSome result
-        (λ taken. Passes directive.now used piece.now taken (S.kept store.old) (S.kept store.new)) }
-    ensures within { IfSome result (λ taken. taken ≤ length piece.now) }
+    ensures ends { IsProper directive.now → IfSome result
+        (λ passage. EndsSo directive.now used piece.now passage (S.kept store.old) (S.kept store.new)) }
+    ensures within { IfSome result (λ passage. passage.taken ≤ length piece.now) }
     ensures sure { IsProper directive.now → IsSure directive.now used piece.now (S.kept store.old).room
         → IsSome result }
     ensures room { capacity_of (S.kept store.old) ≤ capacity_of (S.kept store.new) }
 {
-    if let Some(taken) = pass_real(store, directive, piece, used) {
-        return Some(taken);
+    if let Some(passage) = pass_real(store, directive, piece, used) {
+        return Some(passage);
     }
     let ended = ended_within(directive, piece, used);
-    pass_so(store, directive, ended, piece, used)
-}
-
-/// As `pass_whole`, of the first of so many directives of a format that are left. It looks the directive up itself, so
-/// that a run by rows alone doesn't.
-#[cold]
-#[inline(never)]
-fn pass_later<S: Store>(
-    store: &mut S,
-    format: &ScanFormat,
-    left: usize,
-    piece: &[u8],
-    used: u32,
-) -> Option<usize>
-    requires opened { (S.kept store.old).opened ≡ None }
-    requires some { 0 < left }
-    requires within { left ≤ length format.now }
-    requires free { (d : Directive) → slice_get format.now (length format.now - left) ≡ Some d
-        → MayBeGiven S.slots (slot_of d) (S.kept store.old).values }
-    ensures passes { (d : Directive) → slice_get format.now (length format.now - left) ≡ Some d → IsProper d
-        → IfSome result (λ taken. Passes d used piece.now taken (S.kept store.old) (S.kept store.new)) }
-    ensures within { IfSome result (λ taken. taken ≤ length piece.now) }
-    ensures sure { (d : Directive) → slice_get format.now (length format.now - left) ≡ Some d → IsProper d
-        → IsSure d used piece.now (S.kept store.old).room → IsSome result }
-    ensures room { capacity_of (S.kept store.old) ≤ capacity_of (S.kept store.new) }
-{
-    let directives = format.directives();
-    let at = directives.len() - left;
-    let directive = &directives[at];
-    pass_whole(store, directive, piece, used)
+    end_so(store, directive, ended, piece, used)
 }
 
 /// Passes a directive that is seen at once to end within the piece, which comes so many bytes into the run, the way
-/// that its row says: how many bytes it took. None where that isn't seen, where it fails, or where the storing is
-/// refused: then nothing has changed.
+/// that its row says: how many bytes it takes. None where that isn't seen, where it fails or its item is missing, or
+/// where the storing is refused: then nothing has changed.
 #[inline(always)]
 fn pass<S: Store>(
     store: &mut S,
@@ -197,8 +287,8 @@ fn pass<S: Store>(
     requires first { slice_get format.now (length format.now - left) ≡ Some directive.now }
     requires free { MayBeGiven S.slots (slot_of directive.now) (S.kept store.old).values }
     requires row { row.now ≡ row_of directive.now }
-    ensures passes { IsProper directive.now → IfSome result
-        (λ taken. Passes directive.now used piece.now taken (S.kept store.old) (S.kept store.new)) }
+    ensures passes { IsProper directive.now → IfSome result (λ taken. EndsSo directive.now used piece.now
+        (record { taken = taken; end = ends.Passes }) (S.kept store.old) (S.kept store.new)) }
     ensures within { IfSome result (λ taken. taken ≤ length piece.now) }
     ensures same { IsNone result → S.kept store.new ≡ S.kept store.old }
     ensures room { capacity_of (S.kept store.old) ≤ capacity_of (S.kept store.new) }
@@ -240,32 +330,125 @@ fn pass<S: Store>(
     }
 }
 
-/// As `quick_run_into`: how many bytes the record has.
+/// How many directives take an input item.
+fn items_taken(directives: &[Directive]) -> u16
+    requires { length directives.now ≤ 4096 }
+    ensures { result ≡ items_taken directives.now }
+{
+    let mut count = 0;
+    for directive in directives {
+        if is_conversion(directive) {
+            count += 1;
+        }
+    }
+    count
+}
+
+/// Whether the directive gives an input item to a destination.
+fn assigns_item(directive: &Directive) -> bool
+    ensures { result ≡ assigns_item directive.now }
+{
+    match directive {
+        Directive::Conv(conversion) => is_conversion(directive) && conversion.slot.is_some(),
+        _ => false,
+    }
+}
+
+/// How many directives give an input item to a destination.
+fn items_assigned(directives: &[Directive]) -> u8
+    requires { items_assigned directives.now ≤ 32 }
+    ensures { result ≡ items_assigned directives.now }
+{
+    let mut count = 0;
+    for directive in directives {
+        if assigns_item(directive) {
+            count += 1;
+        }
+    }
+    count
+}
+
+/// The outcome of a run in which a directive fails, after so many others, and these items are missing.
+#[inline(always)]
+fn failed(
+    format: &ScanFormat,
+    passed: usize,
+    missing: Missing,
+    used: u32,
+    status: Status,
+) -> Outcome
+    requires within { passed < length format.now }
+    requires few { items_assigned (take passed format.now) ≤ 32 }
+    requires assigned { missing.assigned ≤ items_assigned (take passed format.now) }
+    requires converted { missing.converted ≤ items_taken (take passed format.now) }
+    ensures status { result.status ≡ status }
+    ensures at { result.at ≡ passed + 1 }
+    ensures assigned { result.assigned ≡ items_assigned (take passed format.now) - missing.assigned }
+    ensures converted { result.converted ≡ items_taken (take passed format.now) - missing.converted }
+    ensures used { result.used ≡ used }
+    ensures met { result.met ≡ None }
+{
+    let (before, _) = format.directives().split_at(passed);
+    Outcome {
+        status,
+        at: passed as u16 + 1,
+        assigned: items_assigned(before) - missing.assigned,
+        converted: items_taken(before) - missing.converted,
+        used,
+        met: None,
+    }
+}
+
+/// The outcome of a run in which no directive fails, and these items are missing.
+#[inline(always)]
+fn done(format: &ScanFormat, missing: Missing, used: u32) -> Outcome
+    requires assigned { missing.assigned ≤ items_assigned format.now }
+    requires converted { missing.converted ≤ items_taken format.now }
+    ensures status { result.status ≡ statuses.Done }
+    ensures at { result.at ≡ 0 }
+    ensures assigned { result.assigned ≡ items_assigned format.now - missing.assigned }
+    ensures converted { result.converted ≡ items_taken format.now - missing.converted }
+    ensures used { result.used ≡ used }
+    ensures met { result.met ≡ None }
+{
+    Outcome {
+        status: Status::Done,
+        at: 0,
+        assigned: format.assigned() - missing.assigned,
+        converted: format.converted() - missing.converted,
+        used,
+        met: None,
+    }
+}
+
+/// Runs the rows of a format from a place on, as long as each is seen at once to pass within the front of a piece: how
+/// far that comes. It neither counts nor reports, so that a record that passes takes no more than that.
 #[inline(never)]
-fn pass_all<S: Store>(store: &mut S, format: &ScanFormat, limit: u32, piece: &[u8]) -> Option<usize>
-    requires empty { S.kept store.old ≡ nothing_kept (S.kept store.old).room }
+fn run_rows<S: Store>(store: &mut S, format: &ScanFormat, front: &[u8], place: Place) -> Place
     requires slots { length (destinations_of format.now) ≤ S.slots }
-    ensures run { IfSome result (λ used. (z : List ℕ) (ending : Ending)
-        → RunWithin format.now limit (piece.now ++ z) ending (done_by format.now used (S.kept store.new).values)) }
-    ensures used { IfSome result (λ used. used ≤ length piece.now) }
-    ensures low { IfSome result (λ used. used ≤ limit) }
-    ensures answers { IsDoneWithin format.now limit piece.now (capacity_of (S.kept store.old)) → IsSome result }
-    ensures texts { IfSome result (λ _. HoldsValues (S.kept store.new)) }
+    requires left { place.left ≤ length format.now }
+    requires short { length front.now < 2 ^ 32 }
+    requires used { place.used ≤ length front.now }
+    requires come { (missing : Missing) × HasCome format.now front.now place missing (S.kept store.old) }
+    ensures come { (missing : Missing) → HasCome format.now front.now place missing (S.kept store.old)
+        → HasCome format.now front.now result missing (S.kept store.new) }
+    ensures left { result.left ≤ place.left }
+    ensures used { result.used ≤ length front.now }
     ensures room { capacity_of (S.kept store.old) ≤ capacity_of (S.kept store.new) }
 {
-    let most = (limit as usize).min(piece.len());
-    let (front, _) = piece.split_at(most);
     let directives = format.directives();
     let rows = format.rows();
-    let mut rest = front;
-    let mut left = rows;
+    let (_, mut left) = rows.split_at(rows.len() - place.left);
+    let (_, mut rest) = front.split_at(place.used);
     while let Some(row) = left.first() {
         let at = rows.len() - left.len();
         let directive = &directives[at];
         let used = (front.len() - rest.len()) as u32;
-        let taken = match pass(store, format, left.len(), directive, row, rest, used) {
-            Some(taken) => taken,
-            None => pass_later(store, format, left.len(), rest, used)?,
+        let Some(taken) = pass(store, format, left.len(), directive, row, rest, used) else {
+            return Place {
+                left: left.len(),
+                used: front.len() - rest.len(),
+            };
         };
         let (_, after) = rest.split_at(taken);
         rest = after;
@@ -273,7 +456,154 @@ fn pass_all<S: Store>(store: &mut S, format: &ScanFormat, limit: u32, piece: &[u
         let (_, others) = left.split_at(1);
         left = others;
     }
-    Some(front.len() - rest.len())
+    Place {
+        left: 0,
+        used: front.len() - rest.len(),
+    }
+}
+
+/// Runs what is left of a format at a place before a directive that isn't seen at once to pass: one that is read by its
+/// shape, that fails, or whose item is missing. It stands apart, and a run in which there is none of them is as it was.
+#[cold]
+#[inline(never)]
+fn run_rest<S: Store>(
+    store: &mut S,
+    format: &ScanFormat,
+    limit: u32,
+    piece: &[u8],
+    place: Place,
+) -> Option<Outcome>
+    requires slots { length (destinations_of format.now) ≤ S.slots }
+    requires left { place.left ≤ length format.now }
+    requires used { place.used ≤ length (front_of limit piece.now) }
+    requires come { HasCome format.now (front_of limit piece.now) place none_missing (S.kept store.old) }
+    ensures run { IfSome result (λ outcome. (z : List ℕ) (ending : Ending)
+        → RunWithin format.now limit (piece.now ++ z) ending (report_by outcome (S.kept store.new).values)) }
+    ensures met { IfSome result (λ outcome. outcome.met ≡ None) }
+    ensures used { IfSome result (λ outcome. outcome.used ≤ length piece.now) }
+    ensures answers { (capacity : ℕ) → capacity ≤ capacity_of (S.kept store.old)
+        → IsEndedWithin format.now limit piece.now capacity → IsSome result }
+    ensures texts { IfSome result (λ _. HoldsValues (S.kept store.new)) }
+    ensures room { capacity_of (S.kept store.old) ≤ capacity_of (S.kept store.new) }
+{
+    let most = (limit as usize).min(piece.len());
+    let (front, _) = piece.split_at(most);
+    let directives = format.directives();
+    let mut come = place;
+    let mut missing = NONE_MISSING;
+    while come.left > 0 {
+        let at = directives.len() - come.left;
+        let directive = &directives[at];
+        let (_, rest) = front.split_at(come.used);
+        let passage = pass_whole(store, directive, rest, come.used as u32)?;
+        let used = come.used + passage.taken;
+        match passage.end {
+            PassageEnd::Passes => {}
+            PassageEnd::Misses => missing = missing.with(directive),
+            PassageEnd::Fails(status) => {
+                return Some(failed(format, at, missing, used as u32, status));
+            }
+        }
+        let next = Place {
+            left: come.left - 1,
+            used,
+        };
+        come = run_rows(store, format, front, next);
+    }
+    Some(done(format, missing, come.used as u32))
+}
+
+/// As `run_rest`, of a run that is Done; None where it fails.
+#[cold]
+#[inline(never)]
+fn done_rest<S: Store>(
+    store: &mut S,
+    format: &ScanFormat,
+    limit: u32,
+    piece: &[u8],
+    place: Place,
+) -> Option<Outcome>
+    requires slots { length (destinations_of format.now) ≤ S.slots }
+    requires left { place.left ≤ length format.now }
+    requires used { place.used ≤ length (front_of limit piece.now) }
+    requires come { HasCome format.now (front_of limit piece.now) place none_missing (S.kept store.old) }
+    ensures run { IfSome result (λ outcome. (z : List ℕ) (ending : Ending)
+        → RunWithin format.now limit (piece.now ++ z) ending (report_by outcome (S.kept store.new).values)) }
+    ensures done { IfSome result (λ outcome. outcome.status ≡ statuses.Done) }
+    ensures met { IfSome result (λ outcome. outcome.met ≡ None) }
+    ensures used { IfSome result (λ outcome. outcome.used ≤ length piece.now) }
+    ensures answers { (capacity : ℕ) → capacity ≤ capacity_of (S.kept store.old)
+        → IsDoneWithin format.now limit piece.now capacity → IsSome result }
+    ensures texts { IfSome result (λ _. HoldsValues (S.kept store.new)) }
+    ensures room { capacity_of (S.kept store.old) ≤ capacity_of (S.kept store.new) }
+{
+    let _directives = format.directives();
+    let outcome = run_rest(store, format, limit, piece, place)?;
+    match outcome.status {
+        Status::Done => Some(outcome),
+        _ => None,
+    }
+}
+
+/// Runs the rows of a format from its start, into an empty store with a slot for each destination: the outcome where
+/// each is seen at once to pass within the piece, else the place before the first that isn't.
+#[inline(always)]
+fn run_all_rows<S: Store>(
+    store: &mut S,
+    format: &ScanFormat,
+    limit: u32,
+    piece: &[u8],
+) -> Result<Outcome, Place>
+    requires empty { S.kept store.old ≡ nothing_kept (S.kept store.old).room }
+    requires slots { length (destinations_of format.now) ≤ S.slots }
+    ensures run { IfOk result (λ outcome. (z : List ℕ) (ending : Ending)
+        → RunWithin format.now limit (piece.now ++ z) ending (report_by outcome (S.kept store.new).values)) }
+    ensures done { IfOk result (λ outcome. outcome.status ≡ statuses.Done) }
+    ensures met { IfOk result (λ outcome. outcome.met ≡ None) }
+    ensures used { IfOk result (λ outcome. outcome.used ≤ length piece.now) }
+    ensures texts { IfOk result (λ _. HoldsValues (S.kept store.new)) }
+    ensures left { IfErr result (λ place. place.left ≤ length format.now) }
+    ensures passed { IfErr result (λ place. place.used ≤ length (front_of limit piece.now)) }
+    ensures come { IfErr result (λ place.
+        HasCome format.now (front_of limit piece.now) place none_missing (S.kept store.new)) }
+    ensures room { capacity_of (S.kept store.old) ≤ capacity_of (S.kept store.new) }
+{
+    let directives = format.directives();
+    let most = (limit as usize).min(piece.len());
+    let (front, _) = piece.split_at(most);
+    let start = Place {
+        left: directives.len(),
+        used: 0,
+    };
+    let place = run_rows(store, format, front, start);
+    if place.left == 0 {
+        return Ok(done(format, NONE_MISSING, place.used as u32));
+    }
+    Err(place)
+}
+
+/// As `sure_run`, into an empty store that has a slot for each destination of the format.
+#[inline(always)]
+fn sure_run_into<S: Store>(
+    store: &mut S,
+    format: &ScanFormat,
+    limit: u32,
+    piece: &[u8],
+) -> Option<Outcome>
+    requires empty { S.kept store.old ≡ nothing_kept (S.kept store.old).room }
+    requires slots { length (destinations_of format.now) ≤ S.slots }
+    ensures run { IfSome result (λ outcome. (z : List ℕ) (ending : Ending)
+        → RunWithin format.now limit (piece.now ++ z) ending (report_by outcome (S.kept store.new).values)) }
+    ensures met { IfSome result (λ outcome. outcome.met ≡ None) }
+    ensures used { IfSome result (λ outcome. outcome.used ≤ length piece.now) }
+    ensures answers { IsEndedWithin format.now limit piece.now (capacity_of (S.kept store.old)) → IsSome result }
+    ensures texts { IfSome result (λ _. HoldsValues (S.kept store.new)) }
+    ensures room { capacity_of (S.kept store.old) ≤ capacity_of (S.kept store.new) }
+{
+    match run_all_rows(store, format, limit, piece) {
+        Ok(outcome) => Some(outcome),
+        Err(place) => run_rest(store, format, limit, piece, place),
+    }
 }
 
 /// Reads a record at once that begins and passes within a piece of the input, and gives an empty store the values. What
@@ -294,22 +624,17 @@ pub fn quick_run_into<S: Store>(
     requires slots { length (destinations_of format.now) ≤ S.slots }
     ensures run { IfSome result (λ outcome. (z : List ℕ) (ending : Ending)
         → RunWithin format.now limit (piece.now ++ z) ending (report_by outcome (S.kept store.new).values)) }
-    ensures done { IfSome result (λ outcome. outcome.status ≡ status.Done) }
+    ensures done { IfSome result (λ outcome. outcome.status ≡ statuses.Done) }
     ensures met { IfSome result (λ outcome. outcome.met ≡ None) }
     ensures used { IfSome result (λ outcome. outcome.used ≤ length piece.now) }
     ensures answers { IsDoneWithin format.now limit piece.now (capacity_of (S.kept store.old)) → IsSome result }
     ensures texts { IfSome result (λ _. HoldsValues (S.kept store.new)) }
     ensures room { capacity_of (S.kept store.old) ≤ capacity_of (S.kept store.new) }
 {
-    let used = pass_all(store, format, limit, piece)?;
-    Some(Outcome {
-        status: Status::Done,
-        at: 0,
-        assigned: format.assigned(),
-        converted: format.converted(),
-        used: used as u32,
-        met: None,
-    })
+    match run_all_rows(store, format, limit, piece) {
+        Ok(outcome) => Some(outcome),
+        Err(place) => done_rest(store, format, limit, piece, place),
+    }
 }
 
 /// As `quick_run_into`, over a store that was used before: empties it first, and keeps its memory.
@@ -322,7 +647,7 @@ pub fn quick_run(
 ) -> Option<Outcome>
     ensures run { IfSome result (λ outcome. (z : List ℕ) (ending : Ending)
         → RunWithin format.now limit (piece.now ++ z) ending (report_by outcome store.new.values)) }
-    ensures done { IfSome result (λ outcome. outcome.status ≡ status.Done) }
+    ensures done { IfSome result (λ outcome. outcome.status ≡ statuses.Done) }
     ensures met { IfSome result (λ outcome. outcome.met ≡ None) }
     ensures used { IfSome result (λ outcome. outcome.used ≤ length piece.now) }
     ensures answers { IsDoneWithin format.now limit piece.now (capacity_of store.old) → IsSome result }
@@ -332,4 +657,27 @@ pub fn quick_run(
     let _destinations = format.destinations();
     store.clear();
     quick_run_into(store, format, limit, piece)
+}
+
+/// As `quick_run`, also of a record that isn't Done: it answers however the run ends, also where it fails or an item is
+/// missing, wherever that is before a byte of the piece or of the limit is lacking, and the store has room for its
+/// texts. The store then has the values of the directives before the one that fails.
+#[inline(always)]
+pub fn sure_run(
+    store: &mut HeapStore,
+    format: &ScanFormat,
+    limit: u32,
+    piece: &[u8],
+) -> Option<Outcome>
+    ensures run { IfSome result (λ outcome. (z : List ℕ) (ending : Ending)
+        → RunWithin format.now limit (piece.now ++ z) ending (report_by outcome store.new.values)) }
+    ensures met { IfSome result (λ outcome. outcome.met ≡ None) }
+    ensures used { IfSome result (λ outcome. outcome.used ≤ length piece.now) }
+    ensures answers { IsEndedWithin format.now limit piece.now (capacity_of store.old) → IsSome result }
+    ensures texts { IfSome result (λ _. HoldsValues store.new) }
+    ensures room { capacity_of store.old ≤ capacity_of store.new }
+{
+    let _destinations = format.destinations();
+    store.clear();
+    sure_run_into(store, format, limit, piece)
 }

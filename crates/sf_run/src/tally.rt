@@ -1,6 +1,7 @@
 //! What a run has counted so far.
 ghost use Rattle.std.specs.Prelude.{◌≡◌, ◌+◌, ◌-◌, ◌<◌, ◌≤◌, ◌^◌, List, if◌then◌else◌, true};
 ghost use Rattle.sf_base.specs.Data.{Assigned};
+ghost use Rattle.sf_format.specs.Layout.{takes_item};
 ghost use Rattle.sf_report.specs.Residual.{counted};
 ghost use Rattle.sf_report.specs.Runs.{is_conversion, stored};
 ghost use Rattle.sf_report.specs.Steps.{StepEnd};
@@ -19,7 +20,8 @@ pub(crate) struct Tally {
 /// Whether the directive counts as a conversion: `%%` and `%n` don't.
 #[inline(always)]
 pub(crate) fn is_conversion(directive: &Directive) -> bool
-    ensures { result ≡ is_conversion directive.now }
+    ensures is { result ≡ is_conversion directive.now }
+    ensures item { result ≡ takes_item directive.now }
 {
     match directive {
         Directive::Space | Directive::Byte(_) | Directive::Percent => false,

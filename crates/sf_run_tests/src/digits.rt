@@ -3,7 +3,7 @@ use crate::runs::scanned;
 use sf_base::{HeapStore, Value, digit_value};
 use sf_format::{Profile, ScanFormat};
 use sf_rows::{LIMIT, is};
-use sf_run::{Ending, Outcome, Report, Status, quick_run};
+use sf_run::{Ending, Outcome, Report, Status, sure_run};
 use std::alloc::Global;
 use std::test::Fail;
 
@@ -127,7 +127,7 @@ fn quick_run_reports(
     case: &Case<'_>,
     front: &[u8],
 ) -> Result<bool, Fail> {
-    let Some(outcome) = quick_run(store, format, LIMIT, front) else {
+    let Some(outcome) = sure_run(store, format, LIMIT, front) else {
         return Ok(false);
     };
     is_case(&Report::new(outcome, store), case, front.len())?;

@@ -198,31 +198,38 @@ fn parts(whole: WholeInteger) -> (usize, bool, u64) {
     (whole.bytes, whole.negative, whole.magnitude)
 }
 
+/// The integer is known both ways, or neither, as the row says.
+fn is_whole(ways: [Option<WholeInteger>; 2], row: &DecimalRow) -> Result<(), Fail> {
+    let [one, other] = ways;
+    is(&[one.map(parts), other.map(parts)], &[row.2, row.2], row)
+}
+
 #[test]
-fn whole_integers_end_within(_rt: HostRuntime) -> Result<(), Fail> {
-    for (width, text, wanted) in decimals() {
-        is(&whole_decimal(*width, text).map(parts), wanted, text)?;
-        is(
-            &decimal_within(most_of(*width), text).map(parts),
-            wanted,
-            text,
-        )?;
+fn whole_decimals_end_within(_rt: HostRuntime) -> Result<(), Fail> {
+    for row in decimals() {
+        let (width, text, _) = row;
+        let within = decimal_within(most_of(*width), text);
+        is_whole([whole_decimal(*width, text), within], row)?;
     }
-    for (width, text, wanted) in &HEXES {
-        is(&whole_hex(*width, text).map(parts), wanted, text)?;
-        is(&hex_within(most_of(*width), text).map(parts), wanted, text)?;
+    Ok(())
+}
+
+#[test]
+fn whole_hexadecimals_end_within(_rt: HostRuntime) -> Result<(), Fail> {
+    for row in &HEXES {
+        let (width, text, _) = row;
+        let within = hex_within(most_of(*width), text);
+        is_whole([whole_hex(*width, text), within], row)?;
     }
-    for (width, text, wanted) in &AUTOS {
-        is(
-            &whole_auto(Base::Auto, *width, text).map(parts),
-            wanted,
-            text,
-        )?;
-        is(
-            &whole_auto(Base::AutoBin, *width, text).map(parts),
-            wanted,
-            text,
-        )?;
+    Ok(())
+}
+
+#[test]
+fn whole_integers_of_any_base_end_within(_rt: HostRuntime) -> Result<(), Fail> {
+    for row in &AUTOS {
+        let (width, text, _) = row;
+        let binary = whole_auto(Base::AutoBin, *width, text);
+        is_whole([whole_auto(Base::Auto, *width, text), binary], row)?;
     }
     Ok(())
 }
@@ -285,8 +292,11 @@ fn all_but(stop: u8) -> ByteSet {
 fn items_end_before_a_byte(_rt: HostRuntime) -> Result<(), Fail> {
     for (stop, width, text, wanted) in &UNTILS {
         let most = most_of(*width);
-        is(&until_item(*stop, most, text), wanted, text)?;
-        is(&members_item(&all_but(*stop), most, text), wanted, text)?;
+        let found = [
+            until_item(*stop, most, text),
+            members_item(&all_but(*stop), most, text),
+        ];
+        is(&found, &[*wanted, *wanted], text)?;
     }
     Ok(())
 }
@@ -298,21 +308,25 @@ fn is_as_steps(width: Option<u16>, text: &[u8]) -> Result<(), Fail> {
     };
     let conversion = conversion_of(Shape::Int(Base::Dec), width);
     let (count, _, end) = taken(ItemScan::start(&conversion), text);
-    is(&count, &whole.bytes, &(text, width))?;
-    is(
-        &end,
-        &integer(whole.negative, whole.magnitude),
-        &(text, width),
-    )
+    let number = integer(whole.negative, whole.magnitude);
+    is(&(count, end), &(whole.bytes, number), &(text, width))
+}
+
+static WIDTHS: [Option<u16>; 5] = [None, Some(1), Some(8), Some(19), Some(21)];
+
+/// So it is with each width.
+fn are_as_steps(text: &[u8]) -> Result<(), Fail> {
+    for width in &WIDTHS {
+        is_as_steps(*width, text)?;
+    }
+    Ok(())
 }
 
 #[test]
 fn whole_decimals_are_as_steps(rt: HostRuntime) -> Result<(), Fail> {
     let digits = b"-98765432101234567890123456,";
     for from in 0..digits.len() {
-        for width in [None, Some(1), Some(8), Some(19), Some(21)] {
-            is_as_steps(width, &digits[from..])?;
-        }
+        are_as_steps(&digits[from..])?;
     }
     Ok(())
 }
@@ -352,6 +366,11 @@ fn each_base_has_its_radices(_rt: HostRuntime) -> Result<(), Fail> {
     for (base, radices) in &RADICES {
         is(&radices_of(*base), radices, base)?;
     }
+    Ok(())
+}
+
+#[test]
+fn each_prefix_has_its_radix(_rt: HostRuntime) -> Result<(), Fail> {
     for (base, letter, radix) in &PREFIXES {
         is(&prefix_radix(*base, *letter), radix, letter)?;
     }

@@ -3,7 +3,7 @@ use crate::runs::scanned;
 use sf_base::{HeapStore, Store, Value};
 use sf_format::{Profile, ScanFormat};
 use sf_rows::{Met, ScanRow, Told, is, scans};
-use sf_run::{Ending, Report, Scanned, quick_run};
+use sf_run::{Ending, Report, Scanned, quick_run, sure_run};
 use std::alloc::Global;
 use std::test::Fail;
 
@@ -27,7 +27,7 @@ fn is_at_once(
     format: &ScanFormat,
     front: &[u8],
 ) -> Result<bool, Fail> {
-    let Some(outcome) = quick_run(store, format, row.limit, front) else {
+    let Some(outcome) = sure_run(store, format, row.limit, front) else {
         return Ok(false);
     };
     let report = Report::new(outcome, store);

@@ -93,8 +93,11 @@ fn has_letters(report: &Report<'_, HeapStore>) -> Result<(), Fail> {
         return is(&value, &None, &"value");
     }
     let wanted = Told::Done(1, 100000, Met::End).outcome();
-    is(&report.outcome(), &wanted, &"outcome")?;
-    is(&value, &Some((100000, true)), &"text")
+    is(
+        &(report.outcome(), value),
+        &(wanted, Some((100000, true))),
+        &"the letters",
+    )
 }
 
 #[test]

@@ -1,7 +1,8 @@
 //! Calls of the library whose instructions tests/bench counts. Each prints the sum of the numbers that it reads by
 //! `%d,%d`. `records` and `lines` read standard input by the library's loops, `rows` reads it by `scan_row`, `scan`
 //! reads it as the command does, and sums what it stored; `sscan TEXT COUNT` scans a text so many times,
-//! `over TEXT COUNT` does so over one store, and `row TEXT COUNT` makes a row of it each time.
+//! `over TEXT COUNT` does so over one store, and `row TEXT COUNT` makes a row of it each time. `parse TEXT COUNT`
+//! parses a scan format so many times, and prints the sum of all that it counts.
 #![tactic(auto)]
 
 use sf_base::{HeapStore, Store, Value};
@@ -144,6 +145,21 @@ fn sum_text_rows(
     Ok(sum)
 }
 
+fn sum_parses(alloc: Global, text: &[u8], count: u64) -> anyhow::Result<i64> {
+    let mut sum: i64 = 0;
+    for _ in 0..count {
+        let format = ScanFormat::parse(alloc, Profile::One, text)?;
+        sum = sum
+            .wrapping_add(i64::from(format.destinations()))
+            .wrapping_add(i64::from(format.assigned()))
+            .wrapping_add(i64::from(format.converted()))
+            .wrapping_add(i64::from(format.reserve()))
+            .wrapping_add(i64::from(format.has_optional()))
+            .wrapping_add(i64::from(format.ends_unbounded()));
+    }
+    Ok(sum)
+}
+
 fn main(rt: HostRuntime) -> anyhow::Result<()> {
     let alloc = rt.alloc();
     let words: Vec<String> = env::args(&rt)?.skip(1).collect(alloc)?;
@@ -155,6 +171,9 @@ fn main(rt: HostRuntime) -> anyhow::Result<()> {
         }
         [name, text, count] if name.as_str() == "row" => {
             sum_text_rows(alloc, text.as_bytes(), &format, count.parse()?)?
+        }
+        [name, text, count] if name.as_str() == "parse" => {
+            sum_parses(alloc, text.as_bytes(), count.parse()?)?
         }
         [_, text, count] => sum_of_text(alloc, text.as_bytes(), &format, count.parse()?)?,
         [name] if name.as_str() == "records" => {

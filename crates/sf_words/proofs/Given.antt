@@ -23,7 +23,7 @@ use Rattle.sf_words.specs.Orders.{HasLines, HasTexts, HasTextsFor, IsRefusal, Is
 use Rattle.sf_words.specs.Orders.{form_faults, format_faults, has_line_option, is_full, is_request, is_set, is_true, line_faults, number_by}
 use Rattle.sf_words.specs.Orders.{number_in, own_faults, texts_by, values_at, verb_text}
 use Rattle.sf_words.specs.declared.misuse.Misuse.{Misuse}
-use Rattle.sf_words.specs.declared.misuse.Misuse.TheVariants.{Form, NoLines, Together, PlainNames, TagAlone, NoFormat}
+use Rattle.sf_words.specs.declared.misuse.Misuse.TheVariants.{Form, NoLines, Together, PlainNames, TagAlone, BlankName, NoFormat}
 use Rattle.sf_words.specs.declared.order.LineOptions.{LineOptions}
 use Rattle.sf_words.specs.declared.order.Verb.{Verb}
 use Rattle.sf_words.specs.declared.order.Verb.TheVariants.{Show, Scan, Print, Check, Copy}
@@ -31,13 +31,6 @@ use Rattle.sf_words.specs.declared.order.WordsFault.{WordsFault}
 use Rattle.sf_words.specs.declared.order.WordsFault.TheVariants.{Help, Usage, NoMemory}
 use Rattle.sf_words.proofs.Walking.{both_pass}
 use Rattle.sf_words.specs.Taken.{AllowsLines, HasWords, IsOneAtMost, IsTaken, IsWithin}
-
--- a text that was read, or another
-pub text_read : (o : Option (Bor Text)) (other text : Bor Text) (given : Option Text) → text ≡ unwrap_or o other
-    → option_map (λ s. s.now) o ≡ given
-    → text.now ≡ unwrap_or given other.now
-text_read None other text given is same = ap (λ s. s.now) is ∙ ap (λ g. unwrap_or g other.now) same
-text_read (Some s) other text given is same = ap (λ s. s.now) is ∙ ap (λ g. unwrap_or g other.now) same
 
 -- where the argument has no entry it was given nothing
 pub none_given : {X : Type 0} (g : X → List Text) (r : Option X) (f : Found) (id : Text)
@@ -229,6 +222,7 @@ no_request (NoLines option) = refl
 no_request (Together conflict) = refl
 no_request PlainNames = refl
 no_request TagAlone = refl
+no_request (BlankName names) = refl
 no_request NoFormat = refl
 
 -- a kind of the first faults is one of both

@@ -33,13 +33,14 @@ profile_rule = record (new_rule (codes "profile")) {
   parser = Some (Signed (pos 1) (pos 3));
 }
 
--- --output FORM, -o FORM (111): any text, and plain where it is not given
+-- --output FORM, -o FORM (111), as often as wanted: any text, and plain where it is not given
 abbrev pub output_rule : Rule
 output_rule = record (new_rule (codes "output")) {
   long = Some (codes "output");
   short = Some 111;
   value_names = 1;
   defaults = codes "plain" ∷ [];
+  action = Some Append;
 }
 
 -- --print PRINT, --names NAMES: any text

@@ -10,7 +10,7 @@ use Rattle.sf_words.specs.declared.options.CommandOption.{CommandOption}
 use Rattle.sf_words.specs.declared.options.OptionOf.{OptionOf}
 use Rattle.sf_words.specs.declared.options.OptionOf.TheVariants.{All, Records, Scan, Lines, ScanLines, Print, Check}
 use Rattle.sf_words.specs.declared.options.OptionValue.{OptionValue}
-use Rattle.sf_words.specs.declared.options.OptionValue.TheVariants.{Nothing, Number, Text as OneText, Texts}
+use Rattle.sf_words.specs.declared.options.OptionValue.TheVariants.{Nothing, Number, Text as OneText, LastText, Texts}
 use Rattle.sf_words.specs.declared.order.Verb.{Verb}
 use Rattle.sf_words.specs.declared.order.Verb.TheVariants as verb
 
@@ -24,8 +24,8 @@ value_rule (Number least most (Some text)) rule = record rule {
   defaults =
       text.now ∷ [];
 }
-value_rule (OneText name None) rule = record rule { value_names = 1 }
-value_rule (OneText name (Some text)) rule = record rule { value_names = 1; defaults = text.now ∷ [] }
+value_rule (OneText name) rule = record rule { value_names = 1 }
+value_rule (LastText name text) rule = record rule { value_names = 1; defaults = text.now ∷ []; action = Some Append }
 value_rule (Texts name) rule = record rule { value_names = 1; action = Some Append }
 
 abbrev pub short_rule : Option ℕ → Rule → Rule

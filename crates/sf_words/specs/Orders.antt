@@ -1,6 +1,6 @@
 -- What the words of a command ask for, as clap reads them.
 use Rattle.std.specs.Prelude.{◌≡◌, ◌≢◌, ◌≤◌, ◌&&◌, ◌||◌, ℕ, Bool, true, false, not, List, [], ◌∷◌, ◌++◌, Option, Some, None, if◌then◌else◌}
-use Rattle.std.specs.Prelude.{codes, find, map, option_and_then, option_map, string_bytes, unwrap_or}
+use Rattle.std.specs.Prelude.{◌==◌, codes, find, map, option_and_then, option_map, string_bytes, unwrap_or}
 use Rattle.std.specs.List.{list_any}
 use Rattle.std.specs.Option.{option_map_or}
 use Rattle.std.specs.Str.{bytes_eq}
@@ -100,9 +100,14 @@ output_text Tsv = codes "tsv"
 output_text Json = codes "json"
 output_text Csv = codes "csv"
 
--- the form's name that was given, or plain
+-- the last of some texts, or another
+abbrev pub last_text : Text → List Text → Text
+last_text other [] = other
+last_text other (text ∷ rest) = last_text text rest
+
+-- the form's name that was given last, or plain
 abbrev pub form_given : List Row → Text
-form_given rows = unwrap_or (first_of (codes "output") rows) (codes "plain")
+form_given rows = last_text (codes "plain") (values_at (codes "output") rows)
 
 -- when more is said: --explain and --no-explain say when, and else the error output does
 abbrev pub notes_by : List Row → Notes
@@ -228,12 +233,36 @@ has_conflict rows = list_any (are_given rows) conflicts
 abbrev pub conflict_faults : List Row → Kinds
 conflict_faults rows = if has_conflict rows then kind.ArgumentConflict ∷ [] else []
 
--- the plain form has no names, and the number of a format stands with -e alone
+-- a space (32) or a tab (9): the blanks of C11 7.4.1.3
+abbrev pub is_blank : ℕ → Bool
+is_blank b = (b == 32) || (b == 9)
+
+-- one of the two bytes is a comma (44), and the other a blank
+abbrev pub are_comma_and_blank : ℕ → ℕ → Bool
+are_comma_and_blank a b = ((a == 44) && is_blank b) || (is_blank a && (b == 44))
+
+-- two such bytes follow each other in the text, where this byte stands before it and a comma after it
+abbrev pub has_blank_after : ℕ → Text → Bool
+has_blank_after before [] = are_comma_and_blank before 44
+has_blank_after before (b ∷ rest) = if are_comma_and_blank before b then true else has_blank_after b rest
+
+-- a blank stands around a name: commas stand between names, and none before the first and after the last
+abbrev pub has_blank_name : Text → Bool
+has_blank_name text = has_blank_after 44 text
+
+-- such names are refused
+abbrev pub blank_faults : Option Text → Kinds
+blank_faults None = []
+blank_faults (Some names) = if has_blank_name names then kind.InvalidValue ∷ [] else []
+
+-- the plain form has no names, the number of a format stands with -e alone, and no blank stands around a name
 abbrev pub column_faults : List Row → Kinds
 column_faults rows =
     if is_given (codes "names") rows && bytes_eq (form_given rows) (codes "plain")
     then kind.ArgumentConflict ∷ []
-    else (if is_given (codes "tag") rows && not (has_texts (codes "formats") rows) then kind.MissingRequiredArgument ∷ [] else [])
+    else (if is_given (codes "tag") rows && not (has_texts (codes "formats") rows)
+    then kind.MissingRequiredArgument ∷ []
+    else blank_faults (first_of (codes "names") rows))
 
 -- a scan has formats after -e, or a word
 abbrev pub format_faults : List Row → Kinds

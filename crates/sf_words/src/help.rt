@@ -124,9 +124,9 @@ white space or none, %% a percent sign, and any other text itself.
   d           a number of base 10, with a sign or none     1
   u           the same, from 0; a minus negates, as in C   1
   i           a number of base 10; 0x: 16, 0: 8            1    0b: 2, from 2 on
-  o   x       a number of base 8, of base 16               1
+  o   x   X   a number of base 8, of base 16               1
   b           a number of base 2                           2
-  f e g a     a float: 1.5 -1e3 0x1p4 inf; all alike       3    %lf: a double
+  f e g a     a float: 1.5 -1e3 0x1p4 inf; E F G A alike   3    %lf: a double
   s           text, up to white space                      1
   [a-z_]      text of these bytes; [^,] of all others      1    ] stands first
   c           one byte, whatever it is; %5c takes five     1

@@ -1,11 +1,13 @@
 //! What the definitions of the command line leave to the command to refuse.
-ghost use Rattle.std.specs.Prelude.{◌≡◌, [], ◌∷◌, is_some};
-ghost use Rattle.clap.specs.Words.{found_of, rows_of};
+ghost use Rattle.std.specs.Prelude.{◌≡◌, [], ◌∷◌, codes, is_some, option_map};
+ghost use Rattle.clap.specs.Walk.{texts};
+ghost use Rattle.clap.specs.Words.{first_of, found_of, rows_of};
 ghost use Rattle.sf_words.specs.Misuses.{misuse_kind, misuse_kinds};
 ghost use Rattle.sf_words.specs.Options.{is_given_by};
 ghost use Rattle.sf_words.specs.Conflicts.{AreConflicts, are_both_given};
-ghost use Rattle.sf_words.specs.Orders.{IsRefusal, column_faults, form_given, format_faults, has_conflict};
-ghost use Rattle.sf_words.specs.Orders.{has_line_option, has_texts, is_form, is_given, is_set, own_faults, verb_text};
+ghost use Rattle.sf_words.specs.Orders.{IsRefusal, are_comma_and_blank, blank_faults, column_faults, form_given};
+ghost use Rattle.sf_words.specs.Orders.{format_faults, has_blank_name, has_conflict, has_line_option, has_texts};
+ghost use Rattle.sf_words.specs.Orders.{is_blank, is_form, is_given, is_set, last_text, own_faults, verb_text};
 
 use crate::help;
 use crate::options::{CommandOption, FORMS, OptionValue, all_options};
@@ -66,6 +68,8 @@ pub(crate) enum Misuse<'a> {
     PlainNames,
     /// `--tag` stands without `-e`.
     TagAlone,
+    /// A blank stands around one of these names.
+    BlankName(&'a str),
     /// There is no format.
     NoFormat,
 }
@@ -77,11 +81,27 @@ pub(crate) fn is_set(given: &ArgMatches<'_>, name: &str) -> bool
     given.get_one(name).unwrap_or(false)
 }
 
-/// The text of `--output`, as given or by default; that of a command without it.
+/// The last of some texts, or another.
+fn last_text<'a>(other: &'a str, given: &[&'a str]) -> &'a str
+    ensures { result.now ≡ last_text other.entry.now (texts given.now) }
+{
+    let mut last = other;
+    let mut rest = given;
+    while let [text, more @ ..] = rest {
+        last = *text;
+        rest = more;
+    }
+    last
+}
+
+/// The last text of `--output`, as given or by default; that of a command without it.
 pub(crate) fn form_given<'a>(given: &ArgMatches<'a>) -> &'a str
     ensures { result.now ≡ form_given (rows_of (found_of given.now)) }
 {
-    given.get_str("output").unwrap_or("plain")
+    match given.get_strs("output") {
+        Some(values) => last_text("plain", values),
+        None => "plain",
+    }
 }
 
 /// Whether a form has this name.
@@ -161,8 +181,55 @@ fn conflict_of(given: &ArgMatches<'_>) -> Option<&'static Conflict>
     None
 }
 
+/// Whether a byte is a blank.
+fn is_blank(b: u8) -> bool
+    ensures { result ≡ is_blank b }
+{
+    matches!(b, b' ' | b'\t')
+}
+
+/// Whether one of two bytes is a comma, and the other a blank.
+fn are_comma_and_blank(a: u8, b: u8) -> bool
+    ensures { result ≡ are_comma_and_blank a b }
+{
+    (a == b',' && is_blank(b)) || (is_blank(a) && b == b',')
+}
+
+/// Whether a blank stands around one of the names, between which there are commas.
+fn has_blank_name(names: &[u8]) -> bool
+    ensures { result ≡ has_blank_name names.now }
+{
+    let mut before = b',';
+    let mut rest = names;
+    while let [b, more @ ..] = rest {
+        if are_comma_and_blank(before, *b) {
+            return true;
+        }
+        before = *b;
+        rest = more;
+    }
+    are_comma_and_blank(before, b',')
+}
+
+/// What is at fault in these names.
+fn blank_misuse<'a>(names: Option<&'a str>) -> Option<Misuse<'a>>
+    ensures { misuse_kinds result ≡ blank_faults (option_map (λ text. text.now) names.entry) }
+{
+    match names {
+        Some(names) if has_blank_name(names.as_bytes()) => Some(Misuse::BlankName(names)),
+        _ => None,
+    }
+}
+
+/// What is at fault in the names that were given.
+fn name_misuse<'a>(given: &ArgMatches<'a>) -> Option<Misuse<'a>>
+    ensures { misuse_kinds result ≡ blank_faults (first_of (codes "names") (rows_of (found_of given.now))) }
+{
+    blank_misuse(given.get_str("names"))
+}
+
 /// What is at fault in the names and the number of a format.
-fn column_misuse<'a>(given: &ArgMatches<'_>) -> Option<Misuse<'a>>
+fn column_misuse<'a>(given: &ArgMatches<'a>) -> Option<Misuse<'a>>
     ensures { misuse_kinds result ≡ column_faults (rows_of (found_of given.now)) }
 {
     if is_given(given, "names") && form_given(given) == "plain" {
@@ -170,7 +237,7 @@ fn column_misuse<'a>(given: &ArgMatches<'_>) -> Option<Misuse<'a>>
     } else if is_given(given, "tag") && !has_texts(given, "formats") {
         Some(Misuse::TagAlone)
     } else {
-        None
+        name_misuse(given)
     }
 }
 
@@ -219,7 +286,9 @@ pub(crate) fn push_option(text: &mut String, option: &CommandOption) -> Result<(
     match option.value {
         OptionValue::Nothing => Ok(()),
         OptionValue::Number { .. } => text.push_str(" <N>"),
-        OptionValue::Text { name, .. } | OptionValue::Texts { name } => write!(text, " <{name}>"),
+        OptionValue::Text { name }
+        | OptionValue::LastText { name, .. }
+        | OptionValue::Texts { name } => write!(text, " <{name}>"),
     }
 }
 
@@ -270,6 +339,22 @@ fn push_plain_names(text: &mut String) -> Result<(), AllocError> {
     push_forms(text, &FORMS[1..])
 }
 
+/// Names with a blank around one of them, and how to write them.
+fn push_blank_name(text: &mut String, names: &str) -> Result<(), AllocError> {
+    write!(text, "invalid value '{names}' for '")?;
+    push_argument(text, "names")?;
+    text.push_str("': a blank stands around a name: write --names '")?;
+    let mut is_first = true;
+    for name in names.split(',') {
+        if !is_first {
+            text.push_str(",")?;
+        }
+        text.push_str(name.trim())?;
+        is_first = false;
+    }
+    text.push_str("'")
+}
+
 /// The text of a misuse, in the form of those that come of clap.
 fn text_of(alloc: Global, verb: Verb, misuse: Misuse<'_>) -> Result<String, AllocError> {
     let mut text = String::from_str(alloc, "sf: ")?;
@@ -284,6 +369,7 @@ fn text_of(alloc: Global, verb: Verb, misuse: Misuse<'_>) -> Result<String, Allo
         )?,
         Misuse::PlainNames => push_plain_names(&mut text)?,
         Misuse::TagAlone => push_refused(&mut text, "tag", "without", "formats")?,
+        Misuse::BlankName(names) => push_blank_name(&mut text, names)?,
         Misuse::NoFormat => text.push_str(
             "the following required arguments were not provided:\n  <FORMAT>",
         )?,

@@ -20,10 +20,14 @@ pub(crate) enum OptionValue {
         most: i64,
         default: Option<&'static str>,
     },
-    /// A text. Where none is given, it is the other, if there is one.
+    /// A text.
     Text {
         name: &'static str,
-        default: Option<&'static str>,
+    },
+    /// A text, as often as the option is given, of which the last counts. Where none is given, it is the other.
+    LastText {
+        name: &'static str,
+        default: &'static str,
     },
     /// A text, as often as the option is given.
     Texts {
@@ -144,21 +148,18 @@ static OPTIONS: [CommandOption; 19] = [
         name: "output",
         has_long: true,
         short: Some('o'),
-        value: OptionValue::Text {
+        value: OptionValue::LastText {
             name: "FORM",
-            default: Some("plain"),
+            default: "plain",
         },
         of: OptionOf::Scan,
-        help: "plain, tsv, json or csv",
+        help: "plain, tsv, json, csv; the last counts",
     },
     CommandOption {
         name: "names",
         has_long: true,
         short: None,
-        value: OptionValue::Text {
-            name: "NAMES",
-            default: None,
-        },
+        value: OptionValue::Text { name: "NAMES" },
         of: OptionOf::Scan,
         help: "Names a,b: keys of json, header of tsv and csv",
     },
@@ -166,10 +167,7 @@ static OPTIONS: [CommandOption; 19] = [
         name: "print",
         has_long: true,
         short: None,
-        value: OptionValue::Text {
-            name: "PRINT",
-            default: None,
-        },
+        value: OptionValue::Text { name: "PRINT" },
         of: OptionOf::Scan,
         help: "Write records by this print format, and no newline",
     },
@@ -302,14 +300,11 @@ fn with_value<'a>(arg: Arg<'a>, value: OptionValue) -> Arg<'a>
             .value_name("N")
             .value_parser(ValueParser::Signed(least, most))
             .default_value(text),
-        OptionValue::Text {
-            name,
-            default: None,
-        } => arg.value_name(name),
-        OptionValue::Text {
-            name,
-            default: Some(text),
-        } => arg.value_name(name).default_value(text),
+        OptionValue::Text { name } => arg.value_name(name),
+        OptionValue::LastText { name, default } => arg
+            .value_name(name)
+            .default_value(default)
+            .action(ArgAction::Append),
         OptionValue::Texts { name } => arg.value_name(name).action(ArgAction::Append),
     }
 }

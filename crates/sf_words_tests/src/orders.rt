@@ -4,7 +4,7 @@ use std::alloc::Global;
 use std::test::Fail;
 
 /// Words, between which bars stand, and the order that they make.
-static ORDERS: [(&str, &str); 106] = [
+static ORDERS: [(&str, &str); 109] = [
     ("show|%3d,%*s", "Show 1048576 |%3d,%*s"),
     ("scan|%d,%d", "Scan 1048576 |%d,%d"),
     ("scan|--limit|3|%s", "Scan 3 |%s"),
@@ -61,6 +61,12 @@ static ORDERS: [(&str, &str); 106] = [
     ),
     ("scan|--output|plain|%d", "Scan 1048576 |%d"),
     ("scan|--output|tsv|%d", "Scan 1048576 Tsv |%d"),
+    ("scan|-o|tsv|-o|json|%d", "Scan 1048576 Json |%d"),
+    ("scan|-ojson|%d|--output=plain", "Scan 1048576 |%d"),
+    (
+        "scan|--names|first name,b|-o|csv|%d",
+        "Scan 1048576 Csv |%d names=first name,b",
+    ),
     ("scan|%d|--output=json", "Scan 1048576 Json |%d"),
     (
         "scan|--output|json|--limit|8|--line-buffered|%d",

@@ -1,5 +1,5 @@
 -- A line, and then what is said behind it.
-use Rattle.std.proofs.Common.{◌≡◌, ◌∙◌, ◌++◌, ◌∷◌, ℕ, Bool, true, false, List, Option, Result, Ok, Err, IfOk, IfErr, is_err, inl, inr, ap}
+use Rattle.std.proofs.Common.{◌≡◌, ◌∙◌, ◌++◌, ◌∷◌, ℕ, Bool, false, List, Option, Result, Ok, Err, IfOk, IfErr, is_err, inl, inr, ap}
 use Rattle.std.proofs.Common.{refl, sym, true≢false}
 use Rattle.std.specs.Prelude.{if◌then◌else◌}
 use Rattle.std.specs.Io.KnownBytes.{Appends}

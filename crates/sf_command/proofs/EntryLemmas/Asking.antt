@@ -1,5 +1,5 @@
 -- The words that were read.
-use Rattle.std.proofs.Common.{◌≡◌, ◌∙◌, ℕ, List, [], ◌∷◌, Result, Ok, Err, length, map, get_or, ap, sym, arith}
+use Rattle.std.proofs.Common.{◌≡◌, ℕ, List, [], Result, Ok, Err}
 use Rattle.std.specs.Prelude.{IfErr, IfOk}
 use Rattle.sf_words.specs.declared.order.Order.{Order}
 use Rattle.sf_words.specs.declared.order.WordsFault.{WordsFault}

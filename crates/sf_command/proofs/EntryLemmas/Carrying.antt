@@ -1,6 +1,6 @@
 -- What is done on a source that stands for another, as told of that other.
 use Rattle.std.proofs.Common.{◌≡◌, ◌∙◌, ℕ, false, inl, inr, ap, List, [], ◌∷◌, map, option_map, string_bytes, Bool, Option, None, Some}
-use Rattle.std.proofs.Common.{Result, Ok, Err}
+use Rattle.std.proofs.Common.{Ok, Err}
 use Rattle.std.specs.Prelude.{IfErr}
 use Rattle.std.specs.declared.io.Error.{Error}
 use Rattle.sf_format.specs.declared.directive.Directive.{Directive}

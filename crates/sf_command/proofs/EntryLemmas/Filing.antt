@@ -1,5 +1,5 @@
 -- One file of several, and then those that are left.
-use Rattle.std.proofs.Common.{◌≡◌, ◌+◌, ◌<◌, ℕ, suc, max, Bool, true, false, not, List, [], length, map, string_bytes, Option, Some, refl}
+use Rattle.std.proofs.Common.{◌≡◌, ◌+◌, ◌<◌, ℕ, suc, max, Bool, true, false, not, List, [], length, map, Option, Some, refl}
 use Rattle.std.proofs.Common.{sym, ap, subst, arith, true≢false}
 use Rattle.std.specs.List.{slice_get}
 use Rattle.std.specs.Prelude.{get_or}

@@ -4,7 +4,6 @@ use Rattle.std.proofs.lemmas.List.{append_cancel_right}
 use Rattle.sf_format.specs.declared.directive.Directive.{Directive}
 use Rattle.sf_format.specs.declared.directive.Profile.{Profile}
 use Rattle.sf_format.specs.declared.fault.FormatFault.{FormatFault}
-use Rattle.sf_format.specs.declared.fault.FormatWhy.{FormatWhy}
 use Rattle.sf_format.specs.declared.fault.FormatWhy.TheVariants.{NoMemory}
 use Rattle.sf_format.specs.Faults.{IsRefused}
 use Rattle.sf_format.specs.Grammar.{Spells}

@@ -1,7 +1,6 @@
 -- The formats of lines, read from their words in turn.
 use Rattle.std.proofs.Common.{◌≡◌, ◌∙◌, ℕ, suc, ◌+◌, ◌<◌, ◌≤◌, zero, List, [], ◌∷◌, ◌++◌, length, map, drop, get_or, inl, inr, refl, sym}
 use Rattle.std.proofs.Common.{ap, subst, append_assoc, append-nil, arith}
-use Rattle.std.specs.Prelude.{◌-◌}
 use Rattle.std.proofs.Math.Seq.{drop-cons}
 use Rattle.sf_format.specs.declared.directive.Directive.{Directive}
 use Rattle.sf_format.specs.declared.directive.Profile.{Profile}

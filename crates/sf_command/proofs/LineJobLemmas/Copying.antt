@@ -1,6 +1,6 @@
 -- The lines of a copy: its formats, and what is said of it.
-use Rattle.std.proofs.Common.{◌≡◌, ◌∙◌, ◌++◌, ◌<◌, ◌≤◌, ◌∷◌, ℕ, Bool, true, false, List, [], Option, Some, None, Ok, Err, ap, ap₂, arith}
-use Rattle.std.proofs.Common.{get_or, inl, inr, length, map, option_map, refl, string_bytes, subst, sym}
+use Rattle.std.proofs.Common.{◌≡◌, ◌∷◌, ℕ, Bool, true, false, List, [], Option, Some, None, Err}
+use Rattle.std.proofs.Common.{inl, inr, map, option_map, refl, string_bytes, subst, sym}
 use Rattle.std.specs.Prelude.{IfErr, unwrap_or}
 use Rattle.sf_format.specs.declared.directive.Directive.{Directive}
 use Rattle.sf_format.specs.declared.directive.Profile.{Profile}

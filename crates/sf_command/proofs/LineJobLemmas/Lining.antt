@@ -1,5 +1,5 @@
 -- What is said and answered of the lines.
-use Rattle.std.proofs.Common.{◌≡◌, ◌∙◌, if◌then◌else◌, ℕ, suc, ◌+◌, ◌<◌, true, false, Bool, List, [], ◌∷◌, ◌++◌, length, Option, Some, None}
+use Rattle.std.proofs.Common.{◌≡◌, ◌∙◌, if◌then◌else◌, ℕ, suc, ◌<◌, true, false, Bool, List, [], ◌∷◌, ◌++◌, length, Option, Some, None}
 use Rattle.std.proofs.Common.{Err, inl, inr, refl, sym, ap, subst, arith, Bor}
 use Rattle.std.specs.Prelude.{slice_get, ◌-◌}
 use Rattle.std.specs.Option.{ForSome, option_copied}
@@ -219,6 +219,16 @@ module _ (profile : Profile) (form : OutputForm) (print : Option (List ℕ)) (pa
       → SaysOfLines profile print (passed ++ words) (Err (PrintFormat fault)) notes
   says_of_print_format fault refused notes h said = says_print_format print fault refused notes h said
 
+  -- names are judged after the words
+  no_count : (print : Option (List ℕ)) (expected got : ℕ) (refused : List ℕ)
+      → IsRefused profile form print passed words refused (NameCount expected got) → ⊥
+  no_count None expected got refused (inl h) = h
+  no_count (Some word) expected got refused (inl (is, bad)) = bad
+  no_count print expected got refused (inr (writing, is, inl first)) =
+      is_refused profile (NameCount expected got) (passed ++ words) refused first
+  no_count print expected got refused (inr (writing, is, inr (formats, are, unsuited))) =
+      let none = is_unprintable profile (NameCount expected got) writing formats unsuited in absurd (let e = none.1 in cc)
+
   refused_says : (fault : CommandFault) (refused notes : List ℕ) → IsRefused profile form print passed words refused fault
       → SaysRefused refused fault notes → SaysOfLines profile print (passed ++ words) (Err fault) notes
   refused_says (BadEscape name at) refused notes is said =
@@ -232,7 +242,7 @@ module _ (profile : Profile) (form : OutputForm) (print : Option (List ℕ)) (pa
   refused_says Memory refused notes is said = said
   refused_says (Pair fault) refused notes is said = said
   refused_says (Unprintable why) refused notes is said = said
-  refused_says (NameCount expected got) refused notes is said = said
+  refused_says (NameCount expected got) refused notes is said = absurd (no_count print expected got refused is)
   refused_says (NameEmpty number) refused notes is said = said
   refused_says (NameTwice number) refused notes is said = said
 

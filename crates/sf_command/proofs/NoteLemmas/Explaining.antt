@@ -1,5 +1,5 @@
 -- What is said of a job that has ended, and of a word that is refused.
-use Rattle.std.proofs.Common.{◌≡◌, ◌∙◌, ℕ, Bool, true, false, List, [], ◌∷◌, Option, None, Some, Result, Ok, Err, ap, inl, inr, refl, sym}
+use Rattle.std.proofs.Common.{◌≡◌, ◌∙◌, ℕ, Bool, true, false, List, [], ◌∷◌, Option, None, Some, Err, ap, inl, inr, refl, sym}
 use Rattle.std.proofs.Common.{subst, map, option_map, string_bytes}
 use Rattle.std.proofs.lemmas.Option.{same_Some}
 use Rattle.sf_format.specs.declared.directive.Profile.{Profile}
@@ -19,19 +19,18 @@ use Rattle.sf_run.specs.outcome.Outcome.{Outcome}
 use Rattle.sf_words.specs.declared.order.Order.{Order}
 use Rattle.sf_words.specs.declared.order.Verb.{Verb}
 use Rattle.sf_words.specs.declared.order.Verb.TheVariants as verb
-use Rattle.sf_command.specs.jobs.Answers.{Answer}
 use Rattle.sf_command.specs.jobs.Checks.{IsNoPrintWord, IsNoScanWord, IsPrintWord, IsVerdict}
 use Rattle.sf_command.specs.jobs.Commands.{grammar_of}
 use Rattle.sf_command.specs.jobs.CopyFormats.{AreCopies}
 use Rattle.sf_command.specs.declared.jobs.copy_formats.CopyFormats.{CopyFormats}
-use Rattle.sf_command.specs.jobs.Jobs.{AreNoTwo, IsJobBy, IsNoJob, IsNoJobBy, IsOwnFault, IsScan, scan_of}
+use Rattle.sf_command.specs.jobs.Jobs.{AreNoTwo, IsJobBy, IsNoJob, IsNoJobBy, IsScan, scan_of}
 use Rattle.sf_command.specs.declared.jobs.formats.ScanText.{ScanText}
 use Rattle.sf_command.specs.declared.jobs.job.Job.{Job}
 use Rattle.sf_command.specs.declared.jobs.job.Job.TheVariants as job
 use Rattle.sf_command.proofs.JobLemmas.Working.{no_print, no_scan}
-use Rattle.sf_command.specs.notes.Explains.{Explains, MaySay, OfBoth, OfWord, SaysClean, SaysFailed, SaysFormat, SaysMore}
+use Rattle.sf_command.specs.notes.Explains.{Explains, OfBoth, OfWord, SaysClean, SaysFailed, SaysFormat, SaysMore}
 use Rattle.sf_command.specs.notes.Explains.{SaysMoreOfRefused}
-use Rattle.sf_command.specs.notes.Explains.{SaysPair, SaysRefused, told_at, verdict_notes, word_by}
+use Rattle.sf_command.specs.notes.Explains.{SaysAlone, SaysPair, SaysRefused, told_at, verdict_notes, word_by}
 
 module _ (profile : Profile) where
   -- ---- records that are no match
@@ -129,18 +128,18 @@ module _ (profile : Profile) where
   copies_say (print ∷ scan ∷ next ∷ more) formats fault are own notes says = absurd are
 
   module _ (form : OutputForm) (print : Option (List ℕ)) (units : List PrintUnit) (scan : ScanText) (notes : List ℕ) where
-    pub check_says : (verdict : Option PairFault) (of : Verb) (texts : List (List ℕ))
+    pub check_says : (width : Option ℕ) (verdict : Option PairFault) (of : Verb) (texts : List (List ℕ))
         → IsJobBy profile form print (job.Check units scan verdict) of texts
-        → ByParts scan (λ pieces. verdict_notes units pieces scan.format verdict) notes → SaysClean profile of texts notes
-    check_says verdict verb.Check [] is says = absurd is
-    check_says verdict verb.Check (one ∷ []) is says = absurd is
-    check_says verdict verb.Check (one ∷ other ∷ []) (prints, scans, judged) says =
+        → ByParts scan (λ pieces. verdict_notes units pieces scan.format verdict) notes → SaysClean profile width of texts notes
+    check_says width verdict verb.Check [] is says = absurd is
+    check_says width verdict verb.Check (one ∷ []) is says = absurd is
+    check_says width verdict verb.Check (one ∷ other ∷ []) (prints, scans, judged) says =
         pair_says one other units scan verdict prints scans judged notes says
-    check_says verdict verb.Check (one ∷ other ∷ next ∷ more) is says = absurd is
-    check_says verdict verb.Show texts is says = absurd is
-    check_says verdict verb.Scan texts is says = absurd is
-    check_says verdict verb.Print texts is says = absurd is
-    check_says verdict verb.Copy texts is says = absurd is
+    check_says width verdict verb.Check (one ∷ other ∷ next ∷ more) is says = absurd is
+    check_says width verdict verb.Show texts is says = absurd is
+    check_says width verdict verb.Scan texts is says = absurd is
+    check_says width verdict verb.Print texts is says = absurd is
+    check_says width verdict verb.Copy texts is says = absurd is
 
     pub copy_says : (fault : PairFault) (of : Verb) (texts : List (List ℕ)) → IsJobBy profile form print (job.Copy units scan) of texts
         → IsVerdict units scan.format (Some fault) → ByParts scan (λ pieces. verdict_notes units pieces scan.format (Some fault)) notes
@@ -154,6 +153,18 @@ module _ (profile : Profile) where
     copy_says fault verb.Scan texts is own says = absurd is
     copy_says fault verb.Print texts is own says = absurd is
     copy_says fault verb.Check texts is own says = absurd is
+
+  -- what is said of a print format that stands alone, however it is said
+  pub answer_says : (form : OutputForm) (print : Option (List ℕ)) (units : List PrintUnit) (width : Option ℕ)
+      (P : (List ℕ → Type 0) → Type 0) (of : Verb) (texts : List (List ℕ)) → IsJobBy profile form print (job.Answer units) of texts
+      → ((word : List ℕ) → IsPrintWord profile word units → P (SaysAlone profile width word)) → P (SaysClean profile width of texts)
+  answer_says form print units width P verb.Check [] is says = absurd is
+  answer_says form print units width P verb.Check (word ∷ []) is says = says word is
+  answer_says form print units width P verb.Check (one ∷ other ∷ more) is says = absurd is
+  answer_says form print units width P verb.Show texts is says = absurd is
+  answer_says form print units width P verb.Scan texts is says = absurd is
+  answer_says form print units width P verb.Print texts is says = absurd is
+  answer_says form print units width P verb.Copy texts is says = absurd is
 
   -- ---- words that are refused
 

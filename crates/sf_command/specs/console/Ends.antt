@@ -8,7 +8,7 @@ use Rattle.sf_forms.specs.Columns.{name_at}
 use Rattle.sf_command.specs.jobs.Answers.{Answer}
 use Rattle.sf_command.specs.jobs.Heads.{names_text, split}
 use Rattle.sf_command.specs.console.Fronts.{file_name, in_front}
-use Rattle.sf_command.specs.reasons.Faults.{IsWithReason, file_of, is_unheard, reason_of}
+use Rattle.sf_command.specs.reasons.Faults.{IsWithReason, file_of, is_unsaid, reason_of}
 use Rattle.sf_command.specs.console.Saying.{Says}
 use Rattle.sf_messages.specs.Texts.{error_line, name_twice_line, status_of}
 
@@ -53,12 +53,13 @@ EndsOrder hands said unsaid order notes (Err fault) out out' err err' ended =
     SaysFault hands said unsaid (names_text order) (file_name order) notes fault out out' err err' × (ended ≡ Err fault)
 
 -- the end of an order with a fault, by why its input and why its output failed last: why it came is said after the notes, where more
--- is said than the line; nothing is said on a terminal where nobody reads the output any more
+-- is said than the line; nothing is said on a terminal where nobody reads the output any more, nor of a record that took nothing of an
+-- input that can't be opened
 abbrev pub EndsFailed : {K E : Type 0} → (K → K → Type 0) → (E → Option (List ℕ)) → (E → ℕ) → Bool → Bool → Option Error → Option Error
     → Order → List ℕ → CommandFault → K → K → E → E → Answer → Type 0
 EndsFailed hands said unsaid watched explain unread unwritten order notes fault out out' err err' ended =
-    (is_unheard watched unwritten fault ≡ true) × (out' ≡ out) × (err' ≡ err) × (ended ≡ Err fault)
-    ⊎ (is_unheard watched unwritten fault ≡ false) × ((all : List ℕ)
+    (is_unsaid watched unread unwritten fault ≡ true) × (out' ≡ out) × (err' ≡ err) × (ended ≡ Err fault)
+    ⊎ (is_unsaid watched unread unwritten fault ≡ false) × ((all : List ℕ)
     × IsWithReason explain (reason_of unread unwritten fault) notes all
     × EndsOrder hands said unsaid order all (Err fault) out out' err err' ended)
 

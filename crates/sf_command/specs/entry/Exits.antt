@@ -1,5 +1,5 @@
 -- What one run of the command writes, says and answers.
-use Rattle.std.specs.Prelude.{◌≡◌, ◌≤◌, ◌++◌, ℕ, Bool, List, [], true, false, Option, Some, None, Result, Ok, Err, IfErr, IfOk, IfSome}
+use Rattle.std.specs.Prelude.{◌≡◌, ◌⊎◌, ◌≤◌, ◌++◌, ℕ, Bool, List, [], true, false, Option, Some, None, Result, Ok, Err, IfErr, IfOk, IfSome}
 use Rattle.std.specs.Prelude.{length, map, option_map, string_bytes}
 use Rattle.std.specs.Io.KnownBytes.{Appends}
 use Rattle.std.specs.declared.io.Error.{Error}
@@ -27,6 +27,7 @@ use Rattle.sf_command.specs.console.Fronts.{file_name}
 use Rattle.sf_command.specs.line_jobs.Lines.{SaysMoreOfLines, ScansLines}
 use Rattle.sf_command.specs.console.Saying.{Says}
 use Rattle.sf_command.specs.console.Ends.{Ends, EndsFailed, EndsKnown, exit_of}
+use Rattle.sf_command.specs.entry.Hints.{passed_hint}
 
 -- the same of an order of which a word is refused; the notes on that word come after the line, where more is said than the line
 abbrev pub EndsRefused : {K E : Type 0} → (K → K → Type 0) → (E → Option (List ℕ)) → (E → ℕ) → Bool → Bool → Option Error → Option Error
@@ -84,7 +85,8 @@ module _ {K E : Type 0} (contents : K → Option (List ℕ)) (write_faults : K �
   module _ {S : Type 0} (to_come : S → Option (List ℕ)) (read_faults : S → ℕ) (why_unread : S → Option Error)
       (why_unwritten : K → Option Error) where
     -- what an order to scan lines does: what is said of them comes before the line of the fault, and notes after that where a word is
-    -- refused
+    -- refused, or the names; and what helps where a format of lines that are passed over seems to stand for something else, unless memory
+    -- for it was refused
     abbrev pub EndsScans : Bool → Bool → LineOptions → Order → Ahead S → Ahead S → K → K → E → E → Answer → Type 0
     EndsScans watched explain options order from from' out out' err err' ended =
         (answer : Answer) × ((mid : K) × ((between : E)
@@ -95,8 +97,9 @@ module _ {K E : Type 0} (contents : K → Option (List ℕ)) (write_faults : K �
         × ((notes : List ℕ)
         × SaysMoreOfLines explain (grammar_of order.profile) (option_map string_bytes order.print)
         (map string_bytes order.ignored.items ++ map string_bytes order.texts.items) answer notes
-        × EndsKnown hands said unsaid watched explain (why_unread from'.source) (why_unwritten mid) order notes answer mid out' between err'
-        ended)))
+        × ((all : List ℕ) × ((all ≡ notes ++ passed_hint explain order answer) ⊎ (all ≡ notes))
+        × EndsKnown hands said unsaid watched explain (why_unread from'.source) (why_unwritten mid) order all answer mid out' between err'
+        ended))))
 
     -- what an order to copy lines does: the same, with the notes of a copy of records
     abbrev pub EndsCopies : Bool → Bool → LineOptions → Order → Ahead S → Ahead S → K → K → E → E → Answer → Type 0

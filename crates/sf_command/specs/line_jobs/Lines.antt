@@ -14,10 +14,10 @@ use Rattle.sf_records.specs.declared.by_lines.options.LinesOptions.{LinesOptions
 use Rattle.sf_records.specs.by_lines.Loops.{TellsLines, status_by}
 use Rattle.sf_records.specs.by_lines.Telling.{faults_by}
 use Rattle.sf_records.specs.by_lines.Turns.{LineWork, work_of}
-use Rattle.sf_messages.specs.declared.fault.CommandFault.TheVariants.{BadEscape, Format, Lines, PrintFormat, Unprintable}
+use Rattle.sf_messages.specs.declared.fault.CommandFault.TheVariants.{BadEscape, Format, Lines, NameCount, PrintFormat, Unprintable}
 use Rattle.sf_messages.specs.declared.fault.FormatName.TheVariants as name
 use Rattle.sf_messages.specs.LineTexts.{line_fault_text}
-use Rattle.sf_messages.specs.Notes.{escape_notes, mismatch_notes}
+use Rattle.sf_messages.specs.Notes.{escape_notes, mismatch_notes, name_count_notes}
 use Rattle.sf_read.specs.source.Ahead.{Ahead, input_of}
 use Rattle.sf_forms.specs.makers.Forms.{Heading, writing_under}
 use Rattle.sf_forms.specs.makers.Names.{AreNames}
@@ -50,6 +50,7 @@ SaysOfLines profile print words (Err (Format fault)) notes = (word : List ℕ) �
     × SaysFormat fault word notes
 SaysOfLines profile print words (Err (PrintFormat fault)) notes = OfWord (SaysFormat fault) print notes
 SaysOfLines profile print words (Err (Unprintable mismatch)) notes = notes ≡ mismatch_notes mismatch
+SaysOfLines profile print words (Err (NameCount expected got)) notes = notes ≡ name_count_notes expected got
 SaysOfLines profile print words _ notes = notes ≡ []
 
 -- nothing is said where the words don't ask for it, or where memory for it was refused

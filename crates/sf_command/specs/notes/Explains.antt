@@ -17,10 +17,11 @@ use Rattle.sf_records.specs.declared.by_lines.end.LineFault.{LineFault}
 use Rattle.sf_records.specs.declared.by_lines.end.LineFault.TheVariants as line
 use Rattle.sf_messages.specs.declared.fault.CommandFault.{CommandFault}
 use Rattle.sf_messages.specs.declared.fault.CommandFault.TheVariants.{BadEscape, Format, PrintFormat, Values, Record, Pair, Unprintable}
+use Rattle.sf_messages.specs.declared.fault.CommandFault.TheVariants.{NameCount}
 use Rattle.sf_messages.specs.declared.fault.FormatName.{FormatName}
 use Rattle.sf_messages.specs.declared.fault.FormatName.TheVariants as name
-use Rattle.sf_messages.specs.Notes.{escape_notes, failed_notes, format_notes, input_notes, line_notes}
-use Rattle.sf_messages.specs.Notes.{mismatch_notes, pair_notes, value_notes}
+use Rattle.sf_messages.specs.Notes.{alone_notes, escape_notes, failed_notes, format_notes, input_notes, line_notes}
+use Rattle.sf_messages.specs.Notes.{mismatch_notes, name_count_notes, pair_notes, stalled_notes, value_notes}
 use Rattle.sf_pair.specs.declared.fault.PairFault.{PairFault}
 use Rattle.sf_messages.specs.declared.places.place.Place.{Place}
 use Rattle.sf_records.specs.declared.end.ToolFault.TheVariants.{Failed, Stalled, Unfit, Read}
@@ -35,6 +36,7 @@ use Rattle.sf_command.specs.jobs.Commands.{grammar_of}
 use Rattle.sf_arguments.specs.declared.argument_fault.ArgumentFault.{ArgumentFault}
 use Rattle.sf_arguments.specs.declared.argument_fault.ArgumentFault.TheVariants as argument
 use Rattle.sf_arguments.specs.Escapes.{IsBadEscape, Unescapes}
+use Rattle.sf_arguments.specs.answer.Answers.{IsUnpaired}
 use Rattle.sf_messages.specs.shown.Shown.{directive_text}
 
 -- ---- the words of formats
@@ -162,6 +164,14 @@ pub record SaysPair (profile : Profile) (print scan notes : List ℕ) : Type 0 w
   pub mean : MeanAll (Means profile) 1 pieces ds
   pub says : SaysVerdict us pieces ds notes
 
+-- why no scan format reads back what a word's print format prints; width: that of texts
+pub record SaysAlone (profile : Profile) (width : Option ℕ) (print notes : List ℕ) : Type 0 where
+  pub us : List PrintUnit
+  pub prints : IsPrintWord profile print us
+  pub fault : PairFault
+  pub unpaired : IsUnpaired profile width us fault
+  pub notes_are : notes ≡ alone_notes us fault
+
 -- what is said of two words, if there are two
 abbrev pub OfBoth : (List ℕ → List ℕ → List ℕ → Type 0) → List (List ℕ) → List ℕ → Type 0
 OfBoth says (print ∷ scan ∷ []) notes = says print scan notes
@@ -177,27 +187,29 @@ Explains profile print verb texts place rest (PrintFormat fault) notes =
     OfWord (SaysFormat fault) (word_by print verb texts name.Print) notes
 Explains profile print verb texts place rest (Record (Failed number outcome)) notes =
     OfWord (SaysFailed profile number outcome place rest) (word_by print verb texts name.Scan) notes
-Explains profile print verb texts place rest (Record (Stalled number)) notes = notes ≡ input_notes place
+Explains profile print verb texts place rest (Record (Stalled number)) notes = notes ≡ stalled_notes place
 Explains profile print verb texts place rest (Record (Unfit number)) notes = notes ≡ input_notes place
 Explains profile print verb texts place rest (Record (Read number)) notes = notes ≡ input_notes place
 Explains profile print verb texts place rest (Values fault) notes =
     OfWord (λ word said. said ≡ value_notes word fault) (value_word texts fault) notes
 Explains profile print verb texts place rest (Pair fault) notes = OfBoth (SaysPair profile) texts notes
 Explains profile print verb texts place rest (Unprintable mismatch) notes = notes ≡ mismatch_notes mismatch
+Explains profile print verb texts place rest (NameCount expected got) notes = notes ≡ name_count_notes expected got
 Explains profile print verb texts place rest _ notes = notes ≡ []
 
--- where there is an exit status: of a check, why the formats are no pair
-abbrev pub SaysClean : Profile → Verb → List (List ℕ) → List ℕ → Type 0
-SaysClean profile verb.Check texts notes = OfBoth (SaysPair profile) texts notes
-SaysClean profile _ texts notes = notes ≡ []
+-- where there is an exit status: of a check of two formats why they are no pair, and of one why none reads it back
+abbrev pub SaysClean : Profile → Option ℕ → Verb → List (List ℕ) → List ℕ → Type 0
+SaysClean profile width verb.Check (print ∷ []) notes = SaysAlone profile width print notes
+SaysClean profile width verb.Check texts notes = OfBoth (SaysPair profile) texts notes
+SaysClean profile width _ texts notes = notes ≡ []
 
-abbrev pub SaysOf : Profile → Option (List ℕ) → Verb → List (List ℕ) → Option Place → List ℕ → Answer → List ℕ → Type 0
-SaysOf profile print verb texts place rest (Ok status) notes = SaysClean profile verb texts notes
-SaysOf profile print verb texts place rest (Err fault) notes = Explains profile print verb texts place rest fault notes
+abbrev pub SaysOf : Profile → Option ℕ → Option (List ℕ) → Verb → List (List ℕ) → Option Place → List ℕ → Answer → List ℕ → Type 0
+SaysOf profile width print verb texts place rest (Ok status) notes = SaysClean profile width verb texts notes
+SaysOf profile width print verb texts place rest (Err fault) notes = Explains profile print verb texts place rest fault notes
 
 -- nothing more is said where the words don't ask for it, or where memory for it was refused
 abbrev pub SaysMore : Bool → Order → Option Place → List ℕ → Answer → List ℕ → Type 0
 SaysMore true order place rest answer notes =
-    SaysOf (grammar_of order.profile) (option_map string_bytes order.print) order.verb (map string_bytes order.texts.items) place rest
-    answer notes ⊎ (notes ≡ [])
+    SaysOf (grammar_of order.profile) order.width (option_map string_bytes order.print) order.verb (map string_bytes order.texts.items)
+    place rest answer notes ⊎ (notes ≡ [])
 SaysMore false order place rest answer notes = notes ≡ []

@@ -1,5 +1,5 @@
 -- Why a fault of a command came, and what is said of that.
-use Rattle.std.specs.Prelude.{◌≡◌, ◌⊎◌, ◌++◌, ◌&&◌, if◌then◌else◌, ℕ, Bool, true, false, List, Option, Some, None}
+use Rattle.std.specs.Prelude.{◌≡◌, ◌⊎◌, ◌++◌, ◌&&◌, ◌||◌, if◌then◌else◌, ℕ, Bool, true, false, List, Option, Some, None, is_some}
 use Rattle.std.specs.IoError.{error_kind}
 use Rattle.std.specs.declared.io.Error.{Error}
 use Rattle.std.specs.declared.io.ErrorKind.{ErrorKind}
@@ -56,6 +56,15 @@ is_broken_pipe None = false
 -- nothing is said of that on a terminal
 abbrev pub is_unheard : Bool → Option Error → CommandFault → Bool
 is_unheard watched unwritten fault = watched && (is_write_fault fault && is_broken_pipe unwritten)
+
+-- a record took nothing
+abbrev pub is_stalled : CommandFault → Bool
+is_stalled (Record (records.Stalled number)) = true
+is_stalled _ = false
+
+-- nor of a record that took nothing where the input is none, since it could not be opened: that is said by itself
+abbrev pub is_unsaid : Bool → Option Error → Option Error → CommandFault → Bool
+is_unsaid watched unread unwritten fault = is_unheard watched unwritten fault || (is_stalled fault && is_some unread)
 
 -- the text, and after it why something failed, where more is said than a line, that is known, and memory for it is there
 abbrev pub IsWithReason : Bool → Option Error → List ℕ → List ℕ → Type 0

@@ -5,7 +5,7 @@ ghost use Rattle.sf_command.specs.console.Ends.{EndsFailed, EndsKnown};
 
 use crate::console::console::{Apart, Console, InOrder};
 use crate::console::ends::end_order;
-use crate::reasons::{LastError, is_unheard, reason_of, with_reason};
+use crate::reasons::{LastError, is_unsaid, reason_of, with_reason};
 use sf_messages::CommandFault;
 use sf_print::Sink;
 use sf_read::Source;
@@ -53,7 +53,7 @@ impl<S: LastError> Reasons<S> for InOrder {
 }
 
 /// Ends an order with a fault, as `end_order` does; why it came is said after the notes. On a terminal nothing is said
-/// where nobody reads the output any more.
+/// where nobody reads the output any more, nor of a record that took nothing of an input that can't be opened.
 fn end_failed<K: Sink, E, C: Console<K, E>>(
     alloc: Global,
     watched: bool,
@@ -69,7 +69,7 @@ fn end_failed<K: Sink, E, C: Console<K, E>>(
         out.old out.new err.old err.new result }
 {
     let unwritten = C::why(out);
-    if is_unheard(watched, unwritten, fault) {
+    if is_unsaid(watched, unread, unwritten, fault) {
         return Err(fault);
     }
     let why = reason_of(unread, unwritten, fault);

@@ -9,9 +9,10 @@ ghost use Rattle.sf_command.specs.entry.Exits.{Exits, ExitsOn, ExitsSomewhere, H
 ghost use Rattle.sf_command.specs.entry.Rooms.{TakesAWord};
 
 use crate::console::{Apart, Console, Lent, Reasons, end, end_known, exit_of, say};
+use crate::entry::hints::with_passed_hint;
 use crate::entry::loans::{ByNamed, Name, Named, Tied};
 use crate::jobs::{RefusedWord, form_of, grammar_of, lines_job, prepare, prepare_copies, run};
-use crate::line_jobs::{copy_by_formats, scan_lines};
+use crate::line_jobs::{copy_by_formats, notes_of_lines, scan_lines};
 use crate::notes::{Left, notes_of_copies, notes_of_job, notes_of_refused};
 use sf_messages::{BLOCK_BYTES, CommandFault, Input, Placed};
 use sf_print::Sink;
@@ -139,17 +140,11 @@ fn end_scans<S: Source, K: Sink, E, C: Console<K, E>, R: Reasons<S>, const N: us
             let answer = scan_lines::<S, K, E, C, N>(
                 alloc, explain, &job, order, options, from, out, err,
             );
+            let notes = notes_of_lines(alloc, explain, answer);
+            let all = with_passed_hint(explain, order, answer, notes);
             let source = from.source();
             end_known::<S, K, E, C, R>(
-                alloc,
-                watched,
-                explain,
-                order,
-                source,
-                out,
-                err,
-                answer,
-                &[],
+                alloc, watched, explain, order, source, out, err, answer, &all,
             )
         }
         Err(refused) => end_refused::<S, K, E, C, R>(

@@ -1,8 +1,9 @@
 //! The lines of an input, each scanned by the formats of an order.
 ghost use Rattle.std.specs.Borrow.{GName};
 ghost use Rattle.std.specs.Prelude.{◌≡◌, ◌≤◌, ◌<◌, ◌-◌, ◌++◌, ℕ, List, Some, true, false, IfOk, IfErr, length, map};
-ghost use Rattle.std.specs.Prelude.{option_map, refl, slice_get, string_bytes};
+ghost use Rattle.std.specs.Prelude.{Option, option_map, refl, slice_get, string_bytes};
 ghost use Rattle.sf_format.specs.declared.directive.Directive.{Directive};
+ghost use Rattle.sf_format.specs.declared.directive.Profile.{Profile};
 ghost use Rattle.sf_records.specs.declared.by_lines.end.LineFault.{LineFault};
 ghost use Rattle.sf_command.specs.jobs.Commands.{form_of, grammar_of};
 ghost use Rattle.sf_command.specs.jobs.Heads.{is_headed, names_text};
@@ -12,7 +13,7 @@ ghost use Rattle.sf_arguments.specs.Escapes.{Unescapes};
 ghost use Rattle.sf_command.specs.notes.Explains.{OfWord};
 ghost use Rattle.sf_command.specs.console.Fronts.{file_name};
 ghost use Rattle.sf_command.specs.line_jobs.Lines.{KnowsSpans, RunsForm, RunsLines, RunsUnder, RunsWriting, SaysBy};
-ghost use Rattle.sf_command.specs.line_jobs.Lines.{SaysLines};
+ghost use Rattle.sf_command.specs.line_jobs.Lines.{SaysLines, SaysMoreOfLines};
 ghost use Rattle.sf_command.specs.line_jobs.Lines.{ScansLines, SomeIsSaid, SomeIsSaidBy, answer_by};
 
 use crate::console::{Console, file_name, write_told};
@@ -23,7 +24,7 @@ use crate::notes::{known_spans, more_of_line};
 use sf_arguments::unescape;
 use sf_format::{Profile, ScanFormat, Spans};
 use sf_forms::{FormMaker, Maker, PrintMaker};
-use sf_messages::{CommandFault, line_fault_line};
+use sf_messages::{CommandFault, line_fault_line, name_count_notes};
 use sf_print::Sink;
 use sf_read::{Lookahead, Source};
 use sf_records::{LineFault, LineFormats, LinesEnd, LinesOptions, OutputForm, Teller, run_lines};
@@ -164,6 +165,23 @@ fn loop_lines<M: Maker, S: Source, K: Sink, E, C: Console<K, E>, const N: usize>
     };
     let end = run_lines(alloc, from, out, maker, notes, formats, how);
     answer_by(end)
+}
+
+/// What is said after the line of an answer, where that is asked for and memory is there: which names are due.
+pub fn notes_of_lines(alloc: Global, explain: bool, answer: Result<u8, CommandFault>) -> Vec<u8>
+    ensures { (profile : Profile) (print : Option (List ℕ)) (words : List (List ℕ))
+        → SaysMoreOfLines explain profile print words answer result.items }
+{
+    if !explain {
+        return Vec::new(alloc);
+    }
+    let Err(CommandFault::NameCount { expected, got }) = answer else {
+        return Vec::new(alloc);
+    };
+    match name_count_notes(alloc, expected, got) {
+        Ok(notes) => notes,
+        Err(_) => Vec::new(alloc),
+    }
 }
 
 /// The last of the words.

@@ -9,24 +9,27 @@ ghost use Rattle.sf_messages.specs.Notes.{failed_notes, value_notes};
 ghost use Rattle.sf_messages.specs.declared.fault.FormatName.{FormatName};
 ghost use Rattle.sf_messages.specs.declared.fault.CommandFault.{CommandFault};
 ghost use Rattle.sf_command.specs.jobs.Commands.{grammar_of};
+ghost use Rattle.sf_command.specs.jobs.Checks.{IsPrintWord};
 ghost use Rattle.sf_command.specs.jobs.Jobs.{IsJob, IsJobBy, IsOwnFault};
 ghost use Rattle.sf_records.specs.form.OutputForm.{OutputForm};
 ghost use Rattle.sf_words.specs.declared.order.Verb.{Verb};
 ghost use Rattle.sf_words.specs.declared.order.Verb.TheVariants.{Copy};
 ghost use Rattle.sf_command.specs.jobs.CopyFormats.{AreCopies, IsOwnUnpaired};
 ghost use Rattle.sf_command.specs.notes.Explains.{AreSpansOf, Explains, MaySay, OfBoth, OfWord, SaysClean, SaysFailed};
-ghost use Rattle.sf_command.specs.notes.Explains.{SaysFormat, SaysMore, SaysMoreOfRefused, SaysPair, SaysRefused};
+ghost use Rattle.sf_command.specs.notes.Explains.{SaysAlone, SaysFormat, SaysMore, SaysMoreOfRefused, SaysPair};
+ghost use Rattle.sf_command.specs.notes.Explains.{SaysRefused};
 ghost use Rattle.sf_command.specs.notes.Explains.{IsMoreOfLine};
 ghost use Rattle.sf_command.specs.notes.Explains.{shown_at, told_at, told_of_line, value_number, value_word};
 ghost use Rattle.sf_command.specs.notes.Explains.{verdict_notes};
 ghost use Rattle.sf_command.specs.notes.Explains.{word_by};
 
 use crate::jobs::{CopyFormats, Job, RefusedWord, ScanText, grammar_of};
-use sf_arguments::{EscapeFault, unescape};
+use sf_arguments::{EscapeFault, NoScanText, scan_text, unescape};
 use sf_format::{FormatFault, PrintFormat, Profile, ScanFormat, Spans, directive_text};
 use sf_messages::{
-    ArgumentFault, CommandFault, Place, escape_notes, failed_notes, format_notes, input_notes,
-    line_notes, mismatch_notes, pair_notes, push_directive, value_notes,
+    ArgumentFault, CommandFault, Place, alone_notes, escape_notes, failed_notes, format_notes,
+    input_notes, line_notes, mismatch_notes, name_count_notes, pair_notes, push_directive,
+    stalled_notes, value_notes,
 };
 use sf_pair::PairFault;
 use sf_records::{LineFault, ToolFault, push_quoted};
@@ -298,11 +301,34 @@ pub fn notes_of_copies(
     }
 }
 
-/// What is said of a job that was done: of a check, why the formats are no pair.
-fn of_clean_end(alloc: Global, profile: Profile, job: &Job) -> Result<Vec<u8>, AllocError>
+/// What is said of a print format: why no scan format reads it back, if none does; `width` is that of texts.
+fn of_answer(
+    alloc: Global,
+    profile: Profile,
+    width: Option<u16>,
+    print: &PrintFormat,
+) -> Result<Vec<u8>, AllocError>
+    ensures { (word : List ℕ) → IsPrintWord profile word print.now
+        → IfOk result (λ notes. MaySay (SaysAlone profile width word) notes.items) }
+{
+    match scan_text(alloc, profile, print, width) {
+        Err(NoScanText::Unpaired(fault)) => alone_notes(alloc, print.directives(), fault),
+        Err(NoScanText::NoMemory) => Err(AllocError),
+        Ok(_) | Err(NoScanText::NoFormat(_)) => Ok(Vec::new(alloc)),
+    }
+}
+
+/// What is said of a job that was done: of a check, why the formats are no pair, or why none reads the print format
+/// back.
+fn of_clean_end(
+    alloc: Global,
+    profile: Profile,
+    width: Option<u16>,
+    job: &Job,
+) -> Result<Vec<u8>, AllocError>
     ensures { (form : OutputForm) (print : Option (List ℕ)) (of : Verb) (texts : List (List ℕ))
         → IsJobBy profile form print job.now of texts
-        → IfOk result (λ notes. MaySay (SaysClean profile of texts) notes.items) }
+        → IfOk result (λ notes. MaySay (SaysClean profile width of texts) notes.items) }
 {
     match job {
         Job::Check {
@@ -310,6 +336,7 @@ fn of_clean_end(alloc: Global, profile: Profile, job: &Job) -> Result<Vec<u8>, A
             scan,
             verdict,
         } => of_verdict(alloc, profile, print, scan, *verdict),
+        Job::Answer { print } => of_answer(alloc, profile, width, print),
         _ => Ok(Vec::new(alloc)),
     }
 }
@@ -369,12 +396,14 @@ fn of_fault(
         CommandFault::Record(ToolFault::Failed { number, outcome }) => {
             of_failed_job(alloc, profile, job, number, outcome, left)
         }
-        CommandFault::Record(
-            ToolFault::Stalled { .. } | ToolFault::Unfit { .. } | ToolFault::Read { .. },
-        ) => input_notes(alloc, left.place),
+        CommandFault::Record(ToolFault::Stalled { .. }) => stalled_notes(alloc, left.place),
+        CommandFault::Record(ToolFault::Unfit { .. } | ToolFault::Read { .. }) => {
+            input_notes(alloc, left.place)
+        }
         CommandFault::Values(fault) => of_value(alloc, value_word(order, fault), fault),
         CommandFault::Pair(fault) => of_pair_fault(alloc, profile, job, fault),
         CommandFault::Unprintable(mismatch) => mismatch_notes(alloc, mismatch),
+        CommandFault::NameCount { expected, got } => name_count_notes(alloc, expected, got),
         _ => Ok(Vec::new(alloc)),
     }
 }
@@ -397,7 +426,7 @@ pub fn notes_of_job(
     }
     let profile = grammar_of(order.profile);
     let said = match answer {
-        Ok(_) => of_clean_end(alloc, profile, job),
+        Ok(_) => of_clean_end(alloc, profile, order.width, job),
         Err(fault) => of_fault(alloc, profile, order, job, left, fault),
     };
     match said {

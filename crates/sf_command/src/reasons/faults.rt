@@ -1,8 +1,7 @@
 //! Why a fault of a command came, what is said of that, and which file is named with it.
 ghost use Rattle.std.specs.Prelude.{◌≡◌, [], true, Some, IfOk, IfSome, option_map};
 ghost use Rattle.sf_command.specs.reasons.Faults.{IsWithReason, file_of, is_broken_pipe, is_of_input, is_read_fault};
-ghost use Rattle.sf_command.specs.reasons.Faults.{is_unheard};
-ghost use Rattle.sf_command.specs.reasons.Faults.{is_write_fault, reason_of};
+ghost use Rattle.sf_command.specs.reasons.Faults.{is_stalled, is_unheard, is_unsaid, is_write_fault, reason_of};
 
 use crate::reasons::words::reason_notes;
 use sf_messages::{ArgumentFault, CommandFault};
@@ -84,6 +83,26 @@ pub fn is_unheard(watched: bool, unwritten: Option<io::Error>, fault: CommandFau
     ensures { result ≡ is_unheard watched unwritten fault }
 {
     watched && (is_write_fault(fault) && is_broken_pipe(unwritten))
+}
+
+/// Whether a record took nothing.
+fn is_stalled(fault: CommandFault) -> bool
+    ensures { result ≡ is_stalled fault }
+{
+    matches!(fault, CommandFault::Record(ToolFault::Stalled { .. }))
+}
+
+/// Whether nothing is said of a fault: as `is_unheard`, or a record took nothing of an input that can't be opened,
+/// which is said by itself.
+pub fn is_unsaid(
+    watched: bool,
+    unread: Option<io::Error>,
+    unwritten: Option<io::Error>,
+    fault: CommandFault,
+) -> bool
+    ensures { result ≡ is_unsaid watched unread unwritten fault }
+{
+    is_unheard(watched, unwritten, fault) || (is_stalled(fault) && unread.is_some())
 }
 
 /// The text, and after it the line of why something failed.

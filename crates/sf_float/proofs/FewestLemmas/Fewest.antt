@@ -38,7 +38,7 @@ trimmed_less (suc k) n last = by (nat_eq (n % 10) 0) (trimmed_less k (n / 10) (l
     by true h = omega (arith, h)
     by false h = omega arith
 
-trimmed_few : (k n last b : ℕ) → 0 < b → n ≤ 10 ^ b → (trimmed (suc k) n last).0 < 10 ^ b
+pub trimmed_few : (k n last b : ℕ) → 0 < b → n ≤ 10 ^ b → (trimmed (suc k) n last).0 < 10 ^ b
 unfolding trimmed
 trimmed_few k n last b B l = by (nat_eq (n % 10) 0) refl
   where
@@ -52,6 +52,16 @@ trimmed_few k n last b B l = by (nat_eq (n % 10) 0) refl
           | inr less ↦ less
           | inl same ↦ absurd (eqb-false (n % 10) 0 h (omega (arith, same, ten)))
         ]
+
+-- ---- powers of ten
+
+-- u has no more than t digits, and v more than w
+pub shift : (u v t w b c g h : ℕ) → u ≤ 10 ^ t → 10 ^ w ≤ v → t + (b + c) ≤ w + (g + h) → u * 10 ^ b * 10 ^ c ≤ v * 10 ^ g * 10 ^ h
+shift u v t w b c g h U V e =
+    let l : 10 ^ t * (10 ^ b * 10 ^ c) ≤ 10 ^ w * (10 ^ g * 10 ^ h) =
+    rw (← pow-add 10 b c, ← pow-add 10 t (b + c), ← pow-add 10 g h, ← pow-add 10 w (g + h))
+    (pow-le-pow_right {n = 10} (lit< tt) e) in
+    omega (arith, l, mul-le-mul_right (10 ^ b * 10 ^ c) U, mul-le-mul_right (10 ^ g * 10 ^ h) V)
 
 -- ---- a float's fraction
 
@@ -100,7 +110,7 @@ module _ (r : real.Real) (s : Bool) (m : ℕ) (e : _) (is : number_of r ≡ fin 
       unsigned f s m _ _ e (ap (λ b. round f b (n * 10 ^ (last - 400)) (10 ^ (400 - last)))
       (sym (ap is_sign_negative is ∙ finite_sign s m e)) ∙ h ∙ is)
 
-  back : (n last : ℕ) → reads n last → reads_back r n last ≡ true
+  pub back : (n last : ℕ) → reads n last → reads_back r n last ≡ true
   back n last h =
       eq-eqb _ _ (ap (to_bits f) (ap (λ b. round f b (n * 10 ^ (last - 400)) (10 ^ (400 - last)))
       (ap is_sign_negative is ∙ finite_sign s m e) ∙ resigned f s m _ _ e h ∙ sym is))
@@ -130,13 +140,13 @@ module _ (r : real.Real) (s : Bool) (m : ℕ) (e : _) (is : number_of r ≡ fin 
     below_is : below ≡ a * 10 ^ i / (d * 10 ^ j)
     below_is = cut_of_value x s a d last (down_pos e) (refl, refl)
 
-    from : below * (d * 10 ^ j) ≤ a * 10 ^ i
+    pub from : below * (d * 10 ^ j) ≤ a * 10 ^ i
     from = rw below_is (div-mul-le_self (a * 10 ^ i) (d * 10 ^ j))
 
-    to : a * 10 ^ i < below * (d * 10 ^ j) + d * 10 ^ j
+    pub to : a * 10 ^ i < below * (d * 10 ^ j) + d * 10 ^ j
     to = rw below_is (lt-div-mul-add step)
 
-    full : 10 ^ k ≤ below
+    pub full : 10 ^ k ≤ below
     full = rw below_is ((le-div_iff_mul-le step).1 (long x s a d (down_pos e) A few (refl, refl) k K))
 
     short : below < 10 ^ (k + 1)
@@ -146,13 +156,13 @@ module _ (r : real.Real) (s : Bool) (m : ℕ) (e : _) (is : number_of r ≡ fin 
     size_short = omega (arith, to, mul-le-mul_right (d * 10 ^ j) short)
 
     -- a decimal that is no more than the one below, and one that is no less than the one above
-    if_less : (n q : ℕ) → n * 10 ^ (q - 400) * 10 ^ i ≤ below * 10 ^ j * 10 ^ (400 - q) → reads n q → reads below last
+    pub if_less : (n q : ℕ) → n * 10 ^ (q - 400) * 10 ^ i ≤ below * 10 ^ j * 10 ^ (400 - q) → reads n q → reads below last
     if_less n q l h =
         between f (n * 10 ^ (q - 400)) (10 ^ (400 - q)) (below * 10 ^ j) (10 ^ i) a d m e (power_pos 10 (400 - q) (lit< tt)) I (down_pos
         e) l
         (omega (arith, from)) M bare h (reads_itself f m e M bare)
 
-    if_more : (n q : ℕ) → (below + 1) * 10 ^ j * 10 ^ (400 - q) ≤ n * 10 ^ (q - 400) * 10 ^ i → reads n q → reads (below + 1) last
+    pub if_more : (n q : ℕ) → (below + 1) * 10 ^ j * 10 ^ (400 - q) ≤ n * 10 ^ (q - 400) * 10 ^ i → reads n q → reads (below + 1) last
     if_more n q l h =
         between f a d ((below + 1) * 10 ^ j) (10 ^ i) (n * 10 ^ (q - 400)) (10 ^ (400 - q)) m e (down_pos e) I
         (power_pos 10 (400 - q) (lit< tt)) (omega (arith, to)) l M bare (reads_itself f m e M bare) h
@@ -170,14 +180,6 @@ module _ (r : real.Real) (s : Bool) (m : ℕ) (e : _) (is : number_of r ≡ fin 
           ]
         ]
       where
-        -- u has no more than t digits, and v more than w
-        shift : (u v t w b c g h : ℕ) → u ≤ 10 ^ t → 10 ^ w ≤ v → t + (b + c) ≤ w + (g + h) → u * 10 ^ b * 10 ^ c ≤ v * 10 ^ g * 10 ^ h
-        shift u v t w b c g h U V e =
-            let l : 10 ^ t * (10 ^ b * 10 ^ c) ≤ 10 ^ w * (10 ^ g * 10 ^ h) =
-            rw (← pow-add 10 b c, ← pow-add 10 t (b + c), ← pow-add 10 g h, ← pow-add 10 w (g + h))
-            (pow-le-pow_right {n = 10} (lit< tt) e) in
-            omega (arith, l, mul-le-mul_right (10 ^ b * 10 ^ c) U, mul-le-mul_right (10 ^ g * 10 ^ h) V)
-
         level : (n q : ℕ) → q ≡ last → reads n q → reads below last ⊎ reads (below + 1) last
         level n q same h =
             elim (eq-zero-or-pos (n - below)) [
@@ -189,14 +191,14 @@ module _ (r : real.Real) (s : Bool) (m : ℕ) (e : _) (is : number_of r ≡ fin 
                   inr (if_more n q (rw same (omega (arith, mul-le-mul_right (10 ^ j * 10 ^ i) l))) h)
             ]
 
-    near_is : (near x last ≡ below) ⊎ (near x last ≡ below + 1)
+    pub near_is : (near x last ≡ below) ⊎ (near x last ≡ below + 1)
     near_is =
         let c = scaled_of_value x s a d i j (down_pos e) (refl, refl) in
         let l : below ≤ near x last = rw c (closest_ge below (a * 10 ^ i) (d * 10 ^ j) step from) in
         let u : near x last ≤ below + 1 = rw c (closest_le (below + 1) (a * 10 ^ i) (d * 10 ^ j) step (omega (arith, to))) in
         elim (eq-or-lt_of_le l) [ inl q ↦ inl (sym q) | inr g ↦ inr (omega (arith, g, u)) ]
 
-    other_is : ((near x last ≡ below) × (other x last ≡ below + 1)) ⊎ ((near x last ≡ below + 1) × (other x last ≡ below))
+    pub other_is : ((near x last ≡ below) × (other x last ≡ below + 1)) ⊎ ((near x last ≡ below + 1) × (other x last ≡ below))
     other_is = elim near_is [
       | inl q ↦ inl (q, sym (other_above x last below refl q))
       | inr q ↦ inr (q, sym (other_below x last below refl q))
@@ -229,14 +231,20 @@ module _ (r : real.Real) (s : Bool) (m : ℕ) (e : _) (is : number_of r ≡ fin 
         by false B true C q = none-some (other x last) (sym q)
         by false B false C q = elim (some false false B C) [ inl t ↦ true≢false (sym t) | inr t ↦ true≢false (sym t) ]
 
-    -- a decimal with fewer digits is one with so many
-    finer : (n q : ℕ) → last ≤ q → reads n q → reads below last ⊎ reads (below + 1) last
-    finer n q l h =
+    -- a decimal whose last digit stands no lower is a number of such steps
+    pub in_steps : (n q : ℕ) → last ≤ q → n * 10 ^ (q - 400) * 10 ^ i ≡ n * 10 ^ (q - last) * 10 ^ j * 10 ^ (400 - q)
+    in_steps n q l =
         let t = q - last in
         let e : q - 400 + i ≡ t + (j + (400 - q)) = omega (arith, l) in
         let s : 10 ^ (q - 400) * 10 ^ i ≡ 10 ^ t * (10 ^ j * 10 ^ (400 - q)) = sym (pow-add 10 (q - 400) i) ∙ ap (λ y. 10 ^ y) e
         ∙ pow-add 10 t (j + (400 - q)) ∙ ap (λ y. 10 ^ t * y) (pow-add 10 j (400 - q)) in
-        let same : n * 10 ^ (q - 400) * 10 ^ i ≡ n * 10 ^ t * 10 ^ j * 10 ^ (400 - q) = omega (arith, ap (λ y. n * y) s) in
+        omega (arith, ap (λ y. n * y) s)
+
+    -- a decimal with fewer digits is one with so many
+    finer : (n q : ℕ) → last ≤ q → reads n q → reads below last ⊎ reads (below + 1) last
+    finer n q l h =
+        let t = q - last in
+        let same = in_steps n q l in
         elim (eq-zero-or-pos (n * 10 ^ t - below)) [
           | inl z ↦
               let m : n * 10 ^ t ≤ below = omega (arith, z) in
@@ -246,10 +254,10 @@ module _ (r : real.Real) (s : Bool) (m : ℕ) (e : _) (is : number_of r ≡ fin 
               inr (if_more n q (rw same (omega (arith, mul-le-mul_right (10 ^ j * 10 ^ (400 - q)) m))) h)
         ]
 
-    near_few : near x last ≤ 10 ^ (k + 1)
+    pub near_few : near x last ≤ 10 ^ (k + 1)
     near_few = elim near_is [ inl q ↦ omega (arith, q, short) | inr q ↦ omega (arith, q, short) ]
 
-    other_few : other x last ≤ 10 ^ (k + 1)
+    pub other_few : other x last ≤ 10 ^ (k + 1)
     other_few = elim other_is [ inl q ↦ omega (arith, q.1, short) | inr q ↦ omega (arith, q.1, short) ]
 
     pub tried_few : (n : ℕ) → tried r last ≡ Some n → n ≤ 10 ^ (k + 1)

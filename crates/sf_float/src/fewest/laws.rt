@@ -1,6 +1,6 @@
 //! Laws of the definitions that the contracts cite.
 //! None of these functions does anything: its contract is the law.
-ghost use Rattle.sf_float.specs.fewest.Laws.{HasShortBytes, NoneShorter, OneFloat, ReadsBack};
+ghost use Rattle.sf_float.specs.fewest.Laws.{HasShortBytes, NoneNearer, NoneShorter, OneFloat, ReadsBack};
 
 /// The text of a float is read as that float.
 pub fn reads_back()
@@ -10,6 +10,11 @@ pub fn reads_back()
 /// No decimal with fewer digits is read as a float than that of its text.
 pub fn none_shorter()
     ensures { NoneShorter }
+{}
+
+/// No decimal with as many digits as those of a float's text that is read as the float is nearer to it.
+pub fn none_nearer()
+    ensures { NoneNearer }
 {}
 
 /// Two floats of a kind have two texts.

@@ -1,5 +1,5 @@
 //! Prints of reports by a print format, without a pair.
-ghost use Rattle.std.specs.Prelude.{◌≡◌, ◌≤◌, map, is_ok, refl, Some, IfSome, if◌then◌else◌};
+ghost use Rattle.std.specs.Prelude.{◌≡◌, ◌≤◌, ℕ, map, is_ok, refl, None, Some, IfNone, IfSome, if◌then◌else◌};
 ghost use Rattle.std.specs.Option.{option_map};
 ghost use Rattle.sf_base.specs.Data.{datum_of, datum_of_number, datum_of_shown};
 ghost use Rattle.sf_format.specs.Slots.{kind_with};
@@ -105,8 +105,10 @@ fn row<'r, T: Store, const MOST: usize>(
     destinations: u8,
 ) -> Option<ArrayVec<Value<'r>, MOST>>
     requires { destinations ≤ MOST }
-    ensures { IfSome result (λ values.
+    ensures values { IfSome result (λ values.
         map Some (map datum_of values.items) ≡ printed_row print.now destinations report.now.values) }
+    ensures missing { IfNone result ((slot : ℕ) × (1 ≤ slot) × (slot ≤ destinations)
+        × (printed_at print.now report.now.values slot ≡ None)) }
 {
     let mut values = ArrayVec::new();
     for before in 0..destinations {

@@ -1,10 +1,13 @@
 -- What to write in place of a directive without a width.
 use Rattle.std.specs.Prelude.{ℕ, Bool, not, ◌&&◌, if◌then◌else◌, List, [], ◌++◌, is_some, codes}
+use Rattle.std.specs.Fmt.{decimal}
 use Rattle.sf_base.specs.declared.values.Kind.{Kind}
 use Rattle.sf_base.specs.declared.values.Kind.TheVariants as kind
 use Rattle.sf_format.specs.declared.unit.PrintConv.{PrintConv}
 use Rattle.sf_format.specs.declared.unit.PrintLetter.{PrintLetter}
 use Rattle.sf_format.specs.declared.unit.PrintLetter.TheVariants.{Signed, Unsigned, Octal, HexLower, HexUpper, Binary, Text, One, Float}
+use Rattle.sf_format.specs.Units.{is_double}
+use Rattle.sf_pair.specs.conversions.Widths.{longest_float}
 
 -- the conversion prints the digits of a number that it needs, and a sign or none: it has neither `-`, `#` nor `0`, and no precision
 abbrev pub is_bare : PrintConv → Bool
@@ -46,5 +49,11 @@ cure_text One directive = []
 cure_text (Float style upper) directive = []
 cure_text _ directive = codes ": write " ++ directive
 
+-- the directive that reads a double: its width is the length of the longest text of a finite one
+abbrev pub double_cure : ℕ → List ℕ
+double_cure width = codes ": write %" ++ (decimal width ++ codes "lf")
+
 abbrev pub width_cure : PrintConv → List ℕ
-width_cure c = if is_bare c then cure_text c.letter (reading_text c.letter c.kind) else []
+width_cure c =
+    if is_double c.kind then double_cure (longest_float c)
+    else (if is_bare c then cure_text c.letter (reading_text c.letter c.kind) else [])

@@ -1,11 +1,14 @@
 //! What to write in place of a directive without a width.
 ghost use Rattle.std.specs.Prelude.{◌≡◌, ◌++◌, OnOk};
-ghost use Rattle.sf_messages.specs.shown.Cures.{cure_text, is_bare, reading_text, width_cure};
+ghost use Rattle.sf_format.specs.Units.{is_double};
+ghost use Rattle.sf_messages.specs.shown.Cures.{cure_text, double_cure, is_bare, reading_text, width_cure};
 
 use crate::shown::shown::push_text;
 use sf_base::Kind;
 use sf_format::{PrintConv, PrintLetter};
+use sf_pair::longest_len;
 use std::alloc::AllocError;
+use std::io::Write;
 
 /// Whether a conversion prints the digits of a number that it needs, and a sign or none.
 fn is_bare(conv: &PrintConv) -> bool
@@ -62,11 +65,27 @@ fn push_cure(output: &mut Vec<u8>, letter: PrintLetter, directive: &str) -> Resu
     }
 }
 
+/// Whether a kind is that of doubles.
+fn is_double(kind: Kind) -> bool
+    ensures { result ≡ is_double kind }
+{
+    matches!(kind, Kind::F64)
+}
+
+/// Appends the directive of this width that reads a double.
+fn push_double_cure(output: &mut Vec<u8>, width: u32) -> Result<(), AllocError>
+    ensures { OnOk result (output.new.items ≡ output.old.items ++ double_cure width) }
+{
+    write!(output, ": write %{width}lf").map_err(|_| AllocError)
+}
+
 /// Appends what to write in place of a directive without a width that faces this conversion.
 pub fn push_width_cure(output: &mut Vec<u8>, conv: &PrintConv) -> Result<(), AllocError>
     ensures { OnOk result (output.new.items ≡ output.old.items ++ width_cure conv.now) }
 {
-    if is_bare(conv) {
+    if is_double(conv.kind) {
+        push_double_cure(output, longest_len(conv).unwrap_or(0))
+    } else if is_bare(conv) {
         push_cure(output, conv.letter, reading_text(conv.letter, conv.kind))
     } else {
         Ok(())

@@ -20,11 +20,11 @@ use Rattle.sf_run.specs.Limits.{RunWithin}
 use Rattle.sf_run.specs.Rows.{AreRowOf, given_to}
 use Rattle.sf_run.specs.Stopping.{is_memory_status}
 use Rattle.sf_read.specs.declared.row.ScanRowFault.{ScanRowFault}
-use Rattle.sf_read.specs.declared.row.ScanRowFault.TheVariants.{ShapeDiffers, Start, Failed, NoMemory}
+use Rattle.sf_read.specs.declared.row.ScanRowFault.TheVariants.{ShapeDiffers, Start, Failed, LeftOver, NoMemory}
 use Rattle.sf_read.specs.source.Ahead.{Ahead, input_of}
 use Rattle.sf_read.specs.source.Counts.{counted_on}
 use Rattle.sf_read.specs.field.Rows.{present}
-use Rattle.sf_read.specs.RowScans.{Answers, HasShape, RowScan, is_run}
+use Rattle.sf_read.specs.RowScans.{Answers, HasShape, RowScan, difference_in, difference_of, is_run}
 use Rattle.sf_read.specs.Scan.{is_fault}
 use Rattle.sf_pair.specs.Fits.{Fit}
 use Rattle.sf_pair.specs.Formats.{IsChecked}
@@ -35,7 +35,7 @@ use Rattle.sf_pair_read.specs.Below.{PairLaws}
 use Rattle.sf_pair_read.proofs.Scans.{bounded_by, reads_whole}
 use Rattle.sf_run.specs.declared.feeding.StartFault.{StartFault}
 use Rattle.sf_run.specs.declared.feeding.StartFault.TheVariants as start
-use Rattle.std.specs.Prelude.{IfOk, IsErrOf}
+use Rattle.std.specs.Prelude.{IfOk, IsErrOf, IsSome}
 use Rattle.sf_pair_read.specs.rows.Reading.{AreReadable, IsMemory, ends_at, is_end}
 
 -- no read has failed
@@ -64,7 +64,8 @@ abbrev pub GivesRow : {S T : Type 0} → (S → Option (List ℕ)) → (T → Li
     → Type 0
 GivesRow to_come listed new values z (Ok row) = (listed row ≡ values) × (input_of to_come new ≡ Some z)
 GivesRow to_come listed new values z (Err NoMemory) = Unit {0}
-GivesRow to_come listed new values z (Err ShapeDiffers) = ⊥
+GivesRow to_come listed new values z (Err (ShapeDiffers by)) = ⊥
+GivesRow to_come listed new values z (Err (LeftOver at)) = ⊥
 GivesRow to_come listed new values z (Err (Start fault)) = ⊥
 GivesRow to_come listed new values z (Err (Failed outcome)) = ⊥
 
@@ -72,7 +73,8 @@ GivesRow to_come listed new values z (Err (Failed outcome)) = ⊥
 abbrev pub EndsRows : {S T : Type 0} → (S → Option (List ℕ)) → Ahead S → Result T ScanRowFault → Type 0
 EndsRows to_come new (Ok row) = ⊥
 EndsRows to_come new (Err NoMemory) = ⊥
-EndsRows to_come new (Err ShapeDiffers) = ⊥
+EndsRows to_come new (Err (ShapeDiffers by)) = ⊥
+EndsRows to_come new (Err (LeftOver at)) = ⊥
 EndsRows to_come new (Err (Start fault)) = ⊥
 EndsRows to_come new (Err (Failed outcome)) = (outcome.status ≡ InputFailure) × (outcome.converted ≡ 0) × (outcome.met ≡ Some End)
     × (input_of to_come new ≡ Some [])
@@ -87,7 +89,8 @@ gives_by to_come kinds given_by listed new us ds (Ok row) values z report answer
     let own : given_by row ≡ map Some values = answers.1 ∙ ap (λ k. given_to k report.values) same ∙ sym row_is in
     (lists ∙ ap present own ∙ all_present values, left)
 gives_by to_come kinds given_by listed new us ds (Err NoMemory) values z report answers lists is row_is left same = tt
-gives_by to_come kinds given_by listed new us ds (Err ShapeDiffers) values z report answers lists is row_is left same = answers
+gives_by to_come kinds given_by listed new us ds (Err (ShapeDiffers by)) values z report answers lists is row_is left same = answers
+gives_by to_come kinds given_by listed new us ds (Err (LeftOver at)) values z report answers lists is row_is left same = answers
 gives_by to_come kinds given_by listed new us ds (Err (Start fault)) values z report answers lists is row_is left same = answers
 gives_by to_come kinds given_by listed new us ds (Err (Failed outcome)) values z report answers lists is row_is left same =
     answers.0 (ap (λ (r : RunReport). r.status) is)
@@ -99,7 +102,8 @@ ends_by to_come kinds given_by new (Ok row) report answers status converted met 
     let never : Done ≡ InputFailure = sym answers.0 ∙ status in absurd cc
 ends_by to_come kinds given_by new (Err NoMemory) report answers status converted met left =
     let never : Done ≡ InputFailure = sym answers ∙ status in absurd cc
-ends_by to_come kinds given_by new (Err ShapeDiffers) report answers status converted met left = answers
+ends_by to_come kinds given_by new (Err (ShapeDiffers by)) report answers status converted met left = answers
+ends_by to_come kinds given_by new (Err (LeftOver at)) report answers status converted met left = answers
 ends_by to_come kinds given_by new (Err (Start fault)) report answers status converted met left = answers
 ends_by to_come kinds given_by new (Err (Failed outcome)) report answers status converted met left = (
   ap (λ (r : RunReport). r.status) answers.1 ∙ status,
@@ -274,11 +278,12 @@ module _ (laws : PairLaws) (nothing : AlignedEndsOnNothing) (one : EachHasOneRep
       going few result
       (run (ap is_run e)) lists outcome e rows z readable shape input sound in (all.0, all.1)
   all_back NoMemory e is rows z readable shape input sound = absurd (true≢false (sym is))
-  all_back ShapeDiffers e is rows z readable shape input sound = absurd (true≢false (sym is))
+  all_back (ShapeDiffers by) e is rows z readable shape input sound = absurd (true≢false (sym is))
+  all_back (LeftOver at) e is rows z readable shape input sound = absurd (true≢false (sym is))
   all_back (Start fault) e is rows z readable shape input sound = absurd (true≢false (sym is))
 
   -- memory was refused
-  pub refused : (why : ScanRowFault) → result ≡ Err why → is_end why ≡ false → (why ≡ ShapeDiffers → HasShape kinds optional ds → ⊥)
+  pub refused : (why : ScanRowFault) → result ≡ Err why → is_end why ≡ false → (IsSome (difference_in why) → HasShape kinds optional ds → ⊥)
       → ((fault : StartFault) → why ≡ Start fault → m ≤ 2147483647 → fault ≡ start.NoMemory)
       → (rows : List (List Datum)) (z : List ℕ)
       → AreReadable us ds m most rows z → HasShape kinds optional ds → input_of to_come old ≡ Some (joined us rows ++ z) → failures
@@ -290,7 +295,9 @@ module _ (laws : PairLaws) (nothing : AlignedEndsOnNothing) (one : EachHasOneRep
       (run (ap is_run e)) lists outcome e rows z readable shape input sound in
       absurd (true≢false (sym (end_is outcome all.2 all.3 all.4) ∙ is))
   refused NoMemory e is unshaped started rows z readable shape input sound = tt
-  refused ShapeDiffers e is unshaped started rows z readable shape input sound = unshaped refl shape
+  refused (ShapeDiffers by) e is unshaped started rows z readable shape input sound = absurd (unshaped refl shape)
+  refused (LeftOver at) e is unshaped started rows z readable shape input sound =
+      (subst (RowScan to_come reads failures N kinds given_by ds m now new) e (run (ap is_run e))).answers
   refused (Start fault) e is unshaped started rows z readable shape input sound = started fault refl readable.low
 
 -- a scan that wasn't started, by what `scan_row_over` says
@@ -312,8 +319,8 @@ start_is {T} result why kinds optional ds m e limit begun fault is low =
 pub shape_is : {T : Type 0} (result : Result T ScanRowFault) (why : ScanRowFault) (kinds : List Kind) (optional : ℕ → Bool)
     (ds : List Directive)
     → result ≡ Err why
-    → (IsErrOf result ShapeDiffers → HasShape kinds optional ds → ⊥) → why ≡ ShapeDiffers → HasShape kinds optional ds → ⊥
-shape_is result why kinds optional ds e unshaped is = unshaped (subst (λ x. IsErrOf x ShapeDiffers) (sym (e ∙ ap Err is)) refl)
+    → (IsSome (difference_of result) → HasShape kinds optional ds → ⊥) → IsSome (difference_in why) → HasShape kinds optional ds → ⊥
+shape_is result why kinds optional ds e unshaped is = unshaped (subst (λ x. IsSome (difference_of x)) (sym e) is)
 
 -- ---- the end of the input
 
@@ -330,5 +337,6 @@ end_seen to_come reads failures N kinds given_by ds m now new result (Failed out
     let own = subst (Answers kinds given_by r.report) e r.answers in
     r.end (sym (ap (λ (x : RunReport). x.met) own.1) ∙ ends_met outcome.converted outcome.status outcome.met is)
 end_seen to_come reads failures N kinds given_by ds m now new result NoMemory e is run = absurd (true≢false (sym is))
-end_seen to_come reads failures N kinds given_by ds m now new result ShapeDiffers e is run = absurd (true≢false (sym is))
+end_seen to_come reads failures N kinds given_by ds m now new result (ShapeDiffers by) e is run = absurd (true≢false (sym is))
+end_seen to_come reads failures N kinds given_by ds m now new result (LeftOver at) e is run = absurd (true≢false (sym is))
 end_seen to_come reads failures N kinds given_by ds m now new result (Start fault) e is run = absurd (true≢false (sym is))

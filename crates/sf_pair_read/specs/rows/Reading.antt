@@ -16,6 +16,8 @@ use Rattle.sf_read.specs.declared.row.ScanRowFault.TheVariants as why
 use Rattle.sf_read.specs.source.Ahead.{Ahead}
 use Rattle.sf_read.specs.source.Counts.{counted_on}
 use Rattle.sf_read.specs.RowScans.{HasShape, RowScan}
+use Rattle.sf_read.specs.Shapes.{IsDifference}
+use Rattle.sf_read.specs.declared.shape.ShapeFault.{ShapeFault}
 use Rattle.sf_pair.specs.Fits.{Fit}
 use Rattle.sf_pair_read.specs.declared.rows.fault.ReadRowsFault.{ReadRowsFault}
 
@@ -70,7 +72,14 @@ RefusesNext {S} {T} to_come reads failures N kinds optional given ds m now new w
     ⊎ ((row : T) × RowScan to_come reads failures N kinds given ds m now new (Ok row))
 RefusesNext to_come reads failures N kinds optional given ds m now new (why.Start fault) =
     (new ≡ now) × HasShape kinds optional ds × ((fault ≡ start.NoMemory) ⊎ ((fault ≡ start.BadLimit) × (2147483647 < m)))
-RefusesNext to_come reads failures N kinds optional given ds m now new why.ShapeDiffers = (new ≡ now) × (HasShape kinds optional ds → ⊥)
+RefusesNext to_come reads failures N kinds optional given ds m now new (why.ShapeDiffers by) =
+    (new ≡ now) × (HasShape kinds optional ds → ⊥) × IsDifference kinds optional ds by
+RefusesNext to_come reads failures N kinds optional given ds m now new (why.LeftOver at) = ⊥
+
+-- the rows haven't the slots of the format: the fault is of the first one, and says how they differ
+abbrev pub IsUnshaped : List Kind → (ℕ → Bool) → List Directive → ReadRowsFault → Type 0
+IsUnshaped kinds optional ds fault = (fault.row ≡ 1) × (by : ShapeFault) × (fault.why ≡ why.ShapeDiffers by)
+    × IsDifference kinds optional ds by
 
 -- the rows before this one were read, and it was not
 pub record StopsBefore {S T : Type 0} (to_come : S → Option (List ℕ)) (reads failures : S → ℕ) (N : ℕ) (kinds : List Kind)

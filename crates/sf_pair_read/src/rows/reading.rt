@@ -1,5 +1,6 @@
 //! Reading rows by a pair.
-ghost use Rattle.std.specs.Prelude.{◌≡◌, ◌≤◌, ◌⊎◌, ◌++◌, ℕ, List, map, vec_len, true, Some, Err, IfOk, IfErr};
+ghost use Rattle.std.specs.Prelude.{◌≡◌, ◌≤◌, ◌⊎◌, ◌++◌, ℕ, List, map, vec_len, true, Some, ◌↔◌};
+ghost use Rattle.std.specs.Prelude.{IfOk, IfErr, IsErrAnd, IsOk};
 ghost use Rattle.std.specs.List.{AllByRecursion};
 ghost use Rattle.sf_base.specs.Data.{Datum};
 ghost use Rattle.sf_pair.specs.Joined.{joined};
@@ -7,12 +8,13 @@ ghost use Rattle.sf_read.specs.field.Rows.{present, slots_by};
 ghost use Rattle.sf_read.specs.source.Ahead.{input_of};
 ghost use Rattle.sf_read.specs.RowScans.{HasShape};
 ghost use Rattle.sf_read.specs.source.Counts.{counted_on};
-ghost use Rattle.sf_pair_read.specs.rows.Reading.{AreReadable, IsMemory, ReadsRows, StopsBefore, is_end};
+ghost use Rattle.sf_pair_read.specs.rows.Reading.{AreReadable, IsMemory, IsUnshaped, ReadsRows, StopsBefore, is_end};
 
 use crate::rows::below::pair_laws;
 use crate::rows::fault::ReadRowsFault;
+use sf_format::ScanFormat;
 use sf_pair::Pair;
-use sf_read::{Lookahead, Row, ScanRowFault, Source, has_shape, scan_row_over};
+use sf_read::{Lookahead, Row, ScanRowFault, Source, check_shape, scan_row_over};
 use sf_run::{Ending, Status};
 use std::alloc::Global;
 
@@ -29,13 +31,24 @@ fn is_end(why: ScanRowFault) -> bool
     }
 }
 
+/// The fault of the first row, where rows haven't the slots of the scan format.
+fn check_rows<T: Row>(format: &ScanFormat) -> Result<(), ReadRowsFault>
+    ensures same { IsOk result ↔ HasShape T.kinds T.optional format.now }
+    ensures differs { IfErr result (IsUnshaped T.kinds T.optional format.now) }
+{
+    match check_shape::<T>(format) {
+        Ok(()) => Ok(()),
+        Err(by) => Err(fault_after(0, ScanRowFault::ShapeDiffers(by))),
+    }
+}
+
 /// Reads rows by the pair's scan format, one after the other, as fscanf would (C11 7.21.6.2): at most so many, and
 /// fewer where the input ends before that. What `write_rows` wrote is read back, whatever follows, and what follows it
 /// is left.
 ///
 /// Refuses with ShapeDiffers where the slots of the row and their kinds are not the destinations of the scan format
-/// and theirs, and a limit above 2147483647 with Start: nothing was read then. It stops at the first row that is no
-/// match, or for which memory was refused: the rows before it are lost.
+/// and theirs: it says how they differ first. It refuses a limit above 2147483647 with Start: nothing was read then. It
+/// stops at the first row that is no match, or for which memory was refused: the rows before it are lost.
 pub fn read_rows<T: Row + Drop, S: Source, const N: usize>(
     alloc: Global,
     from: &mut Lookahead<S, N>,
@@ -62,14 +75,10 @@ pub fn read_rows<T: Row + Drop, S: Source, const N: usize>(
     ensures stays { from.old.at_end ≡ true → from.new.at_end ≡ true }
     ensures few { IfOk result (λ v. vec_len v ≤ most) }
     ensures ended { IfOk result (λ v. (vec_len v ≡ most) ⊎ (from.new.at_end ≡ true)) }
-    ensures shape { (HasShape T.kinds T.optional pair.now.scan → ⊥) → (result ≡ Err (record {
-      row = 1;
-      why = ScanRowFault.ShapeDiffers;
-    })) × (from.new ≡ from.old) }
+    ensures shape { (HasShape T.kinds T.optional pair.now.scan → ⊥)
+        → IsErrAnd result (IsUnshaped T.kinds T.optional pair.now.scan) × (from.new ≡ from.old) }
 {
-    if !has_shape::<T>(pair.scan()) {
-        return Err(fault_after(0, ScanRowFault::ShapeDiffers));
-    }
+    check_rows::<T>(pair.scan())?;
     pair_laws();
     let mut rows = Vec::new(alloc);
     let mut store = None;

@@ -1,10 +1,9 @@
 -- Floats that are read of values, and written as values again.
-use Rattle.std.proofs.Common.{◌≡◌, ℕ, List, Option, Some, None, refl, sym, ap, ◌∙◌}
+use Rattle.std.proofs.Common.{◌≡◌, ℕ, Option, Some, sym, ap, ◌∙◌}
 use Rattle.std.specs.Prelude.{to_bits, from_bits, T}
 use Rattle.std.specs.Float.Ieee.{Float, Format, binary32, binary64, fits}
 use lib.Ieee.Bits.{of_bits-to_bits}
 use Rattle.sf_base.specs.Data.{Datum, Number, Bytes, Real, f32_in, f64_in}
-use Rattle.sf_base.specs.declared.real.Real as real
 use Rattle.sf_base.specs.declared.real.Real.TheVariants as reals
 use Rattle.sf_report.specs.Rows.{IsReadable}
 

@@ -13,7 +13,7 @@ use std::alloc::Global;
 
 /// Appends a value that is there.
 #[inline(always)]
-fn push_present<'r>(values: &mut ArrayVec<Value<'r>, 32>, given: Option<Value<'r>>)
+pub(crate) fn push_present<'r>(values: &mut ArrayVec<Value<'r>, 32>, given: Option<Value<'r>>)
     requires { length values.old.items < 32 }
     ensures there { map datum_of values.new.items
         ≡ map datum_of values.old.items ++ present (option_map datum_of given.entry ∷ []) }

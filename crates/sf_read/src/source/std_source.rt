@@ -1,8 +1,8 @@
 //! Bytes of a reader of std.
-ghost use Rattle.std.specs.Prelude.{◌≡◌};
+ghost use Rattle.std.specs.Prelude.{◌≡◌, ◌<◌, ◌↔◌, IsSome};
 
 use crate::source::{Source, SourceFault};
-use std::io::Read;
+use std::io::{self, Read};
 
 /// Gives the bytes of a reader. They are known as far as the reader's contract knows them.
 ///
@@ -12,6 +12,10 @@ pub struct StdSource<R: Read + Drop> {
     reader: R,
     reads: u64,
     failures: u64,
+    /// Why the last of its reads failed that did.
+    last_error: Option<io::Error>,
+    ghost known: { 0 < failures → IsSome last_error },
+    ghost failed: { IsSome last_error → 0 < failures },
 }
 
 impl<R: Read + Drop> StdSource<R> {
@@ -25,7 +29,17 @@ impl<R: Read + Drop> StdSource<R> {
             reader,
             reads: 0,
             failures: 0,
+            last_error: None,
         }
+    }
+
+    /// Why the last of its reads failed that did, as the reader answered it. None where none failed.
+    ///
+    /// A loop over `&mut` of the source leaves it to be asked after the loop.
+    pub fn last_error(&self) -> Option<io::Error>
+        ensures known { IsSome result ↔ (0 < ⟦<StdSource<R> as Source>⟧.failures self.now) }
+    {
+        self.last_error
     }
 }
 
@@ -40,7 +54,8 @@ impl<R: Read + Drop> Source for StdSource<R> {
         self.reads = self.reads.saturating_add(1);
         match self.reader.read(buf) {
             Ok(count) => Ok(count),
-            Err(_) => {
+            Err(error) => {
+                self.last_error = Some(error);
                 self.failures = self.failures.saturating_add(1);
                 Err(SourceFault)
             }

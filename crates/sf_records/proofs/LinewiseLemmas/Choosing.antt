@@ -17,7 +17,7 @@ use Rattle.sf_records.specs.declared.by_lines.judge.Tried.{Tried}
 use Rattle.sf_records.specs.declared.by_lines.judge.Tried.TheVariants.{Matched, Missed, Refused}
 use Rattle.sf_forms.specs.declared.makers.maker.Unwritten.{Unwritten}
 use Rattle.sf_forms.specs.makers.Works.{Makes, SameWithMet, Work, Writes, with_met}
-use Rattle.sf_records.specs.by_lines.Judging.{Fits, IgnoresOrNot, MatchesOrNot, Tries, TriesEach}
+use Rattle.sf_records.specs.by_lines.Judging.{Fits, IgnoresOrNot, IsRunOn, MatchesOrNot, Tries, TriesEach}
 use Rattle.sf_records.specs.by_lines.Turns.{Matches, Misses, Picks, fault_of, used_whole}
 
 -- ---- facts of each of a list
@@ -94,9 +94,9 @@ tries_seen o ds made line report unmet (met, ran, none) old new wrote h =
           (subst (λ b. Writes b (made.text report) old new wrote) (sym same.fits) h),
     )
 
-pub matches_seen : (o : LinesOptions) (ds : List Directive) (line : List ℕ) (report : RunReport) → Fits o ds line report
-    → Matches o line ds
-matches_seen o ds line report (met, ran, none) = (with_met report met, ran, none)
+pub fits_seen : (o : LinesOptions) (ds : List Directive) (line : List ℕ) (report : RunReport) → IsRunOn o ds line report
+    → fault_of o line report ≡ None → Fits o ds line report
+fits_seen o ds line report (met, ran, same) none = (met, ran, same ∙ none)
 
 pub matched_so : (o : LinesOptions) (line : List ℕ) (ds : List Directive) (b : Bool) → b ≡ true
     → MatchesOrNot o line ds (Ok b) → Matches o line ds

@@ -8,7 +8,8 @@ use Rattle.sf_forms.specs.makers.Works.{Makes, Work, sink_failed, with_met}
 use Rattle.sf_run.specs.outcome.Ending.{Ending}
 use Rattle.sf_run.specs.outcome.Ending.TheVariants.{End}
 use Rattle.sf_run.specs.Limits.{RunWithin}
-use Rattle.sf_run.specs.Quick.{IsDoneWithin}
+use Rattle.sf_run.specs.outcome.Status.TheVariants.{Done}
+use Rattle.sf_run.specs.Quick.{IsEndedWithin}
 use Rattle.sf_run.specs.Runs.{RunReport}
 use Rattle.sf_records.specs.declared.by_lines.options.LinesOptions.{LinesOptions}
 use Rattle.sf_records.specs.declared.by_lines.end.LineFault.TheVariants as why
@@ -27,17 +28,22 @@ use Rattle.sf_records.specs.by_lines.Turns.{Matches, Misses, Picks, fault_of, is
 abbrev pub BeginsWith : List ℕ → List ℕ → Type 0
 BeginsWith ended line = (behind : List ℕ) × (ended ≡ line ++ behind)
 
--- the run of the format on the line, whose report has this, but for what it met, by which the line is a match
+-- the run of the format on the line has this report, but for what it met, and the line is judged alike by it
+abbrev pub IsRunOn : LinesOptions → List Directive → List ℕ → RunReport → Type 0
+IsRunOn o ds line report = (met : Option Ending) × RunWithin ds o.limit line End (with_met report met)
+    × (fault_of o line (with_met report met) ≡ fault_of o line report)
+
+-- the same, and the line is a match by it
 abbrev pub Fits : LinesOptions → List Directive → List ℕ → RunReport → Type 0
 Fits o ds line report = (met : Option Ending) × RunWithin ds o.limit line End (with_met report met)
     × (fault_of o line (with_met report met) ≡ None)
 
--- The format is Done on these bytes, which begin with the line, before one of them is lacking, or one that the limit allows; a
--- store of this capacity has room for its texts; and the line is a match by it.
+-- The run of the format on these bytes, which begin with the line, ends before one of them is lacking, or one that the limit
+-- allows; a store of this capacity has room for its texts; and it leaves a byte of the line, or is Done at its end.
 pub record IsSeen (o : LinesOptions) (ds : List Directive) (line ended : List ℕ) (capacity : ℕ) : Type 0 where
-  pub done : IsDoneWithin ds o.limit ended capacity
-  pub within : done.report.used ≤ length line
-  pub matches : fault_of o line done.report ≡ None
+  pub run : IsEndedWithin ds o.limit ended capacity
+  pub within : run.report.used ≤ length line
+  pub whole : run.report.used ≡ length line → run.report.status ≡ Done
 
 -- the line matches the format, and what is made of it was to be written; or it doesn't, for this; or memory was refused
 abbrev pub Tries : LinesOptions → List Directive → Work → List ℕ → Option (List ℕ) → Option (List ℕ) → Tried → Type 0

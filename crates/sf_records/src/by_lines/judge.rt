@@ -9,7 +9,7 @@ ghost use Rattle.sf_run.specs.Memory.{capacity_of};
 ghost use Rattle.sf_run.specs.Stopping.{is_memory_status};
 ghost use Rattle.sf_run.specs.Views.{report_by};
 ghost use Rattle.sf_records.specs.by_lines.Coming.{Came, IsTold, is_read_fault};
-ghost use Rattle.sf_records.specs.by_lines.Judging.{BeginsWith, Fits, IgnoresOrNot, IsSeen, MatchesOrNot, Tries};
+ghost use Rattle.sf_records.specs.by_lines.Judging.{BeginsWith, IgnoresOrNot, IsRunOn, IsSeen, MatchesOrNot, Tries};
 ghost use Rattle.sf_records.specs.by_lines.Judging.{TriesEach};
 ghost use Rattle.sf_records.specs.by_lines.Judging.{is_matched, is_unwritten, is_write_fault, verdict_by};
 ghost use Rattle.sf_records.specs.by_lines.Telling.{Stays};
@@ -25,8 +25,8 @@ use sf_format::ScanFormat;
 use sf_forms::{Maker, Unwritten};
 use sf_print::Sink;
 use sf_read::{LineRead, sscan_over};
-use sf_run::laws::done_runs_stay;
-use sf_run::{Outcome, Report, Status, quick_run};
+use sf_run::laws::{done_runs_stay, early_runs_stay};
+use sf_run::{Outcome, Report, Status, sure_run};
 use std::alloc::{AllocError, Global};
 
 /// What came of the next line.
@@ -63,6 +63,7 @@ enum Verdict {
 }
 
 /// Why the line doesn't match by a run with this report.
+#[inline(always)]
 fn line_fault<T: Store>(
     report: &Report<'_, T>,
     line: &[u8],
@@ -87,11 +88,11 @@ fn ran_out<T: Store>(report: &Report<'_, T>) -> bool
     matches!(report.outcome().status, Status::NoMemory)
 }
 
-/// Scans the line at once where it stands, in front of these bytes. It answers wherever the format is Done on them
-/// before one is lacking, the store has room for the texts, and the line matches; else None, and the store may keep
-/// something.
+/// Scans the line at once where it stands, in front of these bytes. It answers wherever the run ends on them before one
+/// is lacking, the store has room for the texts, and it leaves a byte of the line or is Done at its end. Else None, and
+/// the store may keep something.
 #[inline(always)]
-fn seen_match(
+fn seen(
     store: &mut HeapStore,
     line: &[u8],
     ended: &[u8],
@@ -100,20 +101,29 @@ fn seen_match(
 ) -> Option<Outcome>
     requires front { BeginsWith ended.now line.now }
     requires proper { AreProper format.now }
-    ensures fits { IfSome result (λ outcome. Fits options.now format.now line.now
+    ensures ran { IfSome result (λ outcome. IsRunOn options.now format.now line.now
         (report_by outcome store.new.values)) }
     ensures answers { IsSeen options.now format.now line.now ended.now (capacity_of store.old) → IsSome result }
 {
-    let outcome = quick_run(store, format, options.limit, ended)?;
+    let outcome = sure_run(store, format, options.limit, ended)?;
     done_runs_stay();
+    early_runs_stay();
     let used = outcome.used as usize;
-    if used > line.len() {
-        return None;
+    // the status first: one that is Done is not asked for it again
+    match outcome.status {
+        Status::Done => {
+            if used > line.len() {
+                return None;
+            }
+            Some(outcome)
+        }
+        _ => {
+            if used >= line.len() {
+                return None;
+            }
+            Some(outcome)
+        }
     }
-    if options.whole && used < line.len() {
-        return None;
-    }
-    Some(outcome)
 }
 
 /// Scans the line by a format, which has this number, over the store, and writes what is made of it if it matches.
@@ -179,10 +189,13 @@ fn try_format<M: Maker, K: Sink>(
     ensures untouched { is_matched result ≡ false → to.new ≡ to.old }
 {
     if let Some(kept) = store
-        && let Some(outcome) = seen_match(kept, line, ended, format, options)
+        && let Some(outcome) = seen(kept, line, ended, format, options)
     {
-        let wrote = maker.write(to, format, format_number, &Report::new(outcome, kept));
-        return Tried::Matched(wrote);
+        let report = Report::new(outcome, kept);
+        if let Some(fault) = line_fault(&report, line, *options) {
+            return Tried::Missed(fault);
+        }
+        return Tried::Matched(maker.write(to, format, format_number, &report));
     }
     try_over(
         alloc,
@@ -258,9 +271,10 @@ fn matches_line(
     ensures { MatchesOrNot options.now line.now format.now result }
 {
     if let Some(kept) = store
-        && let Some(_) = seen_match(kept, line, ended, format, options)
+        && let Some(outcome) = seen(kept, line, ended, format, options)
     {
-        return Ok(true);
+        let report = Report::new(outcome, kept);
+        return Ok(line_fault(&report, line, *options).is_none());
     }
     let Some(kept) = store.take() else {
         return Err(AllocError);

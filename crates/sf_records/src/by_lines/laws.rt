@@ -1,11 +1,13 @@
 //! Laws of lines. None of these functions does anything: its contract is the law.
+ghost use Rattle.sf_records.specs.by_lines.Copied.{CopyingLinesTwice};
 ghost use Rattle.sf_records.specs.by_lines.Laws.{LinesHaveOneTurn};
 ghost use Rattle.sf_records.specs.by_lines.ReadingBack.{LinesReadBack};
 
 use sf_forms::laws::{missing_values_read_back, names_read_back, records_are_given};
+use sf_pair::laws::{fits_is_fit, round_trip, slots_agree};
 use sf_read::Source;
 pub use sf_read::line::laws::{lines_are_cut, lines_are_joined, texts_are_cut};
-use sf_run::laws::done_runs_have_rows;
+use sf_run::laws::{done_runs_have_rows, done_runs_stay, one_report, runs_are_computed};
 
 /// By formats that are accepted, something comes of the lines of an input, and nothing else: what `run_lines` writes,
 /// reports and answers is one thing for each input.
@@ -23,4 +25,19 @@ pub fn lines_read_back<S: Source>()
     records_are_given();
     missing_values_read_back();
     names_read_back();
+}
+
+/// What a copy by lines wrote is copied as it is: by a pair whose scan format ends in a conversion that reads one byte
+/// and stores nothing, each line being read by what stands before that, and where each text that was written is a line
+/// with its newline.
+pub fn lines_copied_twice()
+    ensures { CopyingLinesTwice }
+{
+    round_trip();
+    slots_agree();
+    fits_is_fit();
+    one_report();
+    runs_are_computed();
+    done_runs_stay();
+    lines_are_joined();
 }

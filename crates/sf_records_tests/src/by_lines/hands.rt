@@ -1,15 +1,18 @@
-//! A writer and a teller for tests.
-ghost use Rattle.std.specs.Prelude.{◌≡◌, Some, if◌then◌else◌, refl};
+//! A writer and a teller for tests, and the loop over the lines of a text with them.
+ghost use Rattle.std.specs.Prelude.{◌≡◌, ◌≤◌, Some, if◌then◌else◌, refl};
 ghost use Rattle.sf_base.specs.Data.{datum_at};
 ghost use Rattle.sf_records_tests.specs.by_lines.Hands.{bytes_in, first_of, letter_of, note_of, writing_first};
 
 use sf_base::{Store, Value};
-use sf_format::ScanFormat;
+use sf_format::{Profile, ScanFormat};
 use sf_forms::{Maker, Unwritten};
-use sf_print::Sink;
-use sf_records::{LineFault, Teller, write_whole};
+use sf_print::{ListSink, Sink};
+use sf_read::{Lookahead, SliceSource};
+use sf_records::{LineFault, LineFormats, LinesEnd, LinesOptions, Teller, run_lines, write_whole};
 use sf_run::Report;
-use std::alloc::AllocError;
+use std::alloc::{AllocError, Global};
+use std::process::Abort;
+use std::test::Fail;
 
 /// What slot 1 was given, if that is a text.
 fn first_text<'r, T: Store>(report: &Report<'r, T>) -> &'r [u8]
@@ -24,7 +27,15 @@ fn first_text<'r, T: Store>(report: &Report<'r, T>) -> &'r [u8]
 /// Writes the text of slot 1, and a newline.
 #[derive(Drop)]
 pub(crate) struct FirstText {
-    pub(crate) line: Vec<u8>,
+    line: Vec<u8>,
+}
+
+impl FirstText {
+    pub(crate) fn new(alloc: Global) -> FirstText {
+        FirstText {
+            line: Vec::new(alloc),
+        }
+    }
 }
 
 impl Maker for FirstText {
@@ -78,8 +89,19 @@ fn first_byte(line: &[u8]) -> u8
 #[derive(Drop)]
 pub(crate) struct Notes {
     pub(crate) said: Vec<u8>,
-    pub(crate) failed: bool,
-    pub(crate) refuses: bool,
+    failed: bool,
+    refuses: bool,
+}
+
+impl Notes {
+    /// Of no line so far.
+    pub(crate) fn new(alloc: Global, refuses: bool) -> Notes {
+        Notes {
+            said: Vec::new(alloc),
+            failed: false,
+            refuses,
+        }
+    }
 }
 
 impl<K: Sink> Teller<K> for Notes {
@@ -114,4 +136,91 @@ impl<K: Sink> Teller<K> for Notes {
         }
         Ok(())
     }
+}
+
+/// The formats of the texts.
+pub(crate) fn parsed(alloc: Global, texts: &[&str]) -> Result<Vec<ScanFormat>, Fail> {
+    let mut formats = Vec::new(alloc);
+    for text in texts {
+        let format = ScanFormat::parse(alloc, Profile::One, text.as_bytes())?;
+        formats.push(format)?;
+    }
+    Ok(formats)
+}
+
+/// What a loop over lines wrote, told and answered.
+#[derive(Drop)]
+pub(crate) struct Found {
+    pub(crate) to: ListSink,
+    pub(crate) teller: Notes,
+    pub(crate) end: LinesEnd,
+}
+
+/// The loop over the lines of a text, read by blocks of N bytes, with this maker. At least one format is tried.
+pub(crate) fn run<M: Maker, const N: usize>(
+    alloc: Global,
+    text: &[u8],
+    maker: &mut M,
+    formats: &LineFormats<'_>,
+    options: LinesOptions,
+) -> Result<Found, Fail>
+    requires few { N ≤ 4096 }
+    requires some { 1 ≤ N }
+{
+    if formats.tried.is_empty() || options.limit > 2147483647 {
+        return Err(Fail::new("no format, or a limit too great"));
+    }
+    let mut from = Lookahead::<SliceSource<'_>, N>::new(SliceSource::new(text));
+    let mut to = ListSink::new(alloc);
+    let mut teller = Notes::new(alloc, false);
+    let end = run_lines(
+        alloc,
+        &mut from,
+        &mut to,
+        maker,
+        &mut teller,
+        formats,
+        options,
+    );
+    Ok(Found { to, teller, end })
+}
+
+/// What a loop over lines is to write, to tell and to answer.
+#[derive(Clone, Copy)]
+pub(crate) struct Wanted {
+    pub(crate) output: &'static str,
+    pub(crate) told: &'static str,
+    pub(crate) end: LinesEnd,
+}
+
+/// The loop comes to what is wanted.
+pub(crate) fn is_ended(
+    rt: &impl Abort,
+    output: &[u8],
+    told: &[u8],
+    end: LinesEnd,
+    wanted: &Wanted,
+) {
+    let place = wanted.output;
+    assert!(rt; output == wanted.output.as_bytes(), "{place}");
+    assert!(rt; told == wanted.told.as_bytes(), "{place}");
+    assert_eq!(rt; end, wanted.end, "{place}");
+}
+
+/// The loop wrote and told this, and so many lines were written, and failed.
+pub(crate) fn is_found(
+    rt: &impl Abort,
+    found: &Found,
+    output: &'static str,
+    told: &'static str,
+    (written, failed): (u64, u64),
+) {
+    let end = LinesEnd {
+        status: u8::from(failed > 0),
+        written,
+        failed,
+        fault: None,
+    };
+    let wanted = Wanted { output, told, end };
+    is_ended(rt, found.to.bytes(), &found.teller.said, found.end, &wanted);
 }

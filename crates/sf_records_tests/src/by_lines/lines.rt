@@ -65,15 +65,29 @@ static ROWS: [(&str, usize, &str); 12] = [
     ("abc\n", 2, "ab!|"),
 ];
 
+/// The text has these lines, read in blocks of one byte, of three and of many.
+fn in_all_blocks(
+    rt: &(impl Abort + AllocGlobal),
+    text: &str,
+    limit: usize,
+    wanted: &str,
+) -> Result<(), Fail> {
+    let steps = [ReadStep::Give(text.as_bytes())];
+    has_lines::<1>(rt, &steps, limit, wanted, LineRead::End)?;
+    has_lines::<3>(rt, &steps, limit, wanted, LineRead::End)?;
+    has_lines::<64>(rt, &steps, limit, wanted, LineRead::End)
+}
+
 #[test]
 fn texts_are_cut_into_lines(rt: HostRuntime) -> Result<(), Fail> {
-    for &(text, limit, wanted) in &ROWS {
-        let steps = [ReadStep::Give(text.as_bytes())];
-        has_lines::<1>(&rt, &steps, limit, wanted, LineRead::End)?;
-        has_lines::<3>(&rt, &steps, limit, wanted, LineRead::End)?;
-        has_lines::<64>(&rt, &steps, limit, wanted, LineRead::End)?;
+    for (text, limit, wanted) in &ROWS {
+        in_all_blocks(&rt, text, *limit, wanted)?;
     }
-    // A read fails within a line.
+    Ok(())
+}
+
+#[test]
+fn a_read_fails_within_a_line(rt: HostRuntime) -> Result<(), Fail> {
     let steps = [
         ReadStep::Give(b"ab\nc"),
         ReadStep::Fail,

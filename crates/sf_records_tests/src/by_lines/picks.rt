@@ -1,16 +1,12 @@
 //! Lines that are ignored, lines that match nothing, and lines whose values don't fit, with values found by reading the
 //! rules of the loop.
-ghost use Rattle.std.specs.Prelude.{◌≤◌, ◌<◌, length};
-
-use crate::by_lines::hands::Notes;
+use crate::by_lines::hands::{is_found, parsed, run};
 use sf_base::Kind;
 use sf_format::{PrintFormat, Profile, ScanFormat};
-use sf_forms::{FormMaker, Maker, PrintMaker, PrintMismatch, check_print};
+use sf_forms::{FormMaker, PrintMaker, PrintMismatch, check_print};
 use sf_pair::Pair;
-use sf_print::ListSink;
-use sf_read::{Lookahead, SliceSource};
-use sf_records::{CopyMaker, LineFormats, LinesEnd, LinesOptions, OutputForm, run_lines};
-use std::alloc::{AllocGlobal, Global};
+use sf_records::{CopyMaker, LineFormats, LinesOptions, OutputForm};
+use std::alloc::Global;
 use std::process::Abort;
 use std::test::Fail;
 
@@ -38,72 +34,11 @@ const MATCHING_WHOLE: LinesOptions = LinesOptions {
     matching: true,
 };
 
-/// The formats of the texts, one after the other, up to an empty one.
-fn parsed(alloc: Global, texts: (&str, &str)) -> Result<Vec<ScanFormat>, Fail> {
-    let mut formats = Vec::new(alloc);
-    if texts.0 != "" {
-        formats.push(ScanFormat::parse(alloc, Profile::One, texts.0.as_bytes())?)?;
-    }
-    if texts.1 != "" {
-        formats.push(ScanFormat::parse(alloc, Profile::One, texts.1.as_bytes())?)?;
-    }
-    Ok(formats)
-}
-
-/// What a loop over lines wrote, told and answered.
-#[derive(Drop)]
-struct Found {
-    to: ListSink,
-    teller: Notes,
-    end: LinesEnd,
-}
-
-/// The loop over the lines of the text, with this maker.
-fn run<M: Maker>(
-    alloc: Global,
-    text: &str,
-    maker: &mut M,
-    ignored: &[ScanFormat],
-    tried: &[ScanFormat],
-    options: LinesOptions,
-) -> Found
-    requires limit { options.limit ≤ 2147483647 }
-    requires some { 0 < length tried.now }
-{
-    let mut from = Lookahead::<SliceSource<'_>, 7>::new(SliceSource::new(text.as_bytes()));
-    let mut to = ListSink::new(alloc);
-    let mut teller = Notes {
-        said: Vec::new(alloc),
-        failed: false,
-        refuses: false,
-    };
-    let formats = LineFormats { ignored, tried };
-    let end = run_lines(
-        alloc,
-        &mut from,
-        &mut to,
-        maker,
-        &mut teller,
-        &formats,
-        options,
-    );
-    Found { to, teller, end }
-}
-
-/// This was written and told, and the counts are these.
-fn is_found(rt: &impl Abort, found: &Found, output: &str, told: &str, counts: (u64, u64)) {
-    assert!(rt; found.to.bytes() == output.as_bytes(), "{output}");
-    assert!(rt; found.teller.said.as_slice() == told.as_bytes(), "{output}");
-    assert_eq!(rt; (found.end.written, found.end.failed), counts, "{output}");
-    assert_eq!(rt; found.end.status, u8::from(counts.1 > 0), "{output}");
-    assert_eq!(rt; found.end.fault, None, "{output}");
-}
-
 /// Formats by which lines are passed over, and formats that are tried; how; an input; what is written and told; and
 /// the counts of both.
 type Row = (
-    (&'static str, &'static str),
-    (&'static str, &'static str),
+    &'static [&'static str],
+    &'static [&'static str],
     LinesOptions,
     &'static str,
     &'static str,
@@ -114,8 +49,8 @@ type Row = (
 static ROWS: [Row; 10] = [
     // Blank lines and comments are passed over.
     (
-        (" ", ""),
-        ("%d", ""),
+        &[" "],
+        &["%d"],
         KEEP_GOING,
         "1\n\n  \n2\n",
         "1\n2\n",
@@ -123,8 +58,8 @@ static ROWS: [Row; 10] = [
         (2, 0),
     ),
     (
-        ("#%*[^\n]", "#"),
-        ("%d", ""),
+        &["#%*[^\n]", "#"],
+        &["%d"],
         KEEP_GOING,
         "#x\n1\n#\n2 #\n",
         "1\n2\n",
@@ -132,19 +67,11 @@ static ROWS: [Row; 10] = [
         (2, 0),
     ),
     // A format that leaves something of a line doesn't take it.
-    (
-        ("%*d", ""),
-        ("%d", ""),
-        KEEP_GOING,
-        "1\n2 x\n",
-        "2\n",
-        "",
-        (1, 0),
-    ),
+    (&["%*d"], &["%d"], KEEP_GOING, "1\n2 x\n", "2\n", "", (1, 0)),
     // A line above the limit isn't tried.
     (
-        ("#%*[^\n]", ""),
-        ("%d", ""),
+        &["#%*[^\n]"],
+        &["%d"],
         KEEP_GOING,
         "#23456789\n1\n",
         "1\n",
@@ -152,8 +79,8 @@ static ROWS: [Row; 10] = [
         (1, 1),
     ),
     (
-        ("%*[^\n]", ""),
-        ("%d", ""),
+        &["%*[^\n]"],
+        &["%d"],
         KEEP_GOING,
         "1\n\n",
         "",
@@ -162,26 +89,18 @@ static ROWS: [Row; 10] = [
     ),
     // Lines that match no format are passed over.
     (
-        ("", ""),
-        ("%d", ""),
+        &[],
+        &["%d"],
         MATCHING,
         "x\n1\n\n2 y\nz",
         "1\n2\n",
         "",
         (2, 0),
     ),
+    (&[], &["%d"], MATCHING_WHOLE, "1 y\n2\n", "2\n", "", (1, 0)),
     (
-        ("", ""),
-        ("%d", ""),
-        MATCHING_WHOLE,
-        "1 y\n2\n",
-        "2\n",
-        "",
-        (1, 0),
-    ),
-    (
-        ("", ""),
-        ("a%d", "b%d"),
+        &[],
+        &["a%d", "b%d"],
         MATCHING,
         "c1\nb2\na3\n",
         "2\n3\n",
@@ -190,8 +109,8 @@ static ROWS: [Row; 10] = [
     ),
     // A number that is out of range is told.
     (
-        ("", ""),
-        ("%hhd", ""),
+        &[],
+        &["%hhd"],
         MATCHING,
         "x\n1\n128\n2\n",
         "1\n",
@@ -199,8 +118,8 @@ static ROWS: [Row; 10] = [
         (1, 1),
     ),
     (
-        ("", ""),
-        ("%d", ""),
+        &[],
+        &["%d"],
         MATCHING,
         "x\n123456789\n2\n",
         "",
@@ -209,21 +128,42 @@ static ROWS: [Row; 10] = [
     ),
 ];
 
+/// The loop over the row's lines comes to what the row says.
+fn is_row(rt: &(impl Abort + AllocGlobal), row: &Row) -> Result<(), Fail> {
+    let (ignored, tried, options, text, output, told, counts) = row;
+    let ignored = parsed(rt.alloc(), ignored)?;
+    let tried = parsed(rt.alloc(), tried)?;
+    let formats = LineFormats {
+        ignored: &ignored,
+        tried: &tried,
+    };
+    let mut maker = FormMaker::new(rt.alloc(), OutputForm::Plain);
+    let found = run::<_, 7>(rt.alloc(), text.as_bytes(), &mut maker, &formats, *options)?;
+    is_found(rt, &found, output, told, *counts);
+    Ok(())
+}
+
 #[test]
 fn lines_are_picked(rt: HostRuntime) -> Result<(), Fail> {
     for row in &ROWS {
-        let (ignored, tried, options, text, output, told, counts) = *row;
-        let ignored = parsed(rt.alloc(), ignored)?;
-        let tried = parsed(rt.alloc(), tried)?;
-        if tried.is_empty() {
-            continue;
-        }
-        let limit = options.limit.min(8);
-        let options = LinesOptions { limit, ..options };
-        let mut maker = FormMaker::new(rt.alloc(), OutputForm::Plain);
-        let found = run(rt.alloc(), text, &mut maker, &ignored, &tried, options);
-        is_found(&rt, &found, output, told, counts);
+        is_row(&rt, row)?;
     }
+    Ok(())
+}
+
+/// The lines of a text copied by the pair.
+fn are_copied(
+    rt: &(impl Abort + AllocGlobal),
+    pair: &Pair<'_>,
+    formats: &LineFormats<'_>,
+) -> Result<(), Fail> {
+    let text = b"12;\n123;\nx\n4;\n";
+    let mut maker = CopyMaker::new(pair);
+    let found = run::<_, 7>(rt.alloc(), text, &mut maker, formats, KEEP_GOING)?;
+    is_found(rt, &found, "+12;+4;", "2u13mx", (2, 2));
+    // A line whose values don't fit is told as well where those that match nothing aren't.
+    let found = run::<_, 7>(rt.alloc(), text, &mut maker, formats, MATCHING)?;
+    is_found(rt, &found, "+12;", "2u1", (1, 1));
     Ok(())
 }
 
@@ -232,30 +172,25 @@ fn lines_are_copied(rt: HostRuntime) -> Result<(), Fail> {
     let print = PrintFormat::parse(rt.alloc(), Profile::One, b"%+d;")?;
     let scan = ScanFormat::parse(rt.alloc(), Profile::One, b"%3d;")?;
     let pair = Pair::check(&print, &scan)?;
-    let tried = parsed(rt.alloc(), ("%3d;", ""))?;
-    if tried.is_empty() {
-        return Ok(());
-    }
-    let mut maker = CopyMaker::new(&pair);
-    let text = "12;\n123;\nx\n4;\n";
-    let found = run(rt.alloc(), text, &mut maker, &[], &tried, KEEP_GOING);
-    is_found(&rt, &found, "+12;+4;", "2u13mx", (2, 2));
-    // A line whose values don't fit is told as well where those that match nothing aren't.
-    let found = run(rt.alloc(), text, &mut maker, &[], &tried, MATCHING);
-    is_found(&rt, &found, "+12;", "2u1", (1, 1));
-    Ok(())
+    let tried = parsed(rt.alloc(), &["%3d;"])?;
+    let formats = LineFormats {
+        ignored: &[],
+        tried: &tried,
+    };
+    are_copied(&rt, &pair, &formats)
 }
 
 #[test]
 fn lines_are_printed(rt: HostRuntime) -> Result<(), Fail> {
     let print = PrintFormat::parse(rt.alloc(), Profile::One, b"%2$c,%1$d\n")?;
-    let tried = parsed(rt.alloc(), ("%hhd %s", ""))?;
-    if tried.is_empty() {
-        return Ok(());
-    }
+    let tried = parsed(rt.alloc(), &["%hhd %s"])?;
+    let formats = LineFormats {
+        ignored: &[],
+        tried: &tried,
+    };
+    let text = b"-1 a\n2 bc\nx\n3 d\n";
     let mut maker = PrintMaker::new(&print);
-    let text = "-1 a\n2 bc\nx\n3 d\n";
-    let found = run(rt.alloc(), text, &mut maker, &[], &tried, KEEP_GOING);
+    let found = run::<_, 7>(rt.alloc(), text, &mut maker, &formats, KEEP_GOING)?;
     is_found(&rt, &found, "a,-1\nd,3\n", "2u23mx", (2, 2));
     Ok(())
 }
@@ -323,13 +258,17 @@ static JUDGED: [(&str, &str, Option<PrintMismatch>); 12] = [
     ),
 ];
 
+/// Why a print format can't print the records of a scan format.
+fn mismatch(alloc: Global, print: &str, scan: &str) -> Result<Option<PrintMismatch>, Fail> {
+    let print = PrintFormat::parse(alloc, Profile::One, print.as_bytes())?;
+    let scan = ScanFormat::parse(alloc, Profile::One, scan.as_bytes())?;
+    Ok(check_print(&print, &scan).err())
+}
+
 #[test]
 fn prints_are_judged(rt: HostRuntime) -> Result<(), Fail> {
     for (print, scan, why) in &JUDGED {
-        let print = PrintFormat::parse(rt.alloc(), Profile::One, print.as_bytes())?;
-        let scan = ScanFormat::parse(rt.alloc(), Profile::One, scan.as_bytes())?;
-        let found = check_print(&print, &scan).err();
-        assert_eq!(rt; found, *why);
+        assert_eq!(rt; mismatch(rt.alloc(), print, scan)?, *why);
     }
     Ok(())
 }

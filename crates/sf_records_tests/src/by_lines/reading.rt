@@ -2,6 +2,7 @@
 use sf_base::{HeapStore, Value};
 use sf_format::{Profile, ScanFormat};
 use sf_read::{Lookahead, SliceSource, sscan, sscan_over};
+use sf_run::{Report, Scanned};
 use std::alloc::Global;
 use std::test::Fail;
 
@@ -32,23 +33,23 @@ fn a_lookahead_is_read_block_by_block(rt: HostRuntime) {
     assert!(rt; comes_in_blocks(&mut from));
 }
 
-/// Whether the second of two texts is scanned over a store that holds what the first gave.
-fn is_scanned_over(alloc: Global, format: &ScanFormat, store: HeapStore) -> bool {
-    match sscan_over(alloc, store, b"d -3 e", format, 99) {
-        Ok(second) => {
-            let report = second.report();
-            report.value(1) == Some(Value::Text(b"d"))
-                && report.value(2) == Some(Value::I32(-3))
-                && report.outcome().used == 4
-        }
-        Err(_) => false,
-    }
+/// The second of two texts, scanned over a store that holds what the first gave.
+fn second_of(alloc: Global, format: &ScanFormat) -> Result<Scanned<HeapStore>, Fail> {
+    let first = sscan(alloc, b"abc 12", format, 99)?;
+    Ok(sscan_over(alloc, first.into_store(), b"d -3 e", format, 99)?)
+}
+
+/// The report is of `d -3`.
+fn is_second(report: &Report<'_, HeapStore>) -> bool {
+    report.value(1) == Some(Value::Text(b"d"))
+        && report.value(2) == Some(Value::I32(-3))
+        && report.outcome().used == 4
 }
 
 #[test]
 fn texts_are_scanned_over_one_store(rt: HostRuntime) -> Result<(), Fail> {
     let format = ScanFormat::parse(rt.alloc(), Profile::One, b"%s %d")?;
-    let first = sscan(rt.alloc(), b"abc 12", &format, 99)?;
-    assert!(rt; is_scanned_over(rt.alloc(), &format, first.into_store()));
+    let second = second_of(rt.alloc(), &format)?;
+    assert!(rt; is_second(&second.report()));
     Ok(())
 }

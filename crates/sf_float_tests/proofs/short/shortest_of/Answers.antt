@@ -14,5 +14,6 @@ returns c =
       text = text;
       reads = ap (parse_float binary64) text ∙ c.reads_back.ensures r ranged;
       fewest = λ n last some same. c.none_shorter.ensures r n last ranged some same;
+      nearest = λ n last some same few. c.none_nearer.ensures r n last ranged some same few;
       bytes = subst (All IsShort) (sym text) (c.has_short_bytes.ensures r);
     }

@@ -8,19 +8,22 @@ use Rattle.sf_format.proofs.judgement.judge.Goals as goal
 pub returns-in_err-slots : goal.returns-in_err-slots
 returns-in_err-slots g c =
     let p = err_from_is_err_and c.from_residual.result c.from_residual.ensures.1 in
-    rw (p.1, p.2)
-    (read_judged (g.G.Grammar.language c.args.grammar) c.args.text.now (Err (fault_of c.in_err-slots.field-0.0)) c.if-text-gt4096.false
-    c.in_err-slots.ensures)
+    rw (p.1, p.2) (record {
+      judged = tt;
+      gathered = tt;
+      fault = read_judged (g.G.Grammar.language c.args.grammar) c.args.text.now (Err (fault_of c.in_err-slots.field-0.0))
+          c.if-text-gt4096.false c.in_err-slots.ensures.fault;
+    })
 
-pub returns-in-Some : goal.returns-in-Some
-returns-in-Some g c =
-    let walked = c.in_ok-slots.ensures in
+pub returns-in-Some-clause-fault : goal.returns-in-Some-clause-fault
+returns-in-Some-clause-fault g c =
+    let walked = c.in_ok-slots.ensures.walked in
     read_judged (g.G.Grammar.language c.args.grammar) c.args.text.now (Ok walked.0) c.if-text-gt4096.false walked.1
     ∙ rw (← c.in-Some.ensures walked.0 walked.1)
 
 pub overflow_cast-result : goal.overflow_cast-result
 overflow_cast-result g c =
-    let walked = c.in_ok-slots.ensures in
+    let walked = c.in_ok-slots.ensures.walked in
     omega (
       arith,
       judged_few (g.G.Grammar.language c.args.grammar) c.args.text.now c.in_ok-slots.slots.count
@@ -29,8 +32,8 @@ overflow_cast-result g c =
           (c.in-None.ensures walked.0 walked.1)),
     )
 
-pub returns-in-None : goal.returns-in-None
-returns-in-None g c =
-    let walked = c.in_ok-slots.ensures in
+pub returns-in-None-clause-judged : goal.returns-in-None-clause-judged
+returns-in-None-clause-judged g c =
+    let walked = c.in_ok-slots.ensures.walked in
     all_judged (g.G.Grammar.language c.args.grammar) c.args.text.now c.in_ok-slots.slots c.if-text-gt4096.false walked
     (c.in-None.ensures walked.0 walked.1)

@@ -2,6 +2,8 @@ use Rattle.std.proofs.Common.{ℕ, List, [], ◌∷◌, Some, Ok, ap, refl, subs
 use Rattle.sf_format.specs.declared.directive.Directive.{Directive}
 use Rattle.sf_read.specs.field.Rows.{slots_by}
 use Rattle.sf_read.specs.line.Cut.{lines_of}
+use Rattle.sf_read.specs.declared.matching.Match.{Match}
+use Rattle.sf_read.specs.declared.matching.Match.TheVariants.{Front}
 use Rattle.sf_loops.specs.LineLaws.{AreAnswersOf}
 use Rattle.sf_loops.specs.Lines.{IsNextLineRow}
 use Rattle.sf_loops_tests.proofs.Turned.{line_goes}
@@ -24,6 +26,7 @@ returns g c =
     let rows = Ok row ∷ [] in
     let all = c.none_is_the_end.ensures old mid new rows (mid, one, goes, refl) end c.args.text.now
     (rw (begun.held, begun.source, c.new.ensures) refl) in
-    subst (λ (ds : List Directive). AreAnswersOf kinds given ds 1000 0 (lines_of c.args.text.now) rows) begun.format.0
-    (subst (λ (m : ℕ). AreAnswersOf kinds given old.format m 0 (lines_of c.args.text.now) rows) begun.format.1
-    (subst (λ (n : ℕ). AreAnswersOf kinds given old.format old.limit n (lines_of c.args.text.now) rows) begun.none_yet.0 all))
+    subst (λ (ds : List Directive). AreAnswersOf kinds given ds 1000 Front 0 (lines_of c.args.text.now) rows) begun.format.0
+    (subst (λ (m : ℕ). AreAnswersOf kinds given old.format m Front 0 (lines_of c.args.text.now) rows) begun.format.1
+    (subst (λ (w : Match). AreAnswersOf kinds given old.format old.limit w 0 (lines_of c.args.text.now) rows) begun.matching
+    (subst (λ (n : ℕ). AreAnswersOf kinds given old.format old.limit old.matching n (lines_of c.args.text.now) rows) begun.none_yet.0 all)))

@@ -1,6 +1,8 @@
 use Rattle.std.proofs.Common.{ℕ, List, [], ◌∷◌, Some, Ok, ap, refl, subst, ◌∙◌}
 use Rattle.sf_format.specs.declared.directive.Directive.{Directive}
 use Rattle.sf_read.specs.field.Rows.{slots_by}
+use Rattle.sf_read.specs.declared.matching.Match.{Match}
+use Rattle.sf_read.specs.declared.matching.Match.TheVariants.{Front}
 use Rattle.sf_loops.specs.LineLaws.{AreAnswersOf}
 use Rattle.sf_loops.specs.Lines.{IsNextLineRow}
 use Rattle.sf_loops_tests.proofs.Turned.{line_goes}
@@ -28,7 +30,8 @@ returns g c =
       all.0,
       all.1,
       all.2,
-      subst (λ (ds : List Directive). AreAnswersOf kinds given ds 1000 0 all.0 rows) begun.format.0
-          (subst (λ (m : ℕ). AreAnswersOf kinds given old.format m 0 all.0 rows) begun.format.1
-          (subst (λ (n : ℕ). AreAnswersOf kinds given old.format old.limit n all.0 rows) begun.none_yet.0 all.4)),
+      subst (λ (ds : List Directive). AreAnswersOf kinds given ds 1000 Front 0 all.0 rows) begun.format.0
+          (subst (λ (m : ℕ). AreAnswersOf kinds given old.format m Front 0 all.0 rows) begun.format.1
+          (subst (λ (w : Match). AreAnswersOf kinds given old.format old.limit w 0 all.0 rows) begun.matching
+          (subst (λ (n : ℕ). AreAnswersOf kinds given old.format old.limit old.matching n all.0 rows) begun.none_yet.0 all.4))),
     )

@@ -1,4 +1,4 @@
-use Rattle.std.proofs.Common.{◌≡◌, ◌++◌, IfOk, codes, subst, sym}
+use Rattle.std.proofs.Common.{◌≡◌, ◌++◌, IfOk, subst, sym}
 use Rattle.sf_messages.specs.Notes.{value_note, value_notes}
 use Rattle.sf_messages.specs.Sentences.{no_value_text}
 use Rattle.sf_messages.proofs.notes.value_notes.Goals as goal

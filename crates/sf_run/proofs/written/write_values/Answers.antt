@@ -8,7 +8,8 @@ use Rattle.sf_format.specs.declared.layout.Row.{Row}
 use Rattle.sf_format.specs.Proper.{slots_of}
 use Rattle.sf_run.specs.Written.{IsWritten, PassesWriting, text_given}
 use Rattle.sf_run.specs.declared.written.WrittenRun.{WrittenRun}
-use Rattle.sf_run.proofs.AtOnce.{Counted, counted_run, counting_on, nothing_counted}
+use Rattle.sf_run.specs.Counting.{Counted}
+use Rattle.sf_run.proofs.AtOnce.{counted_run, counting_on, nothing_counted, some_slot}
 use Rattle.sf_run.proofs.Moves.{proper_at}
 use Rattle.sf_run.proofs.RowsLeft.{as_many, first_left, from_end, left_next, nothing_left, opens, still_left}
 use Rattle.sf_run.proofs.Following.{next_written, written_as}
@@ -54,10 +55,11 @@ loop-row-init g c =
       low = omega arith;
       counted = λ capacity. (
         nothing_kept capacity,
-        subst (λ n. Counted ds front front n (nothing_kept capacity)) (sym none)
+        subst (λ n. Counted ds front front n (record { assigned = 0; converted = 0 }) (nothing_kept capacity)) (sym none)
             (nothing_counted ds front (nothing_kept capacity) capacity refl c.directives-directives.ensures.few),
         refl,
         refl,
+        ap (λ n. slots_of (take n ds)) {x = 0} {y = length rows - length rows} (sym none),
       );
     }
 
@@ -119,11 +121,14 @@ loop-row-preserved g c =
           let kept : Kept = so_far.0 in
           let new : Kept = kept_with w.end kept in (
             new,
-            subst (λ k. Counted ds.result.now front c.split_at-in-Some.result.1.now k new) next
-                (counting_on ds.result.now front rest c.split_at-in-Some.result.1.now i d n kept new passed.used at so_far.1 refl
-                (keeps text d n rest passed.used _ _ kept w) c.split_at-in-Some.ensures.back),
+            subst (λ k. Counted ds.result.now front c.split_at-in-Some.result.1.now k (record { assigned = 0; converted = 0 }) new) next
+                (counting_on ds.result.now front rest c.split_at-in-Some.result.1.now i d n (record { assigned = 0; converted = 0 }) kept
+                new
+                passed.used at so_far.1 refl (keeps text d n rest passed.used _ _ kept w) c.split_at-in-Some.ensures.back),
             w.written ∙ ap (λ (t : List ℕ). t ++ text_given text w.end) so_far.2 ∙ sym (text_after text w.end kept.values),
             so_far.3,
+            some_slot ds.result.now i d kept.values w.end at w.own w.passes so_far.4
+                ∙ ap (λ k. slots_of (take k ds.result.now)) {x = i + 1} {y = length rows - length others} next,
           );
     }
 
@@ -194,6 +199,6 @@ returns-clause-run g c =
           (length rows - length left) all c.split_at.ensures.front
           (let long = c.split_at.ensures.front_len in let least = c.min-most.ensures in
           omega (arith, long, least)) counted z ending;
-      slots = counted.going.given ∙ ap slots_of (take_all (length rows - length left) ds.result.now all);
+      slots = so_far.4 ∙ ap slots_of (take_all (length rows - length left) ds.result.now all);
       written = so_far.2;
     })

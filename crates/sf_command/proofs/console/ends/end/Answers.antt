@@ -1,4 +1,4 @@
-use Rattle.std.proofs.Common.{◌≡◌, ◌∙◌, ◌++◌, ℕ, List, Ok, Err, refl, subst}
+use Rattle.std.proofs.Common.{◌≡◌, ◌∙◌, ◌++◌, ℕ, List, refl, subst}
 use Rattle.sf_messages.specs.Texts.{error_line}
 use Rattle.sf_command.specs.console.Saying.{Says}
 use Rattle.sf_command.proofs.console.ends.end.Goals as goal

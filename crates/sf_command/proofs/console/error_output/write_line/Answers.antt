@@ -1,4 +1,4 @@
-use Rattle.std.proofs.Common.{◌≡◌, ◌++◌, false, List, ℕ, Option, ap, codes, drop, inr, subst, sym}
+use Rattle.std.proofs.Common.{◌++◌, false, ap, codes, drop, inr, subst, sym}
 use Rattle.std.specs.Prelude.{option_map}
 use Rattle.sf_print.proofs.Appending.{Appends-none}
 use Rattle.sf_records.specs.by_lines.Telling.{Tells}

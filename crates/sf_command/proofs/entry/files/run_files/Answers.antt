@@ -1,4 +1,4 @@
-use Rattle.std.proofs.Common.{◌≡◌, ◌+◌, ◌-◌, ℕ, suc, Some, ap, arith, length, refl, string_bytes, subst}
+use Rattle.std.proofs.Common.{◌+◌, ◌-◌, suc, ap, arith, length, refl, string_bytes, subst}
 use Rattle.sf_words.specs.declared.order.Order.{Order}
 use Rattle.sf_command.specs.entry.Files.{RunsFile}
 use Rattle.sf_command.proofs.EntryLemmas.Filing.{has_name, same_next, then_next, then_none}

@@ -1,4 +1,4 @@
-use Rattle.std.proofs.Common.{[], Err, map, rules, string_bytes, subst}
+use Rattle.std.proofs.Common.{Err, map, rules, string_bytes, subst}
 use Rattle.sf_command.specs.jobs.Commands.{grammar_of}
 use Rattle.sf_command.specs.entry.Exits.{EndsRefused}
 use Rattle.sf_command.specs.console.Ends.{EndsKnown}

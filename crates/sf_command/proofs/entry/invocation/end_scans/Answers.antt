@@ -1,10 +1,10 @@
-use Rattle.std.proofs.Common.{◌++◌, [], Err, inl, map, refl, string_bytes, subst}
+use Rattle.std.proofs.Common.{◌++◌, Err, inl, inr, map, refl, string_bytes, subst}
 use Rattle.std.specs.Prelude.{option_map}
 use Rattle.sf_command.specs.jobs.Commands.{form_of, grammar_of}
 use Rattle.sf_command.specs.entry.Exits.{EndsRefused}
 use Rattle.sf_command.specs.console.Ends.{EndsKnown}
 use Rattle.sf_command.specs.jobs.LinesJobs.{IsRefused}
-use Rattle.sf_command.proofs.LineJobLemmas.Lining.{more_of_refused_lines, nothing_said}
+use Rattle.sf_command.proofs.LineJobLemmas.Lining.{more_of_refused_lines}
 use Rattle.sf_command.proofs.entry.invocation.end_scans.Goals as goal
 
 -- the words are refused
@@ -34,30 +34,40 @@ returns-in-Err g c =
             notes,
             more_of_refused_lines (grammar_of order.profile) (form_of order.output) print passed words c.args.explain word notes fault
                 refused says,
-            ends,
+            (notes, inr refl, ends),
           ),
         ),
       ),
     )
 
--- the lines are scanned, and nothing is said after the line of the answer
+-- the lines are scanned, and what is said after the line of the answer is said of it
 pub returns-in-Ok : goal.returns-in-Ok
 returns-in-Ok g c =
     let order = c.args.order.now in
     let answer = c.scan_lines-answer.result in
+    let notes = c.notes_of_lines-notes.result.items in
+    let all = c.with_passed_hint-all.result.items in
     let print = option_map string_bytes order.print in
     let words = map string_bytes order.ignored.items ++ map string_bytes order.texts.items in
-    let ends = subst (λ (s : _). EndsKnown g.C.Console.Hands g.C.Console.said g.C.Console.unsaid c.args.watched c.args.explain
-    (g.R.Reasons.why_unread s) (g.C.Console.why c.scan_lines-answer.new.out) order [] answer c.scan_lines-answer.new.out
-    c.end_known.new.out c.scan_lines-answer.new.err c.end_known.new.err c.end_known.result) c.source-source.ensures
-    c.end_known.ensures in (
+    let by_source = subst (λ (s : _). EndsKnown g.C.Console.Hands g.C.Console.said g.C.Console.unsaid c.args.watched c.args.explain
+    (g.R.Reasons.why_unread s) (g.C.Console.why c.scan_lines-answer.new.out) order c.deref.result.now answer
+    c.scan_lines-answer.new.out c.end_known.new.out c.scan_lines-answer.new.err c.end_known.new.err c.end_known.result)
+    c.source-source.ensures c.end_known.ensures in
+    let ends = subst (λ told. EndsKnown g.C.Console.Hands g.C.Console.said g.C.Console.unsaid c.args.watched c.args.explain
+    (g.R.Reasons.why_unread c.scan_lines-answer.new.from.source) (g.C.Console.why c.scan_lines-answer.new.out) order told answer
+    c.scan_lines-answer.new.out c.end_known.new.out c.scan_lines-answer.new.err c.end_known.new.err c.end_known.result)
+    c.deref.ensures.value by_source in (
       answer,
       (
         c.scan_lines-answer.new.out,
         (
           c.scan_lines-answer.new.err,
           c.scan_lines-answer.ensures,
-          ([], nothing_said c.args.explain (grammar_of order.profile) print words answer, ends),
+          (
+            notes,
+            c.notes_of_lines-notes.ensures (grammar_of order.profile) print words,
+            (all, c.with_passed_hint-all.ensures, ends),
+          ),
         ),
       ),
     )

@@ -1,4 +1,4 @@
-use Rattle.std.proofs.Common.{◌≡◌, ◌∙◌, ℕ, List, false, inr, subst, sym}
+use Rattle.std.proofs.Common.{◌≡◌, ◌∙◌, false, inr, subst, sym}
 use Rattle.sf_print.specs.blocks.Blocks.{faults_of, handed_to}
 use Rattle.sf_messages.specs.Texts.{error_line}
 use Rattle.sf_messages.specs.declared.fault.CommandFault.TheVariants.{Write}

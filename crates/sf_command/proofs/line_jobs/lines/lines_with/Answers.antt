@@ -1,4 +1,4 @@
-use Rattle.std.proofs.Common.{◌≡◌, ◌∙◌, ◌-◌, Some, get_or, length, subst, sym, arith, rules, List}
+use Rattle.std.proofs.Common.{◌≡◌, ◌∙◌, ◌-◌, get_or, length, subst, sym, arith, rules, List}
 use Rattle.std.specs.Prelude.{option_map}
 use Rattle.std.proofs.lemmas.Option.{same_Some, slice_get-get_or}
 use Rattle.sf_format.specs.declared.directive.Directive.{Directive}

@@ -1,4 +1,4 @@
-use Rattle.std.proofs.Common.{◌≡◌, Bool, false, subst}
+use Rattle.std.proofs.Common.{◌≡◌, Bool, subst}
 use Rattle.sf_records.specs.by_lines.Loops.{TellsLines}
 use Rattle.sf_records.specs.by_lines.Telling.{faults_by}
 use Rattle.sf_command.specs.line_jobs.Lines.{scanning}

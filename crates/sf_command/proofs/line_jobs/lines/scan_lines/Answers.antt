@@ -1,4 +1,4 @@
-use Rattle.std.proofs.Common.{◌≡◌, ◌<◌, ◌-◌, ◌++◌, ◌∙◌, ap, arith, length, map, rules, string_bytes, subst, sym, inr, true, List, Some, ℕ}
+use Rattle.std.proofs.Common.{◌≡◌, ◌<◌, ◌-◌, ◌∙◌, ap, arith, length, map, rules, string_bytes, subst, sym, inr, true, List, Some, ℕ}
 use Rattle.std.specs.Prelude.{option_map, slice_get}
 use Rattle.std.proofs.lemmas.List.{length-map}
 use Rattle.sf_format.specs.declared.directive.Directive.{Directive}

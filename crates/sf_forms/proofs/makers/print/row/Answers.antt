@@ -1,4 +1,4 @@
-use Rattle.std.proofs.Common.{arith}
+use Rattle.std.proofs.Common.{◌+◌, arith, sym}
 use Rattle.sf_base.specs.Data.{datum_of}
 use Rattle.sf_forms.specs.makers.Prints.{printed_at}
 use Rattle.sf_forms.proofs.MakerLemmas.RowSlots.{with_some}
@@ -12,3 +12,8 @@ loop-before-preserved g c =
       are = with_some datum_of (printed_at c.args.print.now c.args.report.now.values) l.before l.values.items _ c.in-Some.value
           l.invariant.are c.in-Some.ensures c.push.ensures.items;
     }
+
+-- the slot that is missing is that of this turn
+pub returns-in-None-clause-missing : goal.returns-in-None-clause-missing
+returns-in-None-clause-missing g c =
+    (c.loop-before.before + 1, omega arith, omega (arith, c.loop-before-test.true), sym c.in-None.ensures)

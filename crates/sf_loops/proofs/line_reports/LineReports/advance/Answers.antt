@@ -10,15 +10,17 @@ returns-in-Line-clause-format g c = c.judge.ensures.format ∙ ap (λ (l : LineL
 pub returns-in-Line-clause-next : goal.returns-in-Line-clause-next
 returns-in-Line-clause-next g c =
     next_by g.S.Source.to_come g.S.Source.reads g.S.Source.failures g.row.N _ c.args.self.now c.judge.new.self c.next_line.new.from _ _
-    c.judge.result c.self.view_is c.judge.ensures.ahead c.in-Line.ensures.reads c.in-Line.ensures.waited c.in-Line.ensures.failures
+    c.judge.result c.self.view_is c.judge.ensures.ahead c.judge.ensures.matching c.in-Line.ensures.reads c.in-Line.ensures.waited
+    c.in-Line.ensures.failures
     c.in-Line.ensures.refused (λ e. (let k = c.judge.ensures.kept e in omega (arith, k, c.in-Line.ensures.capacity))) c.judge.ensures.roomy
-    (λ open'. comes_of_line _ _ c.judge.new.self c.judge.result (record { format = refl; limit = refl; read = refl })
+    (λ open'. comes_of_line _ _ c.judge.new.self c.judge.result (record { format = refl; limit = refl; matching = refl; read = refl })
     c.judge.ensures.scanned (c.judge.ensures.judged open'))
 
 pub returns-in-TooLong-clause-next : goal.returns-in-TooLong-clause-next
 returns-in-TooLong-clause-next g c =
     next_by g.S.Source.to_come g.S.Source.reads g.S.Source.failures g.row.N _ c.args.self.now c.miss.new.self c.next_line.new.from _ _
-    (Err c.miss.result) c.self.view_is (ap (λ (l : LineLoop g.row.S.Denot). l.ahead) c.miss.ensures.rest) c.in-TooLong.ensures.reads
+    (Err c.miss.result) c.self.view_is (ap (λ (l : LineLoop g.row.S.Denot). l.ahead) c.miss.ensures.rest)
+    (ap (λ (l : LineLoop g.row.S.Denot). l.matching) c.miss.ensures.rest) c.in-TooLong.ensures.reads
     c.in-TooLong.ensures.waited c.in-TooLong.ensures.failures
     c.in-TooLong.ensures.refused (λ e. absurd cc) (λ e. absurd cc)
     (λ open'. missed _ c.miss.new.self _ _ c.miss.result (ap (λ (l : LineLoop g.row.S.Denot). l.format) c.miss.ensures.rest)
@@ -30,7 +32,7 @@ returns-in-TooLong-clause-next g c =
 pub returns-in-End-clause-next : goal.returns-in-End-clause-next
 returns-in-End-clause-next g c =
     next_by g.S.Source.to_come g.S.Source.reads g.S.Source.failures g.row.N _ c.args.self.now _ c.next_line.new.from _ _
-    (Ok false) c.self.view_is refl c.in-End.ensures.reads
+    (Ok false) c.self.view_is refl refl c.in-End.ensures.reads
     c.in-End.ensures.waited c.in-End.ensures.failures
     c.in-End.ensures.refused (λ e. absurd cc) (λ e. absurd cc)
     (λ open'. (refl, record { format = refl; limit = refl; read_are = refl; over_is = refl }))
@@ -38,7 +40,8 @@ returns-in-End-clause-next g c =
 pub returns-in-Fault-clause-next : goal.returns-in-Fault-clause-next
 returns-in-Fault-clause-next g c =
     next_by g.S.Source.to_come g.S.Source.reads g.S.Source.failures g.row.N _ c.args.self.now c.stop.new.self c.next_line.new.from _ _
-    (Err c.stop.result) c.self.view_is (ap (λ (l : LineLoop g.row.S.Denot). l.ahead) c.stop.ensures.rest) c.in-Fault.ensures.reads
+    (Err c.stop.result) c.self.view_is (ap (λ (l : LineLoop g.row.S.Denot). l.ahead) c.stop.ensures.rest)
+    (ap (λ (l : LineLoop g.row.S.Denot). l.matching) c.stop.ensures.rest) c.in-Fault.ensures.reads
     c.in-Fault.ensures.waited c.in-Fault.ensures.failures
     c.in-Fault.ensures.refused (λ e. absurd cc) (λ e. absurd cc)
     (λ open'. stopped _ c.stop.new.self _ c.stop.result (ap (λ (l : LineLoop g.row.S.Denot). l.format) c.stop.ensures.rest)
@@ -52,6 +55,7 @@ returns-in-Endless-clause-next g c =
     next_by g.S.Source.to_come g.S.Source.reads g.S.Source.failures g.row.N _ c.args.self.now c.stop-in-Endless.new.self
     c.next_line.new.from _ _
     (Err c.stop-in-Endless.result) c.self.view_is (ap (λ (l : LineLoop g.row.S.Denot). l.ahead) c.stop-in-Endless.ensures.rest)
+    (ap (λ (l : LineLoop g.row.S.Denot). l.matching) c.stop-in-Endless.ensures.rest)
     c.in-Endless.ensures.reads c.in-Endless.ensures.waited c.in-Endless.ensures.failures
     c.in-Endless.ensures.refused (λ e. absurd cc) (λ e. absurd cc)
     (λ open'. stopped _ c.stop-in-Endless.new.self _ c.stop-in-Endless.result
@@ -66,6 +70,7 @@ returns-in-NoMemory-clause-next g c =
     next_by g.S.Source.to_come g.S.Source.reads g.S.Source.failures g.row.N _ c.args.self.now c.stop-in-NoMemory.new.self
     c.next_line.new.from _ _
     (Err c.stop-in-NoMemory.result) c.self.view_is (ap (λ (l : LineLoop g.row.S.Denot). l.ahead) c.stop-in-NoMemory.ensures.rest)
+    (ap (λ (l : LineLoop g.row.S.Denot). l.matching) c.stop-in-NoMemory.ensures.rest)
     c.in-NoMemory.ensures.reads c.in-NoMemory.ensures.waited c.in-NoMemory.ensures.failures
     c.in-NoMemory.ensures.refused (λ e. absurd cc) (λ e. absurd cc)
     (λ open'. stopped _ c.stop-in-NoMemory.new.self _ c.stop-in-NoMemory.result

@@ -1,16 +1,19 @@
 use Rattle.std.proofs.Common.{inl, inr, ◌≡◌, ◌+◌, ◌∷◌, [], ◌++◌, ◌∙◌, List, Some, true, length, map, refl, sym, ap, subst, arith}
 use Rattle.std.proofs.Common.{append-nil, length-append, true≢false}
+use Rattle.std.proofs.lemmas.Result.{err_from_is_err_and}
 use Rattle.sf_base.specs.Data.{Datum}
 use Rattle.sf_pair.specs.Joined.{joined}
 use Rattle.sf_format.specs.declared.directive.Directive.{Directive}
 use Rattle.std.specs.List.{AllByRecursion}
 use Rattle.sf_read.specs.source.Counts.{counted_on}
 use Rattle.sf_read.specs.field.Rows.{present, slots_by}
-use Rattle.sf_read.specs.RowScans.{HasShape, RowScan, is_run}
+use Rattle.std.specs.Prelude.{IfSome}
+use Rattle.sf_read.specs.RowScans.{HasShape, RowScan, difference_of, is_run}
+use Rattle.sf_read.specs.Shapes.{IsDifference}
 use Rattle.sf_pair_read.specs.declared.rows.fault.ReadRowsFault.{ReadRowsFault}
-use Rattle.sf_pair_read.specs.rows.Reading.{IsMemory, RefusesNext, RowsInTurn}
+use Rattle.sf_pair_read.specs.rows.Reading.{IsMemory, IsUnshaped, RefusesNext, RowsInTurn}
 use Rattle.sf_pair_read.proofs.RowLemmas.Back.{Going, all_back, all_read, end_seen, refused, shape_is, start_is, went_on}
-use Rattle.sf_pair_read.proofs.RowLemmas.Turns.{all_and_one, ended, one_more, refuses, scanned}
+use Rattle.sf_pair_read.proofs.RowLemmas.Turns.{all_and_one, ended, one_more, refuses, scanned, unshaped_stops}
 use Rattle.sf_pair_read.proofs.rows.reading.read_rows.Goals as goal
 
 pub loop-init : goal.loop-init
@@ -192,8 +195,10 @@ returns-in-Err-clause-stops g c = record {
       g.row.N g.T.Row.kinds (slots_by g.T.Row.given g.T.Row.listed) ds c.args.limit c.loop.from c.scan_row_over.new.from
       c.scan_row_over.result) c.scan-in-loop.ensures.value c.scan_row_over.ensures.run) c.in-Err.why c.in-Err.is (sym c.is_end.ensures
       ∙ c.if-is_end.false) c.scan_row_over.ensures.unread
-      (subst (HasShape g.T.Row.kinds g.T.Row.optional) c.scan.ensures.value (c.if-not-has_shape.ensures.same.0 refl))
+      (subst (HasShape g.T.Row.kinds g.T.Row.optional) c.scan.ensures.value (c.in_ok-check_rows.ensures.same.0 refl))
       (λ h own. c.scan_row_over.ensures.shape.0 h (subst (HasShape g.T.Row.kinds g.T.Row.optional) (sym c.scan-in-loop.ensures.value) own))
+      (subst (λ (ds : List Directive). IfSome (difference_of c.scan_row_over.result) (IsDifference g.T.Row.kinds g.T.Row.optional ds))
+      c.scan-in-loop.ensures.value c.scan_row_over.ensures.differs)
       (λ h. (c.scan_row_over.ensures.limit.0 h).1) c.scan_row_over.ensures.start);
 }
 
@@ -209,11 +214,11 @@ returns-in-Err-push-clause-stops g c = record {
   before = c.loop.rows.items;
   now = c.loop.from;
   turns = c.loop.invariant.turns;
-  number = ap (λ (f : ReadRowsFault). f.row) c.fault_after-in-Err-push.ensures
+  number = ap (λ (f : ReadRowsFault). f.row) c.fault_after.ensures
       ∙ ap counted_on (c.len.ensures ∙ c.in-Err-push.ensures.len ∙ c.loop.rows.ok.0);
   refusal = subst (RefusesNext g.S.Source.to_come g.S.Source.reads g.S.Source.failures g.row.N g.T.Row.kinds g.T.Row.optional
       (slots_by g.T.Row.given g.T.Row.listed) c.args.pair.now.scan c.args.limit c.loop.from c.scan_row_over.new.from)
-      (sym (ap (λ (f : ReadRowsFault). f.why) c.fault_after-in-Err-push.ensures))
+      (sym (ap (λ (f : ReadRowsFault). f.why) c.fault_after.ensures))
       (inr (
         c.in-Ok.row,
         scanned g.S.Source.to_come g.S.Source.reads g.S.Source.failures g.row.N g.T.Row.kinds g.T.Row.optional
@@ -233,17 +238,13 @@ returns-in-Err-push-clause-no_read g c =
 pub returns-in-Err-push-clause-stays : goal.returns-in-Err-push-clause-stays
 returns-in-Err-push-clause-stays g c = λ ended. c.scan_row_over.ensures.stays (c.loop.invariant.stays ended)
 
-pub returns-then-not-has_shape-clause-stops : goal.returns-then-not-has_shape-clause-stops
-returns-then-not-has_shape-clause-stops g c = record {
-  before = [];
-  now = c.args.from.now;
-  turns = refl;
-  number = ap (λ (f : ReadRowsFault). f.row) c.fault_after.ensures;
-  refusal = subst (RefusesNext g.S.Source.to_come g.S.Source.reads g.S.Source.failures g.row.N g.T.Row.kinds g.T.Row.optional
-      (slots_by g.T.Row.given g.T.Row.listed) c.args.pair.now.scan c.args.limit c.args.from.now c.args.from.now)
-      (sym (ap (λ (f : ReadRowsFault). f.why) c.fault_after.ensures)) (
-        refl,
-        λ own. true≢false (sym (c.if-not-has_shape.ensures.same.1
-            (subst (HasShape g.T.Row.kinds g.T.Row.optional) (sym c.scan.ensures.value) own))),
-      );
-}
+pub returns-in_err-check_rows-clause-stops : goal.returns-in_err-check_rows-clause-stops
+returns-in_err-check_rows-clause-stops g c =
+    let p = err_from_is_err_and c.from_residual.result c.from_residual.ensures.1 in
+    let fault : ReadRowsFault = c.in_err-check_rows.field-0.0 in
+    rw (p.1, p.2) (unshaped_stops g.S.Source.to_come g.S.Source.reads g.S.Source.failures g.row.N g.T.Row.kinds g.T.Row.optional
+    (slots_by g.T.Row.given g.T.Row.listed) c.args.pair.now.scan c.args.limit c.args.from.now fault
+    (λ own. true≢false (sym (c.in_err-check_rows.ensures.same.1
+    (subst (HasShape g.T.Row.kinds g.T.Row.optional) (sym c.scan.ensures.value) own))))
+    (subst (λ (ds : List Directive). IsUnshaped g.T.Row.kinds g.T.Row.optional ds fault) c.scan.ensures.value
+    c.in_err-check_rows.ensures.differs))

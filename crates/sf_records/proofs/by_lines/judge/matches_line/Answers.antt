@@ -15,5 +15,5 @@ returns-2 c =
     let fine : is_memory_status r.status ≡ false = ap (λ (x : RunReport). is_memory_status x.status) (sym c.report-report.ensures)
     ∙ sym c.ran_out.ensures ∙ c.if-ran_out.false in
     matches_by o line c.args.format.now r (told_within c.args.format.now o.limit line End r c.in-Ok.ensures.report fine)
-    c.line_fault.result (c.line_fault.ensures ∙ ap (fault_of o line) c.report-report.ensures) c.is_none-matches.result
+    c.line_fault-2.result (c.line_fault-2.ensures ∙ ap (fault_of o line) c.report-report.ensures) c.is_none-matches.result
     c.is_none-matches.ensures

@@ -13,7 +13,7 @@ returns-in-Some-clause-made g c =
     subst (λ (us : List PrintUnit). Makes (printing us c.args.format.now) c.args.report.now (g.K.Sink.contents c.args.to.now)
     (g.K.Sink.contents c.print_row.new.to) c.print_row.result) c.self.view_is
     (full_written units (map datum_of c.deref.result.now) (printed_in units c.args.format.now c.args.report.now)
-    (ap (λ vs. map Some (map datum_of vs)) c.deref.ensures.0 ∙ c.in-Some.ensures
+    (ap (λ vs. map Some (map datum_of vs)) c.deref.ensures.0 ∙ c.in-Some.ensures.values
     ∙ ap (λ (n : ℕ). printed_row units n values) c.destinations-destinations.ensures.count) _ _ _ c.print_row.ensures.made)
 
 pub returns-in-Some-row-clause-made : goal.returns-in-Some-row-clause-made
@@ -23,5 +23,5 @@ returns-in-Some-row-clause-made g c =
     subst (λ (us : List PrintUnit). Makes (printing us c.args.format.now) c.args.report.now (g.K.Sink.contents c.args.to.now)
     (g.K.Sink.contents c.print_row-in-Some-row.new.to) c.print_row-in-Some-row.result) c.self.view_is
     (full_written units (map datum_of c.deref-in-Some-row.result.now) (printed_in units c.args.format.now c.args.report.now)
-    (ap (λ vs. map Some (map datum_of vs)) c.deref-in-Some-row.ensures.0 ∙ c.in-Some-row.ensures
+    (ap (λ vs. map Some (map datum_of vs)) c.deref-in-Some-row.ensures.0 ∙ c.in-Some-row.ensures.values
     ∙ ap (λ (n : ℕ). printed_row units n values) c.destinations-destinations.ensures.count) _ _ _ c.print_row-in-Some-row.ensures.made)

@@ -1,0 +1,11 @@
+use Rattle.std.proofs.Common.{◌≡◌, take, drop}
+use Rattle.sf_format.specs.Proper.{kind_at}
+use Rattle.sf_c.specs.Formats.{kinds_to}
+use Rattle.sf_c.proofs.kinds.put_scan_kinds.Given as goal
+
+-- the kinds of the slots so far are written, and no other
+abbrev pub invariant-loop-index : goal.invariant-loop-index
+invariant-loop-index l = record {
+  front : take l.index l.kinds ≡ kinds_to l.index (λ slot. kind_at slot l.format);
+  rest : drop l.slots l.kinds ≡ drop l.slots l.fn.kinds;
+}
