@@ -27,29 +27,83 @@ file: src/steps.rt
 old: u8 = 9;
 new: u8 = 8;
 by: steps::widest
+
+edit: size.one
+file: src/steps.rt
+in: Step::size
+old: self.width
+new: 1
+
+edit: width.two
+file: src/steps.rt
+in: StepWide::width
+old: Step::size(self)
+new: 2
+
+edit: IsThird.second
+file: specs/Numbers.antt
+old: n + 3
+new: n + 2
+by: third
 """
-NEXT, THIRD, BOUNDED, WIDEST = NAMES = [f"low/lib.{it}" for it in ("next.twice", "third.stays", "bounded.eleven", "widest.eight")]
-LEMMA = "use Rattle.std.proofs.Common.{◌≡◌}\n"
+NAMES = [f"low/lib.{it.removeprefix('edit: ')}" for it in EDITS.split("\n") if it.startswith("edit: ")]
+NEXT, THIRD, BOUNDED, WIDEST, SIZE, WIDTH, IS_THIRD = NAMES
+SOME = NAMES[:4]
+CITED = "use Rattle.low.proofs.Numbers.{at_most}\n"
+LEMMAS = """use Rattle.std.proofs.Common.{◌≤◌}
+use Rattle.low.proofs.Numbers.Small.{small}
+
+pub at_most : 1 ≤ 2
+at_most = small
+
+pub never_cited : 1 ≤ 3
+never_cited = search
+"""
+SMALL = "pub small : 1 ≤ 2\nsmall = search\n"
+SPECS = """-- Numbers.
+use Rattle.std.specs.Prelude.{◌≡◌, ◌+◌}
+use Rattle.base.specs.Numbers.{Is}
+
+abbrev pub IsThird : ℕ → ℕ → Type 0
+IsThird n k = Is k (n + 3)
+
+abbrev pub Unnamed : ℕ → Type 0
+Unnamed n = Is n n
+"""
+BELOW = "abbrev pub Is : ℕ → ℕ → Type 0\nIs n k = n ≡ k\n"
+LOW, STEPS = "low/src/lib.rt", "low/src/steps.rt"
 
 # What is changed: the file, a text of it, and what stands in its place (of a file that isn't there: the whole); and whose lines are then of
-# other sources. An edit of a definition rests on the whole of its crate.
+# other sources. `third` stands on the clause of `after_next` and on a definition, `bounded` cites a lemma, and the `width` of a step calls
+# `size`. Two crates have a function `after_next`, which the words of `third` don't tell from one another.
 CHANGES = {
-    "the body of a function": ("low/src/lib.rt", "    n + 1\n", "    let _ = n;\n    n + 1\n", [NEXT, WIDEST]),
-    "the body of another function": ("low/src/lib.rt", "let following = next(n);", "let following: u8 = next(n);", [WIDEST]),
-    "a comment": ("low/src/lib.rt", "/// The number after that.", "/// The third number.", [WIDEST]),
-    "a clause": ("low/src/lib.rt", "{ result ≡ n + 2 }", "{ result ≡ 2 + n }", NAMES),
-    "a constant": ("low/src/steps.rt", "WIDEST: u8 = 9", "WIDEST: u8 = 7 + 2", NAMES),
-    "an answer": ("low/proofs/steps/bounded/Answers.antt", "omega (arith, c.if-n-gt10.true)", "search", [BOUNDED, WIDEST]),
-    "what a loop keeps": ("low/proofs/steps/bounded/Invariants.antt", None, LEMMA, [BOUNDED, WIDEST]),
-    "a lemma": ("low/proofs/Numbers.antt", "◌≡◌", "◌≡◌, ◌+◌", NAMES),
-    "a lemma in a folder": ("low/proofs/Numbers/Small.antt", None, LEMMA, NAMES),
-    "a definition": ("low/specs/Numbers.antt", None, LEMMA, NAMES),
-    "a cycle of calls": ("low/src/steps.rt", "pub fn widest()", "#[cycle(a)] pub fn widest()", NAMES),
+    "the body of a function": (LOW, "    n + 1\n", "    let _ = n;\n    n + 1\n", [NEXT]),
+    "the body of another function": (LOW, "let following = next(n);", "let following: u8 = next(n);", []),
+    "a comment": (LOW, "/// The number after that.", "/// The third number.", []),
+    "a clause of what is called": (LOW, "{ result ≡ n + 2 }", "{ result ≡ 2 + n }", [THIRD, IS_THIRD]),
+    "its own clause": (STEPS, "{ result ≤ 10 }", "{ result ≤ 5 + 5 }", [BOUNDED]),
+    "a word of all that is said of the crate": (LOW, "tactic(auto)", "tactic(none)", NAMES),
+    "a constant": (STEPS, "WIDEST: u8 = 9", "WIDEST: u8 = 7 + 2", [WIDEST]),
+    "a type": (STEPS, "pub width: u8", "pub width: u16", [SIZE, WIDTH]),
+    "a clause of what is called of a type": (STEPS, "Step {\n    /// How wide it is.\n    pub fn size", "Step {\n    #[inline] pub fn size",
+                                             [SIZE, WIDTH]),
+    "a trait": (STEPS, "fn width(&self) -> u8;", "fn width(&self) -> u8 ensures { result ≤ 255 };", [WIDTH]),
+    "an answer": ("low/proofs/steps/bounded/Answers.antt", "omega (arith, c.if-n-gt10.true)", "search", [BOUNDED]),
+    "what a loop keeps": ("low/proofs/steps/bounded/Invariants.antt", None, CITED, [BOUNDED]),
+    "a lemma that is cited": ("low/proofs/Numbers.antt", "at_most = small", "at_most = search", [BOUNDED]),
+    "a lemma under it": ("low/proofs/Numbers/Small.antt", "= search", "= search {1}", [BOUNDED]),
+    "a lemma that no proof cites": ("low/proofs/Numbers.antt", "1 ≤ 3", "1 ≤ 4", []),
+    "another file of lemmas": ("low/proofs/More.antt", None, LEMMAS, []),
+    "a definition": ("low/specs/Numbers.antt", "Is k (n + 3)", "Is k (1 + n + 3)", [THIRD, IS_THIRD]),
+    "a definition under it": ("base/specs/Numbers.antt", "n ≡ k", "k ≡ n", [THIRD, IS_THIRD]),
+    "a definition that is not named": ("low/specs/Numbers.antt", "Is n n", "Is n 1", []),
+    "a cycle of calls": (STEPS, "pub fn widest()", "#[cycle(a)] pub fn widest()", NAMES),
     "a body of the crate below": ("base/src/lib.rt", "    n + 1\n", "    let _ = n;\n    n + 1\n", []),
-    "a clause of the crate below": ("base/src/lib.rt", "{ result ≡ n + 2 }", "{ result ≡ 2 + n }", NAMES),
-    "a lemma of the crate below": ("base/proofs/Numbers.antt", None, LEMMA, NAMES),
+    "a clause of the crate below": ("base/src/lib.rt", "{ result ≡ n + 2 }", "{ result ≡ 2 + n }", [THIRD, IS_THIRD]),
+    "a lemma of the crate below": ("base/proofs/Numbers.antt", None, LEMMAS, []),
     "the crates that are named": ("../crates.txt", "low: base", "low: base io", NAMES),
     "the edit": ("../low/lib.edits", "new: n * 1", "new: n * 2", [NEXT]),
+    "a name that the edit writes": ("../low/lib.edits", "new: n * 1", "new: WIDEST", [NEXT]),
 }
 
 
@@ -69,9 +123,11 @@ def keys_of(root, judges="judges"):
 
 
 def after(root, file, old, new):
-    """The keys after a change, which is taken back."""
+    """The keys after a change, which is taken back; none, where there is nothing to change."""
     path = f"{root}/crates/{file}"
     was = read(path) if old else None
+    if old and old not in was:
+        return {}
     written(path, was.replace(old, new) if old else new)
     made = keys_of(root)
     if old:
@@ -83,8 +139,10 @@ def after(root, file, old, new):
 
 def tried(root, source, steps, answers):
     """How many of these cases hold, and how many don't; says which."""
-    files = {"low/src/lib.rt": source, "base/src/lib.rt": source, "low/src/steps.rt": steps, "low/proofs/Numbers.antt": LEMMA}
-    files |= {"low/proofs/steps/bounded/Answers.antt": answers, "../crates.txt": "base:\nlow: base\n", "../low/lib.edits": EDITS}
+    own = source.replace("{ result ≡ n + 3 }", "{ IsThird n result }").replace("pub mod", "ghost use Rattle.low.specs.Numbers.{IsThird};\npub mod")
+    files = {LOW: own, "base/src/lib.rt": source, STEPS: steps, "low/specs/Numbers.antt": SPECS, "base/specs/Numbers.antt": BELOW}
+    files |= {"low/proofs/Numbers.antt": LEMMAS, "low/proofs/Numbers/Small.antt": SMALL}
+    files |= {"low/proofs/steps/bounded/Answers.antt": CITED + answers, "../crates.txt": "base:\nlow: base\n", "../low/lib.edits": EDITS}
     for file, text in files.items():
         written(f"{root}/crates/{file}", text)
     usual, cases = keys_of(root), {}
@@ -132,12 +190,12 @@ def of_file(path, made):
     def again(kit="kit 1"):
         return Kept(path, kit, made)
 
-    cases = {"there is no file": again().counts(NAMES) == (0, 0, 4)}
+    cases = {"there is no file": again().counts(SOME) == (0, 0, 4)}
     again().write([NEXT, THIRD, ITSELF], {NEXT, THIRD, ITSELF})
-    cases["two verdicts are kept"] = again().counts(NAMES) == (2, 0, 2) and ITSELF in again().current
-    cases["another kit"] = again("kit 2").counts(NAMES) == (0, 0, 4) and not again("kit 2").current
+    cases["two verdicts are kept"] = again().counts(SOME) == (2, 0, 2) and ITSELF in again().current
+    cases["another kit"] = again("kit 2").counts(SOME) == (0, 0, 4) and not again("kit 2").current
     written(path, read(path).replace(made[THIRD], made[NEXT]))
-    cases["a line with another's key"] = again().counts(NAMES) == (1, 1, 2)
+    cases["a line with another's key"] = again().counts(SOME) == (1, 1, 2)
     again().write([BOUNDED], {BOUNDED, WIDEST})
     cases["what was not tried stays, and a stale line goes"] = again().current == {NEXT, BOUNDED, ITSELF} == {*again().lines}
     again().write([], {NEXT})

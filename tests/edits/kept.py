@@ -1,35 +1,28 @@
 """Verdicts that are kept: of which wrong bodies it is known that the prover refuses them.
 
 KEPT has a part for each kit: a line with its name, and then a line `KEY CRATE/MODULE.FUNCTION.WHAT` for each wrong body that was refused
-with it. Of the parts of other kits nothing is taken. The key is a sum of all that the verdict rests on:
+with it. Of the parts of other kits nothing is taken. The key is a sum of all that the verdict rests on: the edit; the texts that the proof
+of the function leads to, by which it is judged (rests.py); the lines of crates.txt for its crate and those below; and the files that judge
+an edit. A line with another key counts as none. `KEY itself` is the runner's own trial.
 
-- the edit, and the function that it changes with the files of its proof;
-- of its crate and of each crate below it, what a proof of another function can see: src/ without the bodies of functions and without
-  comments, specs/, and the lemmas of proofs/. A proof cites of another function the theorem alone ("cannot open its routine", as
-  `rattle check --help` says). So the bodies and proofs of other functions are left out, unless a crate has a cycle of calls;
-- the lines of crates.txt for these crates, and the files that judge an edit.
-
-An edit of a definition rests on the whole of its crate. A line with another key counts as none. `KEY itself` is the runner's own trial.
 A tenth of the edits is tried though their verdicts are kept: whole crates, chosen by the sum of all keys, so that nobody chooses.
 """
-import functools
-import glob
 import hashlib
 import os
 import re
 
-from edit import NO_CODE, bodies, read
+from edit import read
+from rests import Rests, Sources
 
 # The files that judge; the others print, keep and try the runner.
 JUDGES = ("edit.py", "judge.py", "rounds.py", "kit.py")
 # What else they import: whether an edit changes a value, which is asked anew in each run.
 ANEW = ("about.py", "same.py")
 # Those that try the runner, and keep.
-OWN = ("about.py", "form.py", "itself.py", "itself_kept.py", "itself_same.py", "kept.py", "kinds.py", "names.py", "same.py", "shape.py",
-       "tree.py")
+OWN = ("about.py", "form.py", "itself.py", "itself_kept.py", "itself_same.py", "kept.py", "kinds.py", "names.py", "rests.py", "same.py",
+       "shape.py", "tree.py")
 # One edit in so many is tried though its verdict is kept.
 SHARE = 10
-OF_A_FUNCTION = ("Answers.antt", "Invariants.antt")
 ITSELF = "itself"
 LINE = re.compile(r"[0-9a-f]{32} \S+")
 
@@ -40,48 +33,6 @@ def sum_of(*parts):
         data = it.encode()
         found.update(len(data).to_bytes(8, "big") + data)
     return found.hexdigest()[:32]
-
-
-def without_comments(text):
-    return NO_CODE.sub(lambda it: " " if it[0].startswith(("//", "/*")) else it[0], text)
-
-
-def without_bodies(text):
-    made, at = "", 0
-    for _, opens, closes in bodies(text):
-        if opens >= at:
-            made, at = made + text[at:opens] + "{}", closes + 1
-    return re.sub(r"\s+", " ", without_comments(made + text[at:]))
-
-
-class Crate:
-    """A crate's texts by their names, and the sum of what a proof of another function sees of them."""
-
-    def __init__(self, folder, line):
-        files = sorted(it for part in ("src", "specs", "proofs") for it in glob.glob(f"{folder}/{part}/**", recursive=True))
-        self.texts = {it[len(folder) + 1 :]: read(it) for it in files if os.path.isfile(it)}
-        self.whole = sum_of(line, *(it for both in self.texts.items() for it in both))
-        if any("#[cycle(" in text for name, text in self.texts.items() if name.startswith("src/")):
-            self.seen = self.whole
-            return
-        seen = {name: self.shown(name, text) for name, text in self.texts.items() if not self.is_hidden(name)}
-        self.seen = sum_of(line, *(it for both in seen.items() for it in both))
-
-    @staticmethod
-    def is_hidden(name):
-        return name.startswith("proofs/") and os.path.basename(name) in OF_A_FUNCTION
-
-    @staticmethod
-    def shown(name, text):
-        return without_bodies(text) if name.startswith("src/") else text
-
-    def function(self, edit):
-        """The body of the function that an edit changes, and the files of its proof (of each function of that name)."""
-        (file, name), at = edit.place, edit.spans[0][1]
-        text = self.texts[file]
-        body = next(text[opens : closes + 1] for _, opens, closes in bodies(text) if opens < at <= closes)
-        proof = [it for path, text in self.texts.items() if self.is_hidden(path) and name in path.split("/")[:-1] for it in (path, text)]
-        return [without_comments(body), *proof]
 
 
 HERE = os.path.dirname(os.path.abspath(__file__))
@@ -97,14 +48,12 @@ def keys(root, below, found, judges=None):
     judges = judges or runner(JUDGES)
     listed = (it.partition("#")[0].strip() for it in read(f"{root}/crates.txt").split("\n"))
     lines = {re.split(r"[ :]", it)[0]: it for it in listed if it}
-    crate = functools.lru_cache(maxsize=None)(lambda name: Crate(f"{root}/crates/{name}", lines[name]))
+    crates = {it: Sources(it, f"{root}/crates/{it}") for it in {one for name in found for one in (*below[name], name)}}
     made = {ITSELF: sum_of(judges, runner(OWN))}
     for name, edits in found.items():
-        lower = [it for one in sorted(below[name]) for it in (one, crate(one).seen)]
-        for edit in edits:
-            if not edit.bad:
-                own = [crate(name).seen, *crate(name).function(edit)] if edit.place else [crate(name).whole]
-                made[edit.name] = sum_of(judges, edit.name, *edit.lines, *own, *lower)
+        seen = {it: crates[it] for it in (*below[name], name)}
+        named, rests = [lines[it] for it in sorted(seen)], Rests(name, seen)
+        made.update((it.name, sum_of(judges, it.name, *it.lines, *named, *rests.parts(it))) for it in edits if not it.bad)
     return made
 
 
