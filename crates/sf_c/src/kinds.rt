@@ -24,7 +24,9 @@ pub struct SfKinds {
 }
 
 /// What stands there before a call.
-pub(crate) const fn no_kinds() -> SfKinds {
+pub(crate) const fn no_kinds() -> SfKinds
+    ensures { result ≡ record { fault_at = 0; fault = 0; slots = 0 } }
+{
     SfKinds {
         fault_at: 0,
         fault: 0,

@@ -1,5 +1,5 @@
 //! What a scan came to.
-ghost use Rattle.std.specs.Prelude.{◌≡◌};
+ghost use Rattle.std.specs.Prelude.{◌≡◌, negsuc};
 ghost use Rattle.sf_c.specs.Records.{outcome_too_long};
 ghost use Rattle.sf_c.specs.Scans.{outcome_by};
 
@@ -34,7 +34,20 @@ pub struct SfOutcome {
 }
 
 /// What stands there before a scan.
-pub(crate) const fn nothing() -> SfOutcome {
+pub(crate) const fn nothing() -> SfOutcome
+    ensures { result ≡ record {
+      c_return = negsuc 0;
+      used = 0;
+      at = 0;
+      converted = 0;
+      fault_at = 0;
+      assigned = 0;
+      status = 0;
+      met = 0;
+      fault = 0;
+      slots = 0;
+    } }
+{
     SfOutcome {
         c_return: -1,
         used: 0,

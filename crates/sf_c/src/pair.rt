@@ -19,7 +19,9 @@ pub struct SfFault {
 }
 
 /// What stands there before a call.
-pub(crate) const fn no_fault() -> SfFault {
+pub(crate) const fn no_fault() -> SfFault
+    ensures { result ≡ record { at = 0; number = 0 } }
+{
     SfFault { at: 0, number: 0 }
 }
 

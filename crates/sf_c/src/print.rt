@@ -33,7 +33,9 @@ pub struct SfPrinted {
 }
 
 /// What stands there before a call.
-pub(crate) const fn not_printed() -> SfPrinted {
+pub(crate) const fn not_printed() -> SfPrinted
+    ensures { result ≡ record { len = 0; fault_at = 0; fault = 0; why = 0; slot = 0 } }
+{
     SfPrinted {
         len: 0,
         fault_at: 0,
