@@ -207,7 +207,7 @@ def of_file(path, made):
     Kept(path, "kit 3", {**made, NEXT: made[THIRD]}).write([], set())
     cases["a stale line of another kit goes"] = not again("kit 2").lines and again().current == {BOUNDED, ITSELF}
     crates = {f"crate{it}": ["an edit"] * it for it in range(1, 12)}
-    shares = [Kept(path, "kit 1", {**made, "more": str(it)}).share(crates) for it in range(40)]
+    shares = [Kept(path, "kit 1", {**made, "more": str(it)}).share(crates) for it in range(80)]
     cases["a tenth is tried again"] = all(sum(map(len, map(crates.get, it))) >= 6.6 for it in shares)
     cases["by turns"] = set().union(*shares) == {*crates} and Kept(path, "kit 1", {**made, "more": "0"}).share(crates) == shares[0]
     return cases

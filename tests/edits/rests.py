@@ -189,7 +189,7 @@ class Definitions:
     """A file of specs or proofs: its imports, and its definitions."""
 
     def __init__(self, text):
-        self.uses, self.found, block = [], [], []
+        self.uses, self.found, block = (), [], []
         for line in without_remarks(text).split("\n"):
             if line.strip() and not line.startswith((" ", "mod ", "pub mod ")) and self.begins(line, block):
                 self.add(block)
@@ -205,7 +205,7 @@ class Definitions:
     def add(self, block):
         text = "\n".join(it for it in block if it.strip() and not it.startswith(("mod ", "pub mod ")))
         if USE.match(text):
-            self.uses.append(text)
+            self.uses += (text,)
         elif text:
             first = SIGNED.match(text)
             names = frozenset([first[1]]) if first and not GROUP.match(text) else frozenset()
@@ -304,17 +304,11 @@ class Reached:
             self.todo.append(lambda: self.code(crate, it))
 
     def code(self, crate, it):
-        """Takes what a chunk names: by its words, and by what the imports of its file say of them."""
-        words, names = it.words | it.said, set(it.plain)
-        for use in crate.imports[it.file]:
-            if use.text.startswith("ghost"):
-                self.modules(use.text, words)
-            elif " as " in use.text and use.words & words:
-                names |= use.words
-            else:
-                names |= use.words & (it.words | self.every.traits)
-        self.say(words)
-        self.take(frozenset(names | (it.words & crate.of_file[it.file])), it.words)
+        """Takes what a chunk names."""
+        modules, names = self.every.named_by(crate, it)
+        self.modules(modules)
+        self.say(it.words | it.said)
+        self.take(names, it.words)
 
     def say(self, words):
         """Takes the definitions of these names, of the files that are reached."""
@@ -331,14 +325,12 @@ class Reached:
 
     def term(self, crate, file, words):
         """Takes what a text of specs or proofs names, by its words and the imports of its file."""
-        for use in self.every.crates[crate].defined[file].uses:
-            self.modules(use, words)
+        self.modules(self.every.imported(self.every.crates[crate].defined[file].uses, words))
         self.say(words)
 
-    def modules(self, text, words):
-        """Takes the modules that an import names, where one of these words may be a name that it brings."""
-        for it in modules_in(text):
-            if it not in self.brought and (it.is_operator or it.brought & words):
+    def modules(self, found):
+        for it in found:
+            if it not in self.brought:
                 self.brought.add(it)
                 self.module(it)
 
@@ -366,7 +358,7 @@ class Reached:
         for use in crate.defined[file].uses:
             if use.startswith("pub"):
                 self.is_new(crate.name, file, use)
-                self.modules(use, frozenset(TERM.findall(use)))
+                self.modules(modules_in(use))
 
 
 class Rests:
@@ -390,9 +382,27 @@ class Rests:
             for owner, some in crate.by_owner.items():
                 for it in some:
                     self.members[owner].append((crate, it))
-                    self.members[it.name].append((crate, it))
+                    self.members["from" if it.owners[0] == "From" else it.name].append((crate, it))
         # (other words, such as names of local variables, lead nowhere)
         self.known = self.types | {it.name for crate in crates.values() for some in crate.by_owner.values() for it in some}
+
+    @functools.lru_cache(maxsize=None)
+    def imported(self, uses, words):
+        """The modules that imports name, where one of these words may be a name that they bring."""
+        return tuple(it for use in uses for it in modules_in(use) if it.is_operator or it.brought & words)
+
+    @functools.lru_cache(maxsize=None)
+    def named_by(self, crate, it):
+        """What a chunk names, by its words and by what the imports of its file say of them: the modules, and the names of its code."""
+        words, names, ghost = it.words | it.said, set(it.plain | it.words & crate.of_file[it.file]), []
+        for use in crate.imports[it.file]:
+            if use.text.startswith("ghost"):
+                ghost.append(use.text)
+            elif " as " in use.text and use.words & words:
+                names |= use.words
+            else:
+                names |= use.words & (it.words | self.traits)
+        return self.imported(tuple(ghost), words), frozenset(names)
 
     def of_function(self, file, name, at):
         """What is reached from the function of that name whose body has that place."""
