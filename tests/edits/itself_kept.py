@@ -53,6 +53,7 @@ CITED = "use Rattle.low.proofs.Numbers.{at_most}\n"
 LEMMAS = """use Rattle.std.proofs.Common.{◌≤◌}
 use Rattle.low.proofs.Numbers.Small.{small}
 
+unfolding small
 pub at_most : 1 ≤ 2
 at_most = small
 
@@ -65,10 +66,13 @@ use Rattle.std.specs.Prelude.{◌≡◌, ◌+◌}
 use Rattle.base.specs.Numbers.{Is}
 
 abbrev pub IsThird : ℕ → ℕ → Type 0
-IsThird n k = Is k (n + 3)
+IsThird n k = Is k (third_after n)
 
 abbrev pub Unnamed : ℕ → Type 0
 Unnamed n = Is n n
+
+unfoldable pub third_after : ℕ → ℕ
+third_after n = n + 3
 """
 BELOW = "abbrev pub Is : ℕ → ℕ → Type 0\nIs n k = n ≡ k\n"
 LOW, STEPS = "low/src/lib.rt", "low/src/steps.rt"
@@ -94,7 +98,9 @@ CHANGES = {
     "a lemma under it": ("low/proofs/Numbers/Small.antt", "= search", "= search {1}", [BOUNDED]),
     "a lemma that no proof cites": ("low/proofs/Numbers.antt", "1 ≤ 3", "1 ≤ 4", []),
     "another file of lemmas": ("low/proofs/More.antt", None, LEMMAS, []),
-    "a definition": ("low/specs/Numbers.antt", "Is k (n + 3)", "Is k (1 + n + 3)", [THIRD, IS_THIRD]),
+    "a definition": ("low/specs/Numbers.antt", "Is k (third_after n)", "Is k (1 + third_after n)", [THIRD, IS_THIRD]),
+    "a definition that isn't unfolded by itself": ("low/specs/Numbers.antt", "third_after n = n", "third_after n = 0 + n", [THIRD, IS_THIRD]),
+    "what a lemma unfolds": ("low/proofs/Numbers.antt", "unfolding small", "unfolding large", [BOUNDED]),
     "a definition under it": ("base/specs/Numbers.antt", "n ≡ k", "k ≡ n", [THIRD, IS_THIRD]),
     "a definition that is not named": ("low/specs/Numbers.antt", "Is n n", "Is n 1", []),
     "a cycle of calls": (STEPS, "pub fn widest()", "#[cycle(a)] pub fn widest()", NAMES),

@@ -30,7 +30,8 @@ INNER = re.compile(PUBLIC + r"mod\s+\w+\s*\{")
 FLAT = re.compile(PUBLIC + r"(?:(?:ghost\s+)?use|ghost|const|static|type)\b(?!\s+fn)")
 CLAUSE = re.compile(r"\b(?:requires|ensures|ghost)\*?\s*(?:\w+\s*[:=]?\s*)?(?=\{)")
 # In specs/ and proofs/: where a definition begins, and the words of one.
-SIGNED = re.compile(r"(?:(?:abbrev|pub|opaque|instance)\s+)*([^\s:()]+)\s+:(?=\s)")
+SIGNED = re.compile(r"(?:(?:abbrev|pub|opaque|instance|unfoldable)\s+)*([^\s:()]+)\s+:(?=\s)")
+UNFOLDS = re.compile(r"unfolding\b")
 GROUP = re.compile(r"(?:(?:abbrev|pub)\s+)*(?:record|data|module|instance)\b")
 TERM = re.compile(r"[^\s(){}\[\],.;]+")
 USE = re.compile(r"(?:pub\s+)?use\b")
@@ -198,17 +199,29 @@ class Definitions:
         self.add(block)
 
     @staticmethod
-    def begins(line, block):
-        """Whether a line begins another definition, and not an equation of the one that stands above it."""
-        return bool(USE.match(line) or GROUP.match(line) or SIGNED.match(line)) or bool(block and USE.match(block[0]))
+    def head(block):
+        """The line with the signature of a block: what it unfolds may stand above that."""
+        return next((it for it in block if it.strip() and not UNFOLDS.match(it)), "")
+
+    def begins(self, line, block):
+        """Whether a line begins another block, and is no equation of the definition that stands above it."""
+        head = self.head(block)
+        if not head or USE.match(head):
+            return bool(head)
+        if any(it.match(line) for it in (USE, GROUP, SIGNED, UNFOLDS)):
+            return True
+        # (what is neither stands by itself, and is always taken)
+        name, first = SIGNED.match(head), TERM.match(line)
+        return bool(name) and line[0] not in ")]}" and (not first or first[0] != name[1])
 
     def add(self, block):
         text = "\n".join(it for it in block if it.strip() and not it.startswith(("mod ", "pub mod ")))
         if USE.match(text):
             self.uses += (text,)
         elif text:
-            first = SIGNED.match(text)
-            names = frozenset([first[1]]) if first and not GROUP.match(text) else frozenset()
+            head = self.head(text.split("\n"))
+            first = SIGNED.match(head)
+            names = frozenset([first[1]]) if first and not GROUP.match(head) else frozenset()
             is_always = not names or any("◌" in it for it in names)
             self.found.append(Definition(text, names, is_always, frozenset(TERM.findall(text))))
 
