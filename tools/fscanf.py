@@ -8,8 +8,8 @@ usage: tools/fscanf.py [--profile N] [--limit N] FORMAT < INPUT
     slot 1: 12
     slot 2: -7
 
-It is a reference: the definitions of the page are functions here, in its order, and nothing is done for speed. It shares
-nothing with the program. FORMAT has no escapes; tools/scan_formats.py reads it.
+It is a reference: the definitions of the page are functions here, in its order. It shares nothing with the program.
+FORMAT has no escapes; tools/scan_formats.py reads it.
 """
 import argparse
 import math
@@ -18,6 +18,7 @@ import re
 import sys
 from collections import namedtuple
 from fractions import Fraction
+from functools import lru_cache
 
 sys.dont_write_bytecode = True
 sys.path.insert(0, os.path.dirname(os.path.abspath(__file__)))
@@ -97,14 +98,14 @@ def is_float(s):
 
 # ---- input items (p9)
 
-# What makes a matching sequence of a front of one, where anything does: a digit, or the end of a word.
-TAILS = [b"", b"0", b")", *(word[at:] for word in (b"inf", b"infinity", b"nan") for at in range(len(word)))]
+# What makes a matching sequence of a front of a number, where anything does: a digit, or the end of a word.
+TAILS = {"Int": [b"", b"0"], "Float": [b"", b"0", b")", b"nan", b"an", b"n", *(b"infinity"[at:] for at in range(8))]}
+NO_WHITE = bytes({*range(256)} - WHITE)
 
 
 def are_members(c, s):
     """Each byte is of the set; of s, none is white space."""
-    members = bytes(c.members if c.shape == "Set" else set(range(256)) - WHITE)
-    return not s.translate(None, members)
+    return not s.translate(None, bytes(c.members if c.shape == "Set" else NO_WHITE))
 
 
 def matches(c, s):
@@ -116,10 +117,11 @@ def matches(c, s):
     return len(s) == c.width if c.shape == "Chars" else len(s) > 0 and are_members(c, s)
 
 
+@lru_cache(4096)
 def begins(c, f):
     """Begins: f is a matching sequence, or a front of one."""
-    if c.shape in ("Int", "Float"):
-        return any(matches(c, f + tail) for tail in TAILS)
+    if c.shape in TAILS:
+        return any(matches(c, f + tail) for tail in TAILS[c.shape])
     return len(f) <= c.width if c.shape == "Chars" else are_members(c, f)
 
 
@@ -186,9 +188,7 @@ INPUT_FAILURE, MATCHING_FAILURE, OUT_OF_RANGE = (("Fails", it) for it in ("Input
 
 def byte_step(b, x):
     """ByteStep: the byte stands there that is due, or another one, or none (p6)."""
-    if not x:
-        return 0, INPUT_FAILURE
-    return (1, PASSES) if x[0] == b else (0, MATCHING_FAILURE)
+    return (0, INPUT_FAILURE) if not x else (1, PASSES) if x[0] == b else (0, MATCHING_FAILURE)
 
 
 def stores(c, value):
@@ -228,16 +228,16 @@ def step(d, x, n):
 
 # ---- whole runs (p4, p16)
 
-Ran = namedtuple("Ran", "directive bytes end")
+Ran = namedtuple("Ran", "directive at bytes end")
 Report = namedtuple("Report", "status at assigned converted used met values")
 
 
-def steps(directives, x):
-    """Steps: the directives that run, up to the first that fails, each on what those before it left."""
-    ran, n = [], 0
+def steps(directives, x, n=0):
+    """Steps: the directives that run, after n bytes of x, up to the first that fails, each on what those before it left."""
+    ran = []
     for d in directives:
         k, end = step(d, x[n:], n)
-        ran.append(Ran(d, k, end))
+        ran.append(Ran(d, n, k, end))
         if end[0] == "Fails":
             break
         n += k
@@ -253,14 +253,15 @@ def counted(ran, *ends):
     return sum(isinstance(it.directive, Conversion) and it.directive.shape != "Count" and it.end[0] in ends for it in ran)
 
 
-def is_open(directives, x):
-    """IsOpen: after the bytes x the run would consume some byte next."""
-    return any(used(steps(directives, x + bytes([b]))) == len(x) + 1 for b in range(256))
+def is_open(directives, x, ran):
+    """IsOpen: after the bytes x the run would consume some byte next. What ended at a byte of x would end there again."""
+    again = [it for it in ran if it.at + it.bytes == len(x)]
+    left, n = directives[len(ran) - len(again) :], again[0].at if again else 0
+    return any(n + used(steps(left, x + bytes([b]), n)) > len(x) for b in (*b"0 a,", *range(256)))  # likely first
 
 
 def report_of(ran, met):
-    failed = bool(ran) and ran[-1].end[0] == "Fails"
-    status, at = (ran[-1].end[1], len(ran)) if failed else ("Done", 0)
+    status, at = (ran[-1].end[1], len(ran)) if ran and ran[-1].end[0] == "Fails" else ("Done", 0)
     values = [it.end[1:] for it in ran if it.end[0] == "Stores"]
     return Report(status, at, counted(ran, "Stores"), counted(ran, "Stores", "Passes"), used(ran), met, values)
 
@@ -269,8 +270,8 @@ def run(directives, x, limit=2**31 - 1, ending="End"):
     """Run, RunWithin: the report on the input x, which ends so, under a limit on the bytes that are consumed."""
     ran = steps(directives, x)
     if used(ran) <= limit:
-        return report_of(ran, ending if used(ran) == len(x) and is_open(directives, x) else None)
-    before = ran[: next(it for it in range(len(ran)) if used(ran[: it + 1]) > limit)]
+        return report_of(ran, ending if used(ran) == len(x) and is_open(directives, x, ran) else None)
+    before = [it for it in ran if it.at + it.bytes <= limit]
     return report_of(before, None)._replace(status="TooLong", at=len(before) + 1, used=limit)
 
 
@@ -286,10 +287,9 @@ def main():
     words.add_argument("format")
     given = words.parse_args()
     try:
-        directives = directives_of(os.fsencode(given.format), given.profile)
+        report = run(directives_of(os.fsencode(given.format), given.profile), sys.stdin.buffer.read(), given.limit)
     except Fault as fault:
         sys.exit(f"scan format: {fault}")
-    report = run(directives, sys.stdin.buffer.read(), given.limit)
     told = ", ".join(f"{it} {getattr(report, it)}" for it in Report._fields[2:6])
     print(f"fscanf returns {c_return(report)}; {report.status} at {report.at}, {told}")
     for slot, value in sorted(report.values):

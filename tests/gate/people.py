@@ -69,6 +69,37 @@ class People(Clone):
         lines = self.expect(1, "32 passed, 1 failed, 2 skipped")
         self.assertIn("  tests/program: FAIL: a row", lines[lines.index("What failed:"):])
 
+    def failures(self, name, *said):
+        """What the report shows as failed, where a test says this, of which some row has failed."""
+        self.says(name, *said, "2 passed, 1 failed", status=1)
+        lines = self.expect(1, "32 passed, 1 failed, 2 skipped")
+        begun = f"  tests/{name}"
+        listed = lines[lines.index("What failed:") + 1 : lines.index("What was passed over:")]
+        self.assertTrue(all(it.startswith(begun) for it in listed), listed)
+        return [it.removeprefix(begun).partition(": ")[2] for it in listed]
+
+    def test_wrong_bodies_that_are_refused_hide_none_that_is_not(self):
+        why = "sf_low::one: no proof: expected answers a, b; `search` did not prove `returns`"
+        refused = [f"sf_low/lib.one.as_{it}: refused: {why}" for it in range(60)]
+        refused += [f"sf/lib.two.alone: refused: alone: {why}", "sf/lib.three: refused: fn sf::three: not proved"]
+        failed = ["sf_low/lib.one.same: NOT REFUSED: the crate is still proved with this edit",
+                  "sf_low/lib.two.same: NOT REFUSED by laws::two: logic=proved",
+                  "sf_low/lib.one.gone: BAD EDIT: its text stands 0 times in src/lib.rt",
+                  "the runner itself: lib.one: wanted low::one.., found: NOT REFUSED"]
+        self.assertEqual(self.failures("edits", *refused, *failed), failed)
+
+    def test_wrong_bodies_that_show_nothing_are_no_failures(self):
+        said = ["sf_low/lib.one.named: BAD EDIT: its proof cites what the edit renamed: no proof: src/lib.rt",
+                "sf_low/lib.one.doubled: BAD EDIT: it is not clear whether a clause fails: not proved"]
+        failed = "sf_low/lib.one.same: NOT REFUSED: fn sf_low::one: proved"
+        self.assertEqual(self.failures("edits", *said, failed), [failed])
+
+    def test_of_a_crate_that_is_not_proved_all_is_shown_that_is_said(self):
+        said = ["the crate as it stands is not proved:", "src/lib.rt:3:4: it is not known that", "note: by which it follows"]
+        others = ["sf_low/lib.one: ", "== sf: 1 of 1 refused, 2 checks", "   1.0 s sf::two", "sf/lib.two: refused: no proof: a"]
+        self.assertEqual(self.failures("edits", "== sf_low: 0 of 1 refused, 1 checks", *said, *others), said)
+        self.assertEqual(self.failures("edits", *said, *others[1:]), said)
+
     def test_without_a_program_nothing_is_tested_with_it(self):
         self.launcher("exit 1")
         lines = self.expect(1, "21 passed, 1 failed, 6 skipped")

@@ -9,6 +9,7 @@ import sys
 import threading
 import time
 from dataclasses import dataclass, field
+from itertools import islice
 
 import needs
 
@@ -83,13 +84,17 @@ class Sampled(threading.Thread):
 
 
 MOST_COMPLAINTS = 40
-# Lines that say what failed: of `rt ci`, of the wrong bodies, of the other tests. (Refused edits are as they should be, and
-# what is passed over has its own lines.)
+# Lines that say what failed: of `rt ci`, of the wrong bodies, of the other tests. (Wrong bodies and edits that are refused are as they
+# should be, and what is passed over has its own lines: so have wrong bodies that show nothing.)
 COMPLAINT = re.compile(
-    r"^(?!passed over: )(?!.*\.edit: refused)(?!.*: proved$)(?!.* ok$)"
+    r"the runner itself: |\w+/[\w.]+: (?:NOT REFUSED|BAD EDIT: (?!its proof cites|it is not clear))|"
+    r"(?!passed over: )(?!.*\.edit: refused)(?!\w+/[\w.]+: (?:refused|BAD EDIT): )(?!.*: proved$)(?!.* ok$)"
     r".*(?:FAIL|ERROR|\.edit: |no proof:|not proved|not so:|columns, at most|status \d+: |more than|error[:\[]|panicked|"
     r"wrote something else)"
 )
+# After this line stands what the prover said of a crate, up to its first wrong body or to the next crate.
+UNPROVED = "the crate as it stands is not proved:"
+NEXT = re.compile(r"== |\w+/[\w.]+: ")
 LAST = re.compile(r"(\d+) passed, (\d+) failed(?:, (\d+) skipped)?")
 OVER = re.compile(r"passed over: (?P<what>(?:(?P<number>\d+) )?.*?): (?P<why>.*)")
 
@@ -103,6 +108,15 @@ class Outcome:
     skipped: int = 0
     over: list = field(default_factory=list)
     complaints: list = field(default_factory=list)
+
+
+def complaints_in(lines):
+    """The lines that say what failed."""
+    follows = False
+    for line in lines:
+        follows = line == UNPROVED or follows and not NEXT.match(line)
+        if follows or COMPLAINT.match(line):
+            yield line
 
 
 def read(lines, status):
@@ -149,7 +163,7 @@ class Run:
             lines.append(line.rstrip("\n"))
         outcome = read(lines, self.running.wait())
         if outcome.failed:
-            outcome.complaints += [it for it in lines if COMPLAINT.match(it)][:MOST_COMPLAINTS]
+            outcome.complaints += islice(complaints_in(lines), MOST_COMPLAINTS)
         self.note(name, outcome)
         return time.monotonic() - began, processor_seconds() - used
 

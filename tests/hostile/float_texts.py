@@ -30,11 +30,12 @@ FRONT = re.compile(
 
 def item_of(text, width=None):
     """The input item at the front of a text."""
-    # (what begins a sequence is begun by each front of it, so the longest one is found by halves)
+    # (what begins a sequence is begun by each front of it, so the longest one is found by halves; mostly it is all of the text)
     least, most = 0, len(text) if width is None else min(len(text), width)
+    half = most
     while least < most:
-        half = (least + most + 1) // 2
         least, most = (half, most) if FRONT.fullmatch(text[:half]) else (least, half - 1)
+        half = (least + most + 1) // 2
     return text[:least]
 
 
@@ -174,11 +175,13 @@ def formats(rng, count):
         yield f"%{rng.choice(FLAGS)}{rng.choice(('', '', '1', '8', '20', '40'))}{precision}{rng.choice(('', 'l'))}{rng.choice('fFeEgGaA')}"
 
 
+BUFFER = ctypes.create_string_buffer(2048)
+
+
 def printed_by_c(format_, number):
-    buffer = ctypes.create_string_buffer(2048)
-    count = C.snprintf(buffer, ctypes.c_size_t(len(buffer)), format_.encode(), ctypes.c_double(number))
-    assert 0 <= count < len(buffer)
-    return buffer.raw[:count]
+    count = C.snprintf(BUFFER, ctypes.c_size_t(len(BUFFER)), format_.encode(), ctypes.c_double(number))
+    assert 0 <= count < len(BUFFER)
+    return ctypes.string_at(BUFFER, count)
 
 
 def doubles(rng):

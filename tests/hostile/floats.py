@@ -61,13 +61,18 @@ def digits(text):
     return len(decimal.Decimal(text).normalize().as_tuple().digits)
 
 
+def is_same_number(one, other):
+    """Whether two texts have one value, and as many digits."""
+    return digits(one) == digits(other) and decimal.Decimal(one) == decimal.Decimal(other)
+
+
 def doubles(turn):
     def check():
         texts = drawn(turn)
         fault, lines = written("%lf", texts)
         for text, line in zip(texts, lines):
             x = C.strtod(text.encode(), None)
-            if C.strtod(line.encode(), None) != x or digits(line) != digits(repr(x)) or decimal.Decimal(line) != decimal.Decimal(repr(x)):
+            if C.strtod(line.encode(), None) != x or line != repr(x) and not is_same_number(line, repr(x)):
                 return f"{text} is {line}, due {x!r}"
         return fault
     return check
@@ -79,7 +84,7 @@ def singles(turn):
         fault, lines = written("%f", texts)
         for text, line in zip(texts, lines):
             x = C.strtof(text.encode(), None)
-            if C.strtof(line.encode(), None) != x or x and digits(line) > 9:
+            if C.strtof(line.encode(), None) != x or x and len(line) > 9 and digits(line) > 9:
                 return f"{text} is {line}, due {x!r}"
         return fault
     return check

@@ -5,6 +5,7 @@ With less memory than a call wants it ends with status 4 and one line, and what 
 """
 import os
 import resource
+import shutil
 
 import program
 from answers import NO_MEMORY, shown
@@ -46,15 +47,26 @@ CALLS = [
 ]
 
 
-def within(kilobytes, words, text, **how):
+# It costs less than a fork of this process, which a limit of our own would need.
+PRLIMIT = shutil.which("prlimit")
+
+
+def within(kilobytes, words, text):
     """The status, output and error text of a call within so many kB of address space."""
     room = kilobytes << 10
-    return program.run(*words, stdin=text, preexec_fn=lambda: resource.setrlimit(resource.RLIMIT_AS, (room, room)), **how)
+    if PRLIMIT:
+        return program.run_command([PRLIMIT, f"--as={room}", program.path, *words], text)
+    return program.run(*words, stdin=text, preexec_fn=lambda: limit(room))
+
+
+def limit(room):
+    resource.setrlimit(resource.RLIMIT_AS, (room, room))
 
 
 def is_loaded(kilobytes, words):
     """Whether the system has room for the program and these words, before its first instruction: the loader tells."""
-    return within(kilobytes, words, b"", env={**os.environ, "LD_TRACE_LOADED_OBJECTS": "1"})[0] == 0
+    told = {**os.environ, "LD_TRACE_LOADED_OBJECTS": "1"}
+    return program.run(*words, stdin=b"", env=told, preexec_fn=lambda: limit(kilobytes << 10))[0] == 0
 
 
 def least_start(words):
