@@ -119,8 +119,8 @@ module _ {S T : Type 0} (to_come : S → Option (List ℕ)) (reads failures : S 
             made.reads_are.taken) rest.taken);
         records = λ z follows.
             let ends : MayFollow after.ahead (concat later ++ z) End = λ e.
-                let quiet_on = quiet mid rows new more (ap (λ (l : Loop S). l.ahead.at_end) own.0 ∙ e) in
-                (ap₂ (λ (a b : List ℕ). a ++ b) (ap concat quiet_on.0) (follows quiet_on.1).0, refl) in
+            let quiet_on = quiet mid rows new more (ap (λ (l : Loop S). l.ahead.at_end) own.0 ∙ e) in
+            (ap₂ (λ (a b : List ℕ). a ++ b) (ap concat quiet_on.0) (follows quiet_on.1).0, refl) in
             let s : ScanMade = record { directives = old.format; limit = old.limit; report = after.report } in
             let one = first_run to_come reads N old.ahead after.ahead s made (concat later) z ends in
             let t : List ℕ = old.ahead.held ++ (concat here ++ concat later) ++ z in
@@ -131,9 +131,13 @@ module _ {S T : Type 0} (to_come : S → Option (List ℕ)) (reads failures : S 
             (new.ahead.held ++ z)) format
             (subst (λ (m : ℕ). AreRecords kinds listed mid.format m (mid.ahead.held ++ concat later ++ z) rows (new.ahead.held ++ z)) limit
             (rest.records z follows)) in
-            let here_first : AreRecords kinds listed old.format old.limit t (row ∷ rows) (new.ahead.held ++ z) =
-            (after.report, one.0.whole fine, goes.0, own.1,
-            subst (λ (x : List ℕ). AreRecords kinds listed old.format old.limit x rows (new.ahead.held ++ z)) (sym left) ours) in
+            let here_first : AreRecords kinds listed old.format old.limit t (row ∷ rows) (new.ahead.held ++ z) = (
+              after.report,
+              one.0.whole fine,
+              goes.0,
+              own.1,
+              subst (λ (x : List ℕ). AreRecords kinds listed old.format old.limit x rows (new.ahead.held ++ z)) (sym left) ours,
+            ) in
             subst (λ (x : List ℕ). AreRecords kinds listed old.format old.limit (old.ahead.held ++ x ++ z) (row ∷ rows)
             (new.ahead.held ++ z)) (sym both) here_first;
       }

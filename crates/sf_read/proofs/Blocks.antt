@@ -112,7 +112,7 @@ pub tells_end : (blocks : Blocks) (at_end : Bool)
     → (at_end ≡ false → (front : Blocks) (block : List ℕ) (back : Blocks) → blocks ≡ front ++ block ∷ back → 0 < length block)
     → EndsInNothing blocks → at_end ≡ true
 tells_end blocks true some (front, is) = refl
-tells_end blocks false some (front, is) = let none : 0 < length {A = ℕ} [] = some refl front [] [] is in absurd (omega (arith, none))
+tells_end blocks false some (front, is) = let none = some refl front [] [] is in absurd (omega (arith, none))
 
 -- no block is none that gave nothing
 pub not_nothing : EndsInNothing [] → ⊥

@@ -9,7 +9,7 @@ use Rattle.sf_run.specs.outcome.Ending.TheVariants.{End, Fault}
 use Rattle.sf_run.specs.Limits.{RunTold, RunWithin}
 use Rattle.sf_read.specs.source.Ahead.{Ahead, input_of}
 use Rattle.sf_read.specs.source.Counts.{counted_on}
-use Rattle.sf_read.specs.Laws.{AreOneInput, IsRunOf, MadeInTurn, ReadsAreOneInput, RunsInTurn, ScanMade, ScansAreRuns}
+use Rattle.sf_read.specs.Laws.{IsRunOf, MadeInTurn, ReadsAreOneInput, RunsInTurn, ScanMade, ScansAreRuns}
 use Rattle.sf_read.specs.Laws.{blocks_in_turn, bytes_in_turn}
 use Rattle.sf_read.specs.Made.{Made}
 use Rattle.sf_read.specs.Reads.{counted_by}
@@ -27,7 +27,7 @@ scans_are_runs to_come old new (s ∷ scans) (mid, scan, more) t e =
 
 -- the count of some reads, and then of more
 pub counted_more : (a b c n : ℕ) → c ≡ b + a → counted_by b (counted_by a n) ≡ counted_by c n
-counted_more a zero c n e = ap (λ (k : ℕ). counted_by k n) (sym e)
+counted_more a zero c n e = let is : a ≡ c = omega arith in ap (λ (k : ℕ). counted_by k n) is
 counted_more a (suc b) c n e =
     let is : c ≡ suc (b + a) = omega arith in
     ap counted_on (counted_more a b (b + a) n refl) ∙ ap (λ (k : ℕ). counted_by k n) (sym is)
@@ -95,8 +95,8 @@ module _ {S : Type 0} (to_come : S → Option (List ℕ)) (reads : S → ℕ) (N
             made.reads_are.taken rest.taken);
         runs = λ z follows.
             let ends : MayFollow mid (concat later ++ z) End = λ e.
-                let after = quiet mid scans new more e in
-                (ap₂ (λ (a b : List ℕ). a ++ b) (ap concat after.0) (follows after.1).0, refl) in
+            let after = quiet mid scans new more e in
+            (ap₂ (λ (a b : List ℕ). a ++ b) (ap concat after.0) (follows after.1).0, refl) in
             let one = first_run old mid s made (concat later) z ends in
             subst (λ (x : List ℕ). RunsInTurn (old.held ++ x ++ z) (s ∷ scans) (new.held ++ z)) (sym both)
             (one.0, subst (λ (x : List ℕ). RunsInTurn x scans (new.held ++ z)) (sym one.1) (rest.runs z follows));
