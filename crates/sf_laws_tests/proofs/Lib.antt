@@ -5,3 +5,4 @@ pub mod Carrying
 pub mod Answered
 pub mod Spelling
 pub mod Computing
+pub mod Rooms

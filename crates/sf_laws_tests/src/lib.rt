@@ -30,6 +30,6 @@ pub use runs::{
     computed, fourth_example, has_row, on_longer_inputs, open_is_used, over_two_stores,
     scanned_twice,
 };
-pub use scans::two_scans;
+pub use scans::{scan_with_room, two_scans, two_scans_read};
 pub use there::{Lost, carried, through};
 pub use words::{printed_words, taken_words};

@@ -2,7 +2,7 @@
 use Rattle.std.proofs.Common.{◌≡◌, ℕ, ◌<◌, ◌≤◌, inl, Bool, true, false, cond, List, [], ◌++◌, length, take, drop, Option, None, refl, sym}
 use Rattle.std.proofs.Common.{ap, subst, ◌∙◌, arith}
 use Rattle.std.proofs.lemmas.Bool.Decides.{nat_tests}
-use Rattle.std.proofs.lemmas.List.{take-append-drop, take-append-le, length-take-le}
+use Rattle.std.proofs.lemmas.List.{take-append-le}
 use Rattle.std.specs.Prelude.{nat_eq, unwrap_or}
 use Rattle.std.specs.Io.KnownBytes.{IsAtEnd}
 use Rattle.sf_format.specs.declared.directive.Directive.{Directive}
@@ -17,8 +17,7 @@ use Rattle.sf_run.specs.Stopping.{is_memory_status}
 use Rattle.sf_read.specs.source.Ahead.{Ahead}
 use Rattle.sf_read.specs.source.Counts.{counted_on, lines_after}
 use Rattle.sf_read.specs.Scan.{is_fault}
-use Rattle.sf_read.proofs.Blocks.{no_reads}
-use Rattle.sf_read.proofs.Holding.{held_scan}
+use Rattle.sf_read.proofs.Holding.{held_made, held_scan}
 use Rattle.sf_read.proofs.Reading.{known_parts}
 use Rattle.sf_run.specs.outcome.Outcome.{Outcome}
 use Rattle.sf_loops.specs.declared.turn.Turn.TheVariants.{Goes}
@@ -50,11 +49,8 @@ held_run to_come reads failures N ds m old new lines lines' report run done met 
   failed = ap failures source ∙ ap (λ met. cond (is_fault met) (counted_on (failures old.source)) (failures old.source)) (sym met);
   end = λ e. absurd cc;
   count = let same : reads new.source ≡ reads old.source = ap reads source in omega (arith, same);
-  waited = (
-    take report.used old.held,
-    sym (length-take-le report.used old.held fits),
-    no_reads (take report.used old.held) new (rw (held, take-append-drop) refl) source,
-  );
+  waited = let own = held_made to_come reads N ds m old new report run met fits held source at_end in (own.bytes, own.used, own.reads_are);
+  made = held_made to_come reads N ds m old new report run met fits held source at_end;
   lines_are = λ t e.
       let (z, coming, whole) = known_parts old.held (to_come old.source) t e in
       counted ∙ ap (lines_after lines) (sym (ap (take report.used) whole ∙ take-append-le report.used old.held z fits));

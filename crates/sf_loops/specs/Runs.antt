@@ -9,6 +9,7 @@ use Rattle.sf_run.specs.Runs.{RunReport}
 use Rattle.sf_run.specs.Stopping.{is_memory_status}
 use Rattle.sf_read.specs.source.Ahead.{Ahead, input_of}
 use Rattle.sf_read.specs.source.Counts.{counted_on, lines_after}
+use Rattle.sf_read.specs.Made.{Made}
 use Rattle.sf_read.specs.Reads.{WaitedFor}
 use Rattle.sf_read.specs.Scan.{Scan, is_fault}
 
@@ -25,5 +26,7 @@ pub record IsNextRun {S : Type 0} (to_come : S → Option (List ℕ)) (reads fai
   pub count : reads new.source ≤ reads old.source + report.used + 1
   -- nothing is read after what the report rests on
   pub waited : WaitedFor to_come reads N ds m old new report.used
+  -- the report is that of what was held and then of what the reads gave, whatever the source says of itself
+  pub made : Made to_come reads N ds m old new report
   -- the newlines that the run consumed are counted
   pub lines_are : (t : List ℕ) → input_of to_come old ≡ Some t → lines' ≡ lines_after lines (take report.used t)

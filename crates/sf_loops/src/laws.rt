@@ -1,7 +1,7 @@
 //! Laws of loops.
 //! None of these functions does anything: its contract is the law.
 ghost use Rattle.sf_loops.specs.Counts.{RecordsAreCounted};
-ghost use Rattle.sf_loops.specs.Laws.{AnswersAreRecords};
+ghost use Rattle.sf_loops.specs.Laws.{AnswersAreRecords, ReadsAreRecords};
 ghost use Rattle.sf_loops.specs.LineLaws.{AnswersAreLines, NoneIsTheEnd};
 ghost use Rattle.sf_read.specs.field.Rows.{slots_by};
 
@@ -11,6 +11,12 @@ use sf_read::{Row, Source};
 /// blocks in which that came.
 pub fn answers_are_records<T: Row, S: Source, const N: usize>()
     ensures { AnswersAreRecords S.to_come S.reads S.failures N T.kinds (slots_by T.given T.listed) }
+{}
+
+/// The same whatever the source says of itself: the rows are the records of the bytes that were read ahead, and then of
+/// those that the loop's reads gave, block by block. What is read ahead now is what their runs left.
+pub fn reads_are_records<T: Row, S: Source, const N: usize>()
+    ensures { ReadsAreRecords S.to_come S.reads S.failures N T.kinds (slots_by T.given T.listed) }
 {}
 
 /// What a loop over lines answers, one after the other, while it goes on, are the rows and the faults of the lines of

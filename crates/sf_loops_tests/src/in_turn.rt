@@ -1,15 +1,16 @@
 //! The first answers of loops, as a caller sees them by the laws.
-ghost use Rattle.std.specs.Prelude.{◌≡◌, ◌++◌, ℕ, List, [], ◌∷◌, IfSome, Ok};
+ghost use Rattle.std.specs.Prelude.{◌≡◌, ◌++◌, ℕ, List, [], ◌∷◌, IfSome, None, Ok};
 ghost use Rattle.sf_read.specs.field.Rows.{slots_by};
 ghost use Rattle.sf_read.specs.declared.matching.Match.TheVariants.{Front};
 ghost use Rattle.sf_read.specs.line.Cut.{lines_of};
-ghost use Rattle.sf_loops.specs.Laws.{AreRecords};
+ghost use Rattle.sf_loops.specs.Laws.{AreRecords, AreRecordsRead};
 ghost use Rattle.sf_loops.specs.LineLaws.{AreAnswersOf};
+ghost use Rattle.sf_loops.specs.Loops.{Loop};
 
 use sf_format::ScanFormat;
-use sf_loops::laws::{answers_are_lines, answers_are_records, none_is_the_end};
+use sf_loops::laws::{answers_are_lines, answers_are_records, none_is_the_end, reads_are_records};
 use sf_loops::{Lines, Records};
-use sf_read::{Row, SliceSource};
+use sf_read::{Row, SliceSource, Source};
 use std::alloc::Global;
 
 /// The most bytes of a record or a line here.
@@ -26,6 +27,24 @@ pub fn two_records<T: Row + Drop>(alloc: Global, text: &[u8], format: &ScanForma
     else {
         return None;
     };
+    let Ok(Some(first)) = records.next() else {
+        return None;
+    };
+    let Ok(Some(second)) = records.next() else {
+        return None;
+    };
+    Some((first, second))
+}
+
+/// The next two records of a loop, as rows, whatever its source says of itself. The first is the record of what was
+/// read ahead and then of what the loop read for it. None where there are fewer, or the loop stops.
+pub fn two_read<T: Row + Drop, S: Source, const N: usize>(
+    records: &mut Records<'_, T, S, N>,
+) -> Option<(T, T)>
+    ensures { records.old.over ≡ None → IfSome result (λ rows. (mid : Loop S) × (blocks : List (List ℕ))
+        × AreRecordsRead S.to_come S.reads T.kinds (slots_by T.given T.listed) records.old mid (rows.0 ∷ []) blocks) }
+{
+    reads_are_records::<T, S, N>();
     let Ok(Some(first)) = records.next() else {
         return None;
     };

@@ -18,4 +18,4 @@ mod reasons;
 #[cfg(test)]
 mod records;
 
-pub use in_turn::{only_line, two_lines, two_records};
+pub use in_turn::{only_line, two_lines, two_read, two_records};

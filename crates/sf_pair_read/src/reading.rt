@@ -13,6 +13,7 @@ ghost use Rattle.sf_run.specs.Memory.{capacity_of};
 ghost use Rattle.sf_run.specs.Stopping.{is_memory_status};
 ghost use Rattle.sf_read.specs.source.Ahead.{input_of};
 ghost use Rattle.sf_read.specs.source.Counts.{counted_on};
+ghost use Rattle.sf_read.specs.Made.{Made};
 ghost use Rattle.sf_read.specs.Reads.{WaitedFor};
 ghost use Rattle.sf_read.specs.Scan.{Scan, is_fault};
 ghost use Rattle.sf_pair.specs.Fits.{Fit};
@@ -49,6 +50,7 @@ pub fn read_back<S: Source, const N: usize>(
     ensures reads { IfOk result (λ s. S.reads from.new.source ≤ S.reads from.old.source + s.report.used + 1) }
     ensures waited { IfOk result (λ s. WaitedFor S.to_come S.reads N pair.now.scan limit from.old from.new
         s.report.used) }
+    ensures made { IfOk result (λ s. Made S.to_come S.reads N pair.now.scan limit from.old from.new s.report) }
     ensures end { IfOk result (λ s. s.report.met ≡ Some End → from.new.at_end ≡ true) }
     ensures no_read { from.old.at_end ≡ true → from.new.source ≡ from.old.source }
     ensures stays { from.old.at_end ≡ true → from.new.at_end ≡ true }
@@ -86,6 +88,7 @@ pub fn read_back_over<S: Source, const N: usize>(
     ensures reads { IfOk result (λ s. S.reads from.new.source ≤ S.reads from.old.source + s.report.used + 1) }
     ensures waited { IfOk result (λ s. WaitedFor S.to_come S.reads N pair.now.scan limit from.old from.new
         s.report.used) }
+    ensures made { IfOk result (λ s. Made S.to_come S.reads N pair.now.scan limit from.old from.new s.report) }
     ensures end { IfOk result (λ s. s.report.met ≡ Some End → from.new.at_end ≡ true) }
     ensures no_read { from.old.at_end ≡ true → from.new.source ≡ from.old.source }
     ensures stays { from.old.at_end ≡ true → from.new.at_end ≡ true }
@@ -124,6 +127,7 @@ pub fn read_back_fixed<const CAP: usize, const SLOTS: usize, S: Source, const N:
     ensures reads { IfOk result (λ s. S.reads from.new.source ≤ S.reads from.old.source + s.report.used + 1) }
     ensures waited { IfOk result (λ s. WaitedFor S.to_come S.reads N pair.now.scan limit from.old from.new
         s.report.used) }
+    ensures made { IfOk result (λ s. Made S.to_come S.reads N pair.now.scan limit from.old from.new s.report) }
     ensures end { IfOk result (λ s. s.report.met ≡ Some End → from.new.at_end ≡ true) }
     ensures no_read { from.old.at_end ≡ true → from.new.source ≡ from.old.source }
     ensures stays { from.old.at_end ≡ true → from.new.at_end ≡ true }

@@ -1,5 +1,5 @@
 -- What the reads of a call gave, one read after the other.
-use Rattle.std.proofs.Common.{◌≡◌, ◌≤◌, ◌<◌, ◌⊎◌, inl, inr, true, ℕ, suc, List, [], ◌∷◌, ◌++◌, length, Option, Some, None}
+use Rattle.std.proofs.Common.{◌≡◌, ◌≤◌, ◌<◌, ◌⊎◌, inl, inr, Bool, true, false, ℕ, suc, List, [], ◌∷◌, ◌++◌, length, Option, Some, None}
 use Rattle.std.proofs.Common.{refl, sym, ap, ap₂, subst, ◌∙◌, arith, append_assoc, append-nil, length-append}
 use Rattle.std.specs.List.{concat}
 use Rattle.std.specs.Io.KnownBytes.{Consumes, prepend_known}
@@ -7,7 +7,7 @@ use Rattle.std.proofs.KnownBytes.{Consumes-nil, Consumes-trans}
 use Rattle.std.proofs.lemmas.List.Folds.{concat-append}
 use Rattle.sf_read.specs.source.Ahead.{Ahead}
 use Rattle.sf_read.specs.source.Counts.{counted_on}
-use Rattle.sf_read.specs.Reads.{ReadsWhile, counted_by}
+use Rattle.sf_read.specs.Reads.{EndsInNothing, ReadsWhile, counted_by}
 
 abbrev pub Blocks : Type 0
 Blocks = List (List ℕ)
@@ -106,6 +106,17 @@ module _ {S : Type 0} {to_come : S → Option (List ℕ)} {reads : S → ℕ} {N
     | inl w ↦ omega (arith, here, ap length w.1)
     | inr w ↦ some front block w.0 w.1
   ]
+
+-- where each block has some byte until the end is told, one that has none tells it
+pub tells_end : (blocks : Blocks) (at_end : Bool)
+    → (at_end ≡ false → (front : Blocks) (block : List ℕ) (back : Blocks) → blocks ≡ front ++ block ∷ back → 0 < length block)
+    → EndsInNothing blocks → at_end ≡ true
+tells_end blocks true some (front, is) = refl
+tells_end blocks false some (front, is) = let none = some refl front [] [] is in absurd (omega (arith, none))
+
+-- no block is none that gave nothing
+pub not_nothing : EndsInNothing [] → ⊥
+not_nothing (front, is) = absurd (omega (arith, ap length is, length-append front ([] ∷ [])))
 
 -- the input is what was used, and then what is held and to come
 pub input_is : (o p : Option (List ℕ)) (held left bytes given t rest : List ℕ) → prepend_known held o ≡ Some t

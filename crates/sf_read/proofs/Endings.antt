@@ -1,6 +1,6 @@
 -- What a run that has ended says of the input.
 use Rattle.std.proofs.Common.{◌≡◌, ℕ, ◌≤◌, inl, inr, true, false, Bool, cond, List, [], ◌++◌, length, take, drop, Option, Some, None, refl}
-use Rattle.std.proofs.Common.{sym, ap, subst, ◌∙◌, arith, append_assoc, length-append}
+use Rattle.std.proofs.Common.{sym, ap, subst, ◌∙◌, arith, append_assoc, append-nil, length-append}
 use Rattle.std.specs.Prelude.{SomeIff}
 use Rattle.std.specs.List.{concat}
 use Rattle.std.proofs.Math.Seq.{take-append_seam, drop-append_seam}
@@ -13,6 +13,7 @@ use Rattle.sf_run.specs.Standing.{Standing, After, Gives, used_by, ran_out}
 use Rattle.sf_run.specs.Stopping.{is_memory_status}
 use Rattle.sf_read.specs.source.Counts.{counted_on}
 use Rattle.sf_read.specs.source.Ahead.{Ahead, input_of}
+use Rattle.sf_read.specs.Made.{Made}
 use Rattle.sf_read.specs.Reading.{Driven, Whole, Cut}
 use Rattle.sf_read.specs.Scan.{Scan, MayFollow, is_fault}
 use Rattle.sf_read.proofs.Consuming.{cut_below}
@@ -57,10 +58,10 @@ the_end new e = (refl, refl)
 
 -- ---- the parts of the input
 
-front : (t bytes held z : List ℕ) (n : ℕ) → t ≡ bytes ++ held ++ z → n ≡ length bytes → take n t ≡ bytes
+pub front : (t bytes held z : List ℕ) (n : ℕ) → t ≡ bytes ++ held ++ z → n ≡ length bytes → take n t ≡ bytes
 front t bytes held z n is e = rw (is, e, append_assoc) (take-append_seam bytes (held ++ z))
 
-back : (t bytes held z : List ℕ) (n : ℕ) → t ≡ bytes ++ held ++ z → n ≡ length bytes → drop n t ≡ held ++ z
+pub back : (t bytes held z : List ℕ) (n : ℕ) → t ≡ bytes ++ held ++ z → n ≡ length bytes → drop n t ≡ held ++ z
 back t bytes held z n is e = rw (is, e, append_assoc) (drop-append_seam bytes (held ++ z))
 
 -- ---- the clauses of a scan
@@ -89,14 +90,14 @@ module _ {S : Type 0} {to_come : S → Option (List ℕ)} {reads failures : S �
     {s : Standing} (r : RunReport)
     (d : Driven to_come reads failures N ds m old new s) (gives : (x : List ℕ) (ending : Ending) → Gives ds m s x ending
     → RunTold ds m x ending r) (used : r.used ≡ used_by s) (memory : is_memory_status r.status ≡ ran_out s) where
-  whole_met : Whole failures ds m old new d.bytes s → is_fault r.met ≡ false
+  whole_met : Whole failures ds m old new d.waited.blocks d.bytes s → is_fault r.met ≡ false
   whole_met w = not_fault ds m (d.bytes ++ new.held ++ []) r (gives (d.bytes ++ new.held ++ []) End (w.gives [] End (the_end new)))
 
   -- no storing was refused where the source failed
-  cut_within : Cut failures ds m old new d.bytes s → RunWithin ds m d.bytes Fault r
+  cut_within : Cut failures ds m old new d.waited.blocks d.bytes s → RunWithin ds m d.bytes Fault r
   cut_within w = told_within ds m d.bytes Fault r (gives d.bytes Fault w.gives) (memory ∙ w.stored)
 
-  cut_met : Cut failures ds m old new d.bytes s → r.met ≡ Some Fault
+  cut_met : Cut failures ds m old new d.waited.blocks d.bytes s → r.met ≡ Some Fault
   cut_met w = is_the_fault ds m d.bytes r w.waits (cut_within w)
 
   pub count_failures : failures new.source ≡ cond (is_fault r.met) (counted_on (failures old.source)) (failures old.source)
@@ -105,10 +106,35 @@ module _ {S : Type 0} {to_come : S → Option (List ℕ)} {reads failures : S �
   pub ends_at_end : r.met ≡ Some End → new.at_end ≡ true
   ends_at_end e = elim d.ends [ inl w ↦ by_flag w new.at_end refl | inr w ↦ absurd (let f = cut_met w in cc) ]
     where
-      by_flag : Whole failures ds m old new d.bytes s → (b : Bool) → new.at_end ≡ b → new.at_end ≡ true
+      by_flag : Whole failures ds m old new d.waited.blocks d.bytes s → (b : Bool) → new.at_end ≡ b → new.at_end ≡ true
       by_flag w true f = f
       by_flag w false f = absurd (not_the_end ds m (d.bytes ++ new.held ++ []) r
           (gives (d.bytes ++ new.held ++ []) Fault (w.gives [] Fault (anything new [] Fault f))) e)
+
+  -- where it failed, all that was held and read was used
+  all_used : Cut failures ds m old new d.waited.blocks d.bytes s → d.bytes ≡ old.held ++ concat d.waited.blocks
+  all_used w = sym (append-nil d.bytes) ∙ ap (λ (h : List ℕ). d.bytes ++ h) (sym w.nothing) ∙ d.waited.gave
+
+  pub made : Made to_come reads N ds m old new r
+  made = record {
+    bytes = d.bytes;
+    used = used ∙ d.used;
+    reads_are = d.waited;
+    whole = λ f z ending follows. elim d.ends [
+      | inl v ↦ subst (λ (x : List ℕ). RunTold ds m (x ++ z) ending r) d.waited.gave
+          (gives (d.bytes ++ new.held ++ z) ending (v.gives z ending follows))
+      | inr v ↦ absurd (let g = cut_met v in cc)
+    ];
+    cut = λ f. elim d.ends [
+      | inl v ↦ absurd (let g = whole_met v in cc)
+      | inr v ↦ subst (λ (x : List ℕ). RunWithin ds m x Fault r) (all_used v) (cut_within v)
+    ];
+    nothing_held = λ f. elim d.ends [ inl v ↦ absurd (let g = whole_met v in cc) | inr v ↦ (v.nothing, v.not_at_end) ];
+    failed = λ f. elim d.ends [ inl v ↦ absurd (let g = whole_met v in cc) | inr v ↦ v.gave_nothing ];
+    told_end = d.told_end;
+    gave_nothing = λ h. elim d.ends [ inl v ↦ inr (v.gave_nothing h) | inr v ↦ inl (ap is_fault (cut_met v)) ];
+    stays = λ e. (d.quiet e).1;
+  }
 
   pub scans : (t : List ℕ) → input_of to_come old ≡ Some t → Scan to_come ds m t old new r
   scans t e =

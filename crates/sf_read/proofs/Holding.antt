@@ -1,6 +1,6 @@
 -- Scans of what is held.
 use Rattle.std.proofs.Common.{◌≡◌, ℕ, ◌≤◌, inl, true, List, [], ◌++◌, length, take, drop, Option, Some, None, refl, sym, ap, subst, ◌∙◌}
-use Rattle.std.proofs.Common.{arith, append_assoc, append-nil, length-append}
+use Rattle.std.proofs.Common.{arith, append_assoc, append-nil, length-append, true≢false}
 use Rattle.std.specs.Io.KnownBytes.{IsAtEnd, prepend_known}
 use Rattle.std.proofs.lemmas.List.{take-append-drop, length-take-le}
 use Rattle.std.proofs.Math.Seq.{take-append_seam, drop-append_seam}
@@ -10,7 +10,9 @@ use Rattle.sf_run.specs.outcome.Ending.TheVariants.{End}
 use Rattle.sf_run.specs.Runs.{RunReport}
 use Rattle.sf_run.specs.Limits.{RunWithin}
 use Rattle.sf_read.specs.source.Ahead.{Ahead, input_of}
+use Rattle.sf_read.specs.Made.{Made}
 use Rattle.sf_read.specs.Scan.{Scan, is_fault}
+use Rattle.sf_read.proofs.Blocks.{no_reads, not_nothing}
 use Rattle.sf_read.proofs.Reading.{at_end_some, known_parts}
 
 -- a report that stands however what is held goes on, of which so many bytes were consumed
@@ -42,3 +44,22 @@ held_scan to_come ds m old new report run met fits held source at_end told t e =
       nothing_held = λ f. absurd (let g = ap is_fault met in cc);
       told = λ f y g. at_end_some (to_come new.source) y (told f) g;
     }
+
+-- it is made of what is held, without a read
+pub held_made : {S : Type 0} (to_come : S → Option (List ℕ)) (reads : S → ℕ) (N : ℕ) (ds : List Directive) (m : ℕ) (old new : Ahead S)
+    (report : RunReport)
+    → ((z : List ℕ) (ending : Ending) → RunWithin ds m (old.held ++ z) ending report) → report.met ≡ None → report.used ≤ length old.held
+    → new.held ≡ drop report.used old.held → new.source ≡ old.source → new.at_end ≡ old.at_end
+    → Made to_come reads N ds m old new report
+held_made to_come reads N ds m old new report run met fits held source at_end = record {
+  bytes = take report.used old.held;
+  used = sym (length-take-le report.used old.held fits);
+  reads_are = no_reads (take report.used old.held) new (rw (held, take-append-drop) refl) source;
+  whole = λ _ z ending follows. inl (subst (λ (x : List ℕ). RunWithin ds m (x ++ z) ending report) (sym (append-nil old.held)) (run z ending));
+  cut = λ f. absurd (let g = ap is_fault met in cc);
+  nothing_held = λ f. absurd (let g = ap is_fault met in cc);
+  failed = λ f. absurd (let g = ap is_fault met in cc);
+  told_end = λ open' e. absurd (true≢false (sym e ∙ at_end ∙ open'));
+  gave_nothing = λ h. absurd (not_nothing h);
+  stays = λ e. at_end ∙ e;
+}

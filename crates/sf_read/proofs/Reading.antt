@@ -1,6 +1,6 @@
 -- How a run that reads ahead moves on, and how it ends.
 use Rattle.std.proofs.Common.{◌≡◌, ℕ, ◌+◌, ◌-◌, ◌<◌, ◌≤◌, ◌⊎◌, inl, inr, true, false, Bool, cond, List, [], ◌∷◌, ◌++◌, length, take, drop}
-use Rattle.std.proofs.Common.{Option, Some, None, refl, sym, ap, ◌∙◌, arith, append_assoc, length-append}
+use Rattle.std.proofs.Common.{Option, Some, None, refl, sym, ap, ◌∙◌, arith, append_assoc, length-append, true≢false}
 use Rattle.std.specs.Prelude.{IsSome}
 use Rattle.std.proofs.lemmas.List.{append-nil, take-append-drop, length-take-le}
 use Rattle.std.specs.Io.KnownBytes.{Consumes, IsAtEnd, prepend_known}
@@ -13,7 +13,7 @@ use Rattle.sf_run.specs.Standing.{Standing, After, Gives, used_by, ran_out}
 use Rattle.sf_read.specs.source.Counts.{counted_on}
 use Rattle.sf_read.specs.source.Ahead.{Ahead}
 use Rattle.sf_read.specs.Reading.{Reading, Driven}
-use Rattle.sf_read.proofs.Blocks.{no_reads, used_more, read_more, all_some}
+use Rattle.sf_read.proofs.Blocks.{no_reads, used_more, read_more, all_some, tells_end}
 
 -- ---- known bytes
 
@@ -65,6 +65,7 @@ started {to_come = to_come} old after = record {
   input = λ t e. known_parts old.held (to_come old.source) t e;
   waited = no_reads [] old refl refl;
   some = λ _ front block back e. absurd (omega (arith, ap length e, length-append front (block ∷ back)));
+  told_end = λ open' e. absurd (true≢false (sym e ∙ open'));
   count = omega arith;
   no_block = λ _ _. omega arith;
   no_failure = refl;
@@ -88,6 +89,7 @@ fed_more {reads = reads} {ds = ds} {m = m} {old = old} {now = now} {mid = mid} p
     input = λ t e. let w = r.input t e in (w.0, rw source w.1, rw (none, append-nil, is) w.2);
     waited = used_more (r.fed ++ piece) mid r.waited source (rw (none, append-nil, is) refl) (omega (arith, length-append r.fed piece));
     some = λ open'. r.some (sym at_end ∙ open');
+    told_end = λ open' e. r.told_end open' (sym at_end ∙ e);
     count = rw source (omega (arith, r.count, length-append r.fed piece));
     no_block = λ _ open'. let block : reads now.source ≤ reads old.source + length r.fed + length now.held =
         one_more now.held (reads now.source) (reads old.source + length r.fed) r.count (λ e. r.no_block e (sym at_end ∙ open')) in
@@ -114,6 +116,10 @@ refilled {to_come = to_come} {old = old} {mid = mid} {new = new} (r, open_run) n
   input = λ t e. let w = r.input t e in read_on (to_come mid.source) (to_come new.source) t r.fed mid.held w.0 new.held w.1 w.2 none bytes;
   waited = read_more new r.waited (r.some open') none (open_run, r.within) few count bytes (λ e. let g = (r.quiet e).1 in cc);
   some = λ f. elim ends [ inl w ↦ all_some new r.waited w.1 (r.some open') | inr w ↦ absurd (let g = w.0 in cc) ];
+  told_end = λ _ e. elim ends [
+    | inl w ↦ absurd (true≢false (sym e ∙ w.0))
+    | inr w ↦ (r.waited.blocks, ap (λ (b : List ℕ). r.waited.blocks ++ b ∷ []) w.1)
+  ];
   count = omega (arith, r.no_block none open', count);
   no_block = λ e f. elim ends [ inl w ↦ absurd (omega (arith, w.1, ap length e)) | inr w ↦ absurd (let g = w.0 in cc) ];
   no_failure = no_failure ∙ r.no_failure;
@@ -139,11 +145,13 @@ ended {to_come = to_come} {ds = ds} {m = m} {old = old} {now = now} {new = new}
       waited = used_more (r.fed ++ take k now.held) new r.waited source (rw (held, append_assoc, take-append-drop) refl)
           (omega (arith, length-append r.fed (take k now.held)));
       told = λ e z f. at_end_some (to_come new.source) z (told e) f;
+      told_end = λ open' e. r.told_end open' (sym at_end ∙ e);
       count = rw source (omega (arith, r.count, length-append r.fed (take k now.held)));
       quiet = λ e. (source ∙ (r.quiet e).0, at_end ∙ (r.quiet e).1);
       bounded = λ sum. bounded r.fed sum r.after;
       ends = inl (record {
         no_failure = rw source r.no_failure;
+        gave_nothing = λ h. tells_end r.waited.blocks new.at_end (λ open'. r.some (sym at_end ∙ open')) h;
         gives = λ z ending _. rw (held, pieces r.fed now.held z k, ← is) (gives r.fed z ending r.after);
       });
     }
@@ -160,11 +168,13 @@ ended_at_end {to_come = to_come} {ds = ds} {m = m} {mid = mid} {t = t} r none at
   input = r.input;
   waited = r.waited;
   told = λ _ z f. at_end_some (to_come mid.source) z told f;
+  told_end = r.told_end;
   count = r.count;
   quiet = r.quiet;
   bounded = λ sum. stored;
   ends = inl (record {
     no_failure = r.no_failure;
+    gave_nothing = λ _. at_end;
     gives = λ z ending follows. let w = follows at_end in rw (none, append-nil, w.0, append-nil, w.1) (gives r.fed r.after);
   });
 }
@@ -186,6 +196,7 @@ failed {to_come = to_come} {old = old} {mid = mid} {new = new} (r, open_run) non
       waited = read_more new r.waited (r.some open') none (open_run, r.within) (omega (arith, ap length ends.1)) count bytes
           (λ e. let g = (r.quiet e).1 in cc);
       told = λ e. absurd (let g = ends.0 in cc);
+      told_end = λ _ e. absurd (let g = ends.0 in cc);
       count = omega (arith, r.no_block none open', count);
       quiet = λ e. absurd (let g = (r.quiet e).1 in cc);
       bounded = λ sum. stored;
@@ -193,6 +204,7 @@ failed {to_come = to_come} {old = old} {mid = mid} {new = new} (r, open_run) non
         one_failure = failure ∙ ap counted_on r.no_failure;
         nothing = ends.1;
         not_at_end = ends.0;
+        gave_nothing = (r.waited.blocks, ap (λ (b : List ℕ). r.waited.blocks ++ b ∷ []) ends.1);
         gives = gives r.fed r.after;
         stored = stored;
         waits = (open_run, r.within);

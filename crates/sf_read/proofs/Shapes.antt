@@ -1,8 +1,7 @@
 -- Rows and the destinations of formats.
 use Rattle.std.proofs.Common.{◌≡◌, inl, inr, ℕ, ◌+◌, ◌-◌, ◌≤◌, Bool, true, false, cond, not, ◌&&◌, ◌||◌, nat_eq, List, [], ◌∷◌, length}
-use Rattle.std.proofs.Common.{take, drop, Option, Some, None, Result, Ok, Err, is_some, if◌then◌else◌, refl, sym, ap, subst, ◌∙◌, arith}
+use Rattle.std.proofs.Common.{Option, Some, None, Result, Ok, Err, is_some, if◌then◌else◌, refl, sym, ap, subst, ◌∙◌, arith}
 use Rattle.std.proofs.Math.Nat.{lt_of_not-le}
-use Rattle.std.proofs.lemmas.List.{take-append-drop, length-take-le}
 use Rattle.std.proofs.lemmas.Option.{slice_get_past}
 use Rattle.std.proofs.lemmas.Bool.Decides.{nat_tests}
 use Rattle.std.specs.Prelude.{IfErr, IfSome, slice_get}
@@ -33,11 +32,11 @@ use Rattle.sf_read.specs.source.Ahead.{Ahead, input_of}
 use Rattle.sf_read.specs.source.Counts.{counted_on}
 use Rattle.sf_read.specs.field.Rows.{AreGivenAs, IsGivenAs}
 use Rattle.sf_read.specs.RowScans.{Answers, HasShape, RowScan, TextAnswers, is_run}
+use Rattle.sf_read.specs.Made.{Made}
 use Rattle.sf_read.specs.Scan.{Scan, is_fault}
 use Rattle.sf_read.specs.Shapes.{IsDifference, IsKindsAt, IsMissing}
 use Rattle.sf_read.specs.declared.shape.ShapeFault.{ShapeFault}
 use Rattle.sf_read.specs.declared.shape.ShapeFault.TheVariants.{Count, Kinds, Missing}
-use Rattle.sf_read.proofs.Blocks.{no_reads}
 
 -- ---- shapes
 
@@ -231,12 +230,11 @@ answers_left kinds given_by report false result some is = absurd cc
 pub row_scanned : {S T : Type 0} (to_come : S → Option (List ℕ)) (reads failures : S → ℕ) (N : ℕ) (kinds : List Kind)
     (given_by : T → List (Option Datum)) (ds : List Directive) (m : ℕ) (old new : Ahead S) (report : RunReport)
     (result : Result T ScanRowFault)
-    → report.status ≡ Done → report.met ≡ None → new.source ≡ old.source → report.used ≤ length old.held
-    → new.held ≡ drop report.used old.held → Answers kinds given_by report result
+    → report.status ≡ Done → report.met ≡ None → new.source ≡ old.source → Answers kinds given_by report result
     → ((t : List ℕ) → input_of to_come old ≡ Some t → Scan to_come ds m t old new report)
-    → ((x : List ℕ) × (ending : Ending) × RunTold ds m x ending report)
+    → ((x : List ℕ) × (ending : Ending) × RunTold ds m x ending report) → Made to_come reads N ds m old new report
     → RowScan to_come reads failures N kinds given_by ds m old new result
-row_scanned to_come reads failures N kinds given_by ds m old new report result done met same within held answers scan told = record {
+row_scanned to_come reads failures N kinds given_by ds m old new report result done met same answers scan told made = record {
   report = report;
   answers = answers;
   scan = scan;
@@ -247,11 +245,8 @@ row_scanned to_come reads failures N kinds given_by ds m old new report result d
       (sym met) (ap failures same);
   end = λ e. (let h = sym met ∙ e in absurd cc);
   count = (let e = ap reads same in omega (arith, e));
-  waited = (
-    take report.used old.held,
-    sym (length-take-le report.used old.held within),
-    no_reads (take report.used old.held) new (rw (held, take-append-drop) refl) same,
-  );
+  waited = (made.bytes, made.used, made.reads_are);
+  made = made;
 }
 
 -- a store that has come to more room has enough

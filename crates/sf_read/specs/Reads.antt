@@ -34,6 +34,10 @@ pub record ReadsWhile {S : Type 0} (to_come : S → Option (List ℕ)) (reads : 
   pub each : (front : List (List ℕ)) (block : List ℕ) (back : List (List ℕ)) → blocks ≡ front ++ block ∷ back
       → IsRead N Waits (old.held ++ concat front) (length bytes) block back
 
+-- the last of these reads gave nothing
+abbrev pub EndsInNothing : List (List ℕ) → Type 0
+EndsInNothing blocks = (front : List (List ℕ)) × (blocks ≡ front ++ [] ∷ [])
+
 -- the run is open after these bytes, and they are within its limit
 abbrev pub Waits : List Directive → ℕ → List ℕ → Type 0
 Waits ds m x = IsOpen ds x × (length x ≤ m)

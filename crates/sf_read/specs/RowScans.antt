@@ -22,6 +22,7 @@ use Rattle.sf_read.specs.Matches.{leaves}
 use Rattle.sf_read.specs.source.Ahead.{Ahead, input_of}
 use Rattle.sf_read.specs.source.Counts.{counted_on}
 use Rattle.sf_read.specs.Reads.{WaitedFor}
+use Rattle.sf_read.specs.Made.{Made}
 use Rattle.sf_read.specs.field.Rows.{AreSlotsOf}
 use Rattle.sf_read.specs.Scan.{Scan, is_fault}
 
@@ -76,6 +77,8 @@ pub record RowScan {S T : Type 0} (to_come : S → Option (List ℕ)) (reads fai
   pub end : report.met ≡ Some End → new.at_end ≡ true
   pub count : reads new.source ≤ reads old.source + report.used + 1
   pub waited : WaitedFor to_come reads N ds m old new report.used
+  -- the report is that of what was held and then of what the reads gave, whatever the source says of itself
+  pub made : Made to_come reads N ds m old new report
 
 -- what is answered where the run has this report, by whether it leaves some of the text that it had to use
 abbrev pub TextAnswers : {T : Type 0} → List Kind → (T → List (Option Datum)) → RunReport → Bool → Result T ScanRowFault → Type 0

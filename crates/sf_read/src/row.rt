@@ -11,6 +11,7 @@ ghost use Rattle.sf_run.specs.Quick.{IsDoneWithin};
 ghost use Rattle.sf_run.specs.Stopping.{is_memory_status};
 ghost use Rattle.sf_read.specs.source.Ahead.{input_of};
 ghost use Rattle.sf_read.specs.source.Counts.{counted_on};
+ghost use Rattle.sf_read.specs.Made.{Made};
 ghost use Rattle.sf_read.specs.Reads.{WaitedFor};
 ghost use Rattle.sf_read.specs.field.Rows.{AreGivenAs, present, slots_by};
 ghost use Rattle.sf_read.specs.RowScans.{Answers, HasShape, IsOfFew, RowScan, difference_of, is_run};
@@ -107,6 +108,7 @@ fn scan_with<S: Source, const N: usize>(
         ≡ (if is_fault s.report.met then counted_on (S.failures from.old.source) else S.failures from.old.source)) }
     ensures reads { IfOk result (λ s. S.reads from.new.source ≤ S.reads from.old.source + s.report.used + 1) }
     ensures waited { IfOk result (λ s. WaitedFor S.to_come S.reads N format.now limit from.old from.new s.report.used) }
+    ensures made { IfOk result (λ s. Made S.to_come S.reads N format.now limit from.old from.new s.report) }
     ensures end { IfOk result (λ s. s.report.met ≡ Some Ending.End → from.new.at_end ≡ true) }
     ensures no_read { from.old.at_end ≡ true → from.new.source ≡ from.old.source }
     ensures stays { from.old.at_end ≡ true → from.new.at_end ≡ true }

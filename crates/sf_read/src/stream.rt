@@ -16,6 +16,7 @@ ghost use Rattle.sf_run.specs.Stopping.{is_memory_status};
 ghost use Rattle.sf_run.specs.Views.{report_by};
 ghost use Rattle.sf_read.specs.source.Ahead.{input_of};
 ghost use Rattle.sf_read.specs.source.Counts.{counted_on, lines_after};
+ghost use Rattle.sf_read.specs.Made.{Made};
 ghost use Rattle.sf_read.specs.Reading.{Driven, IsFresh};
 ghost use Rattle.sf_read.specs.Reads.{WaitedFor};
 ghost use Rattle.sf_read.specs.Scan.{Scan, is_fault};
@@ -95,6 +96,8 @@ fn run<S: Source, T: Store, const N: usize>(
     ensures reads { S.reads from.new.source ≤ S.reads from.old.source + result.report.used + 1 }
     ensures waited { (ds : List Directive) (m : ℕ) → After ds m (standing scanner.entry) []
         → WaitedFor S.to_come S.reads N ds m from.old from.new result.report.used }
+    ensures made { (ds : List Directive) (m : ℕ) → After ds m (standing scanner.entry) []
+        → Made S.to_come S.reads N ds m from.old from.new result.report }
     ensures end { result.report.met ≡ Some Ending.End → from.new.at_end ≡ true }
     ensures no_read { from.old.at_end ≡ true → from.new.source ≡ from.old.source }
     ensures stays { from.old.at_end ≡ true → from.new.at_end ≡ true }
@@ -130,6 +133,7 @@ pub fn fscan<S: Source, const N: usize>(
         ≡ (if is_fault s.report.met then counted_on (S.failures from.old.source) else S.failures from.old.source)) }
     ensures reads { IfOk result (λ s. S.reads from.new.source ≤ S.reads from.old.source + s.report.used + 1) }
     ensures waited { IfOk result (λ s. WaitedFor S.to_come S.reads N format.now limit from.old from.new s.report.used) }
+    ensures made { IfOk result (λ s. Made S.to_come S.reads N format.now limit from.old from.new s.report) }
     ensures end { IfOk result (λ s. s.report.met ≡ Some Ending.End → from.new.at_end ≡ true) }
     ensures no_read { from.old.at_end ≡ true → from.new.source ≡ from.old.source }
     ensures stays { from.old.at_end ≡ true → from.new.at_end ≡ true }
@@ -169,6 +173,7 @@ pub fn fscan_over<S: Source, const N: usize>(
         ≡ (if is_fault s.report.met then counted_on (S.failures from.old.source) else S.failures from.old.source)) }
     ensures reads { IfOk result (λ s. S.reads from.new.source ≤ S.reads from.old.source + s.report.used + 1) }
     ensures waited { IfOk result (λ s. WaitedFor S.to_come S.reads N format.now limit from.old from.new s.report.used) }
+    ensures made { IfOk result (λ s. Made S.to_come S.reads N format.now limit from.old from.new s.report) }
     ensures end { IfOk result (λ s. s.report.met ≡ Some Ending.End → from.new.at_end ≡ true) }
     ensures no_read { from.old.at_end ≡ true → from.new.source ≡ from.old.source }
     ensures stays { from.old.at_end ≡ true → from.new.at_end ≡ true }
@@ -209,6 +214,7 @@ pub fn fscan_counting<S: Source, const N: usize>(
         ≡ (if is_fault s.report.met then counted_on (S.failures from.old.source) else S.failures from.old.source)) }
     ensures reads { IfOk result (λ s. S.reads from.new.source ≤ S.reads from.old.source + s.report.used + 1) }
     ensures waited { IfOk result (λ s. WaitedFor S.to_come S.reads N format.now limit from.old from.new s.report.used) }
+    ensures made { IfOk result (λ s. Made S.to_come S.reads N format.now limit from.old from.new s.report) }
     ensures end { IfOk result (λ s. s.report.met ≡ Some Ending.End → from.new.at_end ≡ true) }
     ensures no_read { from.old.at_end ≡ true → from.new.source ≡ from.old.source }
     ensures stays { from.old.at_end ≡ true → from.new.at_end ≡ true }
@@ -244,6 +250,7 @@ fn fscan_by_scanner<S: Source, const N: usize>(
         ≡ (if is_fault s.report.met then counted_on (S.failures from.old.source) else S.failures from.old.source)) }
     ensures reads { IfOk result (λ s. S.reads from.new.source ≤ S.reads from.old.source + s.report.used + 1) }
     ensures waited { IfOk result (λ s. WaitedFor S.to_come S.reads N format.now limit from.old from.new s.report.used) }
+    ensures made { IfOk result (λ s. Made S.to_come S.reads N format.now limit from.old from.new s.report) }
     ensures end { IfOk result (λ s. s.report.met ≡ Some Ending.End → from.new.at_end ≡ true) }
     ensures no_read { from.old.at_end ≡ true → from.new.source ≡ from.old.source }
     ensures stays { from.old.at_end ≡ true → from.new.at_end ≡ true }
@@ -278,6 +285,8 @@ pub(crate) fn held_into<K: Store, S: Source, const N: usize>(
         (report_by outcome (K.kept store.new).values)) }
     ensures told { IfSome result (λ outcome. (x : List ℕ) × (ending : Ending)
         × RunTold format.now limit x ending (report_by outcome (K.kept store.new).values)) }
+    ensures made { IfSome result (λ outcome. Made S.to_come S.reads N format.now limit from.old from.new
+        (report_by outcome (K.kept store.new).values)) }
     ensures done { IfSome result (λ outcome. outcome.status ≡ status.Done) }
     ensures met { IfSome result (λ outcome. outcome.met ≡ None) }
     ensures answers { IsDoneWithin format.now limit from.old.held (capacity_of (K.kept store.old)) → IsSome result }
@@ -313,6 +322,8 @@ pub fn fscan_held<S: Source, const N: usize>(
         (report_by outcome store.new.values)) }
     ensures told { IfSome result (λ outcome. (x : List ℕ) × (ending : Ending)
         × RunTold format.now limit x ending (report_by outcome store.new.values)) }
+    ensures made { IfSome result (λ outcome. Made S.to_come S.reads N format.now limit from.old from.new
+        (report_by outcome store.new.values)) }
     ensures done { IfSome result (λ outcome. outcome.status ≡ status.Done) }
     ensures met { IfSome result (λ outcome. outcome.met ≡ None) }
     ensures answers { IsDoneWithin format.now limit from.old.held (capacity_of store.old) → IsSome result }
@@ -347,6 +358,7 @@ pub fn fscan_fixed<const CAP: usize, const SLOTS: usize, S: Source, const N: usi
         ≡ (if is_fault s.report.met then counted_on (S.failures from.old.source) else S.failures from.old.source)) }
     ensures reads { IfOk result (λ s. S.reads from.new.source ≤ S.reads from.old.source + s.report.used + 1) }
     ensures waited { IfOk result (λ s. WaitedFor S.to_come S.reads N format.now limit from.old from.new s.report.used) }
+    ensures made { IfOk result (λ s. Made S.to_come S.reads N format.now limit from.old from.new s.report) }
     ensures end { IfOk result (λ s. s.report.met ≡ Some Ending.End → from.new.at_end ≡ true) }
     ensures no_read { from.old.at_end ≡ true → from.new.source ≡ from.old.source }
     ensures stays { from.old.at_end ≡ true → from.new.at_end ≡ true }

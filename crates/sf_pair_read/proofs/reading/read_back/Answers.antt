@@ -6,6 +6,7 @@ use Rattle.sf_format.specs.Widths.{width_sum}
 use Rattle.sf_print.specs.Printed.{printed}
 use Rattle.sf_run.specs.outcome.Ending.{Ending}
 use Rattle.sf_run.specs.Limits.{RunTold}
+use Rattle.sf_read.specs.Made.{Made}
 use Rattle.sf_read.specs.Reads.{WaitedFor}
 use Rattle.sf_read.specs.Scan.{Scan}
 use Rattle.sf_pair_read.proofs.Scans.{all_ok, told_held, bounded_by, reads_whole}
@@ -44,3 +45,8 @@ pub returns-clause-waited : goal.returns-clause-waited
 returns-clause-waited g c =
     subst (λ (ds : List Directive). IfOk c.fscan.result (λ s. WaitedFor g.S.Source.to_come g.S.Source.reads g.row.N ds
     c.args.limit c.args.from.now c.fscan.new.from s.report.used)) c.scan.ensures.value c.fscan.ensures.waited
+
+pub returns-clause-made : goal.returns-clause-made
+returns-clause-made g c =
+    subst (λ (ds : List Directive). IfOk c.fscan.result (λ s. Made g.S.Source.to_come g.S.Source.reads g.row.N ds
+    c.args.limit c.args.from.now c.fscan.new.from s.report)) c.scan.ensures.value c.fscan.ensures.made

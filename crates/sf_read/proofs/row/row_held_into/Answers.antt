@@ -21,13 +21,13 @@ returns-in-Ok-clause-run g c =
     let report : RunReport = report_by c.in_ok-outcome.outcome (g.K.Store.kept c.held_into.new.store).values in
     row_scanned g.S.Source.to_come g.S.Source.reads g.S.Source.failures g.row.N g.T.Row.kinds (slots_by g.T.Row.given g.T.Row.listed)
     c.args.format.now
-    c.args.limit c.args.from.now c.held_into.new.from report _ e.done e.met c.held_into.ensures.no_read e.within e.held (
+    c.args.limit c.args.from.now c.held_into.new.from report _ e.done e.met c.held_into.ensures.no_read (
       e.done,
       subst (λ (r : RunReport). AreSlotsOf (length g.T.Row.kinds) (slots_by g.T.Row.given g.T.Row.listed c.in-Ok.row) r.values)
           c.new-report.ensures
           c.in-Ok.ensures.row,
     )
-    e.scan e.told
+    e.scan e.told e.made
 
 pub returns-in-Err-NoMemory-clause-run : goal.returns-in-Err-NoMemory-clause-run
 returns-in-Err-NoMemory-clause-run g c =
@@ -35,5 +35,5 @@ returns-in-Err-NoMemory-clause-run g c =
     let report : RunReport = report_by c.in_ok-outcome.outcome (g.K.Store.kept c.held_into.new.store).values in
     row_scanned g.S.Source.to_come g.S.Source.reads g.S.Source.failures g.row.N g.T.Row.kinds (slots_by g.T.Row.given g.T.Row.listed)
     c.args.format.now
-    c.args.limit c.args.from.now c.held_into.new.from report _ e.done e.met c.held_into.ensures.no_read e.within e.held e.done
-    e.scan e.told
+    c.args.limit c.args.from.now c.held_into.new.from report _ e.done e.met c.held_into.ensures.no_read e.done
+    e.scan e.told e.made

@@ -3,6 +3,7 @@ use Rattle.std.specs.Prelude.{IfOk}
 use Rattle.std.proofs.lemmas.List.{take-append-drop, length-take-le}
 use Rattle.sf_run.specs.Limits.{RunTold}
 use Rattle.sf_run.specs.Runs.{RunReport}
+use Rattle.sf_read.specs.Made.{Made}
 use Rattle.sf_read.specs.Reads.{WaitedFor}
 use Rattle.sf_read.specs.Scan.{Scan}
 use Rattle.sf_read.proofs.Blocks.{no_reads}
@@ -36,3 +37,15 @@ returns-clause-waited g c =
     c.args.format.now c.args.limit old
     c.fscan_by_scanner.new.from s.report.used)) stood
     c.fscan_by_scanner.ensures.waited
+
+pub returns-in-Some-clause-made : goal.returns-in-Some-clause-made
+returns-in-Some-clause-made g c =
+    subst (λ report. Made g.S.Source.to_come g.S.Source.reads g.row.N c.args.format.now c.args.limit c.args.from.now c.fscan_held.new.from
+    report) (sym c.new-in-Some.ensures.report) c.in-Some.ensures.made
+
+pub returns-clause-made : goal.returns-clause-made
+returns-clause-made g c =
+    let stood : c.fscan_held.new.from ≡ c.args.from.now = search rules in
+    subst (λ old. IfOk c.fscan_by_scanner.result (λ s. Made g.S.Source.to_come g.S.Source.reads g.row.N c.args.format.now c.args.limit
+    old c.fscan_by_scanner.new.from s.report)) stood
+    c.fscan_by_scanner.ensures.made

@@ -13,3 +13,6 @@ returns-clause-bounded g c =
 
 pub returns-clause-waited : goal.returns-clause-waited
 returns-clause-waited g c = c.run.ensures.waited c.args.format.now c.args.limit c.in_ok-scanner.ensures.after
+
+pub returns-clause-made : goal.returns-clause-made
+returns-clause-made g c = c.run.ensures.made c.args.format.now c.args.limit c.in_ok-scanner.ensures.after

@@ -4,6 +4,7 @@ use Rattle.std.proofs.lemmas.List.{take-append-drop, length-take-le}
 use Rattle.sf_run.specs.Limits.{RunTold}
 use Rattle.sf_read.specs.source.Ahead.{input_of}
 use Rattle.sf_run.specs.Runs.{RunReport}
+use Rattle.sf_read.specs.Made.{Made}
 use Rattle.sf_read.specs.Reads.{WaitedFor}
 use Rattle.sf_read.specs.Scan.{Scan}
 use Rattle.sf_read.proofs.Blocks.{no_reads}
@@ -42,3 +43,15 @@ returns-2-clause-waited g c =
     subst (λ old. IfOk c.fscan_by_scanner.result (λ s. WaitedFor g.S.Source.to_come g.S.Source.reads g.row.N c.args.format.now c.args.limit
     old c.fscan_by_scanner.new.from s.report.used)) stood
     c.fscan_by_scanner.ensures.waited
+
+pub returns-clause-made : goal.returns-clause-made
+returns-clause-made g c =
+    subst (λ report. Made g.S.Source.to_come g.S.Source.reads g.row.N c.args.format.now c.args.limit c.args.from.now c.fscan_held.new.from
+    report) (sym c.new.ensures.report) c.in-Some.ensures.made
+
+pub returns-2-clause-made : goal.returns-2-clause-made
+returns-2-clause-made g c =
+    let stood : c.else-limit-le-MOST_BYTES.from ≡ c.args.from.now = search rules in
+    subst (λ old. IfOk c.fscan_by_scanner.result (λ s. Made g.S.Source.to_come g.S.Source.reads g.row.N c.args.format.now c.args.limit
+    old c.fscan_by_scanner.new.from s.report)) stood
+    c.fscan_by_scanner.ensures.made

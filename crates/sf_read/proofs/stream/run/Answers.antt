@@ -1,7 +1,7 @@
 use Rattle.std.proofs.Common.{take, sym, ap, ◌∙◌}
 use Rattle.sf_read.specs.source.Counts.{lines_after}
 use Rattle.sf_run.specs.Scanner.{standing}
-use Rattle.sf_read.proofs.Endings.{has_report, count_failures, ends_at_end, scans, driven_by}
+use Rattle.sf_read.proofs.Endings.{has_report, count_failures, ends_at_end, made, scans, driven_by}
 use Rattle.sf_read.proofs.stream.run.Goals as goal
 
 pub unreachable-requires : goal.unreachable-requires
@@ -40,3 +40,8 @@ returns-clause-bounded g c ds m after sum = c.in-Ok.ensures.memory ∙ (driven_b
 
 pub returns-clause-lines : goal.returns-clause-lines
 returns-clause-lines g c t e = c.drive.ensures.lines t e ∙ ap (λ n. lines_after c.args.lines.now (take n t)) (sym c.in-Ok.ensures.used)
+
+pub returns-clause-made : goal.returns-clause-made
+returns-clause-made g c ds m after =
+    made c.in-Ok.scanned.report (driven_by after c.drive.ensures.driven)
+    (λ x ending h. c.in-Ok.ensures.gives ds m x ending h) c.in-Ok.ensures.used c.in-Ok.ensures.memory
