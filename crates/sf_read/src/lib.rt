@@ -14,7 +14,7 @@ mod text_row;
 mod whole;
 
 pub use field::{Field, GivenRow, Row, RowFault};
-pub use line::{LineRead, held_line, next_line};
+pub use line::{LineRead, held_line, next_line, read_front};
 pub use matching::Match;
 pub use pieces::scan_pieces;
 pub use row::{ScanRowFault, scan_row, scan_row_over};

@@ -3,4 +3,4 @@
 pub mod laws;
 mod line;
 
-pub use line::{LineRead, held_line, next_line};
+pub use line::{LineRead, held_line, next_line, read_front};

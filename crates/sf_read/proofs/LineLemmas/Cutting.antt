@@ -22,6 +22,18 @@ cut_last [] h some = absurd (omega arith)
 cut_last (b ∷ []) h some = rw (h.0) refl
 cut_last (b ∷ c ∷ line) h some = let rest : 0 < length (c ∷ line) = omega arith in rw (h.0, cut_last (c ∷ line) h.1 rest) refl
 
+-- the first line of a text that begins so
+first_begun : (b : ℕ) (lines : List (List ℕ)) → (more : List ℕ) × (others : List (List ℕ)) × (begun_by b lines End ≡ (b ∷ more) ∷ others)
+first_begun b [] = ([], [], refl)
+first_begun b (line ∷ lines) = (line, lines, refl)
+
+pub first_line : (part rest : List ℕ) → IsLine part → 0 < length part → (more : List ℕ) × (others : List (List ℕ))
+    × (lines_of (part ++ rest) ≡ (part ++ more) ∷ others)
+first_line [] rest h some = absurd (omega (arith, some))
+first_line (b ∷ []) rest h some = let first = first_begun b (lines_of rest) in (first.0, first.1, rw (h.0) first.2)
+first_line (b ∷ c ∷ part) rest h some =
+    let later = first_line (c ∷ part) rest h.1 (omega arith) in (later.0, later.1, rw (h.0, later.2) refl)
+
 -- where a read failed within a line, that is none
 pub cut_none : (part : List ℕ) → IsLine part → lines_by Fault part ≡ []
 cut_none [] h = refl

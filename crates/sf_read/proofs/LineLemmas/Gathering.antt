@@ -11,7 +11,7 @@ use Rattle.std.specs.Io.KnownBytes.{Consumes, IsAtEnd, prepend_known}
 use Rattle.sf_read.specs.source.Ahead.{Ahead, input_of}
 use Rattle.sf_read.specs.declared.line.line.LineRead.TheVariants.{Line, TooLong, End}
 use Rattle.sf_read.specs.line.Cut.{IsLine}
-use Rattle.sf_read.specs.line.Reading.{Loses, Outgrows, Took, TookPart, Reads, endless}
+use Rattle.sf_read.specs.line.Reading.{Loses, Outgrows, Took, TookPart, Reads, ReadsFront, endless}
 use Rattle.sf_read.proofs.LineLemmas.Cutting.{line_append}
 
 -- ---- the first bytes of a line
@@ -177,6 +177,18 @@ module _ {S : Type 0} {to_come : S → Option (List ℕ)} {old now : Ahead S} {l
             k.1,
           )
 
+  -- the same where the line is not longer than the limit
+  pub at_end_short : long ≡ false → now.at_end ≡ true → now.held ≡ [] → IsAtEnd (to_come now.source) → (empty : Bool)
+      → (empty ≡ true → line ≡ []) → (empty ≡ false → 0 < length line)
+      → ReadsFront to_come old now limit line (cond long TooLong (cond empty End Line))
+  at_end_short short ended held told empty none some = by long empty short (at_end ended held told empty none some)
+    where
+      by : (l e : Bool) → l ≡ false → Reads to_come old now limit line (cond l TooLong (cond e End Line))
+          → ReadsFront to_come old now limit line (cond l TooLong (cond e End Line))
+      by true e is h = absurd (true≢false is)
+      by false true is h = h
+      by false false is h = h
+
   -- there is no room for a piece of the line
   pub outgrows : (len room size : ℕ) → IsLine (take len now.held) → len ≤ length now.held → size ≡ length line → room < size + len
       → room < limit → size < limit → Outgrows to_come old limit room
@@ -240,6 +252,23 @@ module _ {S : Type 0} {to_come : S → Option (List ℕ)} {old now : Ahead S} {l
     ended_long new gathered size held rest source sized within why is =
         (g.seen ++ take len now.held, ended new held rest source, longer_now size sized within why, front_now gathered is)
 
+    -- the rest of it is left
+    pub left_long : (new : Ahead S) (gathered : List ℕ) (size : ℕ) → new.held ≡ drop len now.held → new.source ≡ now.source
+        → size ≡ length line → len ≤ length now.held → (long ≡ true) ⊎ (limit < size + len)
+        → gathered ≡ take limit (line ++ take len now.held)
+        → (x : List ℕ) × TookPart to_come old new x × (old.at_end ≡ false) × (limit < length x) × (gathered ≡ take limit x)
+    left_long new gathered size rest source sized within why is = (
+      g.seen ++ take len now.held,
+      record {
+        is_line = line_append g.seen (take len now.held) g.is_line is_piece;
+        bytes = Consumes-trans _ _ _ g.seen (take len now.held) g.bytes (loses to_come now new (take len now.held)
+            (sym (take-append-drop len now.held) ∙ ap (λ (y : List ℕ). take len now.held ++ y) (sym rest)) source);
+      },
+      not_before open',
+      longer_now size sized within why,
+      front_now gathered is,
+    )
+
     -- it is not
     pub ended_short : (new : Ahead S) (gathered : List ℕ) (size : ℕ) → now.held ≡ take len now.held ++ 10 ∷ drop (len + 1) now.held
         → new.held ≡ drop (len + 1) now.held → new.source ≡ now.source
@@ -269,6 +298,22 @@ module _ {S : Type 0} {to_come : S → Option (List ℕ)} {old now : Ahead S} {l
         × (new.at_end ≡ false) × (new.held ≡ [])
     failed (at_end, nothing) = (g.seen ++ now.held, record { is_line = line_now; bytes = seen_now }, not_before open', at_end, nothing)
 
+    -- the line is within the limit by then
+    short_now : (size : ℕ) → size ≡ length line → (long ≡ false) × (size + len ≤ limit) → length (g.seen ++ now.held) ≤ limit
+    short_now size sized (short, fits) = omega (arith, fits, sized, ap length (whole short), all, length-append g.seen now.held)
+
+    pub failed_short : (size : ℕ) → size ≡ length line → (long ≡ false) × (size + len ≤ limit)
+        → (new.at_end ≡ false) × (new.held ≡ []) → (x : List ℕ) × TookPart to_come old new x × (old.at_end ≡ false)
+        × (new.at_end ≡ false) × (new.held ≡ []) × (length x ≤ limit)
+    failed_short size sized fits (at_end, nothing) = (
+      g.seen ++ now.held,
+      record { is_line = line_now; bytes = seen_now },
+      not_before open',
+      at_end,
+      nothing,
+      short_now size sized fits,
+    )
+
     -- a block was read
     pub more : (gathered : List ℕ) (size : ℕ) (longer : Bool) → size ≡ length line
         → (longer ≡ true → (long ≡ true) ⊎ (limit < size + len))
@@ -280,7 +325,7 @@ module _ {S : Type 0} {to_come : S → Option (List ℕ)} {old now : Ahead S} {l
       is_line = line_now;
       bytes = seen_now;
       kept = front_now len is_piece open' gathered is ∙ ap (λ (y : List ℕ). take limit (g.seen ++ y)) piece_is;
-      short = λ e. (let f = fits e in omega (arith, f.1, sized, ap length (whole f.0), all, length-append g.seen now.held));
+      short = λ e. short_now size sized (fits e);
       longer = λ e. subst (λ (y : List ℕ). limit < length (g.seen ++ y)) piece_is
           (longer_now len is_piece open' size sized (omega (arith, all)) (grows e));
       count = counted n g.count g.some;
@@ -301,3 +346,8 @@ module _ {S : Type 0} {to_come : S → Option (List ℕ)} {old now : Ahead S} {l
   -- there are too many blocks
   pub too_many : endless ≤ n - 1 → (x : List ℕ) × TookPart to_come old now x × (endless ≤ length x)
   too_many many = (g.seen, record { is_line = g.is_line; bytes = g.bytes }, omega (arith, g.count, many))
+
+  pub too_many_short : long ≡ false → endless ≤ n - 1
+      → (x : List ℕ) × TookPart to_come old now x × (endless ≤ length x) × (length x ≤ limit)
+  too_many_short short many =
+      (g.seen, record { is_line = g.is_line; bytes = g.bytes }, omega (arith, g.count, many), g.short short)

@@ -51,18 +51,46 @@ Reads to_come old new limit line Fault = (part : List ℕ) × TookPart to_come o
 Reads to_come old new limit line Endless = (part : List ℕ) × TookPart to_come old new part × (endless ≤ length part)
 Reads to_come old new limit line NoMemory = (part : List ℕ) × TookPart to_come old new part
 
+-- The same of a reading that leaves a line above the limit once more bytes of it than the limit were met: what stands after these is held
+-- or to come.
+abbrev pub ReadsFront : {S : Type 0} → (S → Option (List ℕ)) → Ahead S → Ahead S → ℕ → List ℕ → LineRead → Type 0
+ReadsFront to_come old new limit line TooLong = (front : List ℕ) × TookPart to_come old new front × (old.at_end ≡ false)
+    × (limit < length front) × (line ≡ take limit front)
+ReadsFront to_come old new limit line Fault = (part : List ℕ) × TookPart to_come old new part × (old.at_end ≡ false) × (new.at_end ≡ false)
+    × (new.held ≡ []) × (length part ≤ limit)
+ReadsFront to_come old new limit line Endless = (part : List ℕ) × TookPart to_come old new part × (endless ≤ length part)
+    × (length part ≤ limit)
+ReadsFront to_come old new limit line read = Reads to_come old new limit line read
+
 abbrev pub is_failed : LineRead → Bool
 is_failed Fault = true
 is_failed _ = false
 
 -- What a reading used of an input: bytes of its first line, and the newline where that was met. Each read was asked for where all that was
--- held and read before it was used, and had no newline.
-pub record UsesLine {S : Type 0} (to_come : S → Option (List ℕ)) (reads : S → ℕ) (N : ℕ) (old new : Ahead S) (limit : ℕ) (line : List ℕ)
-    (read : LineRead) : Type 0 where
+-- held and read before it was used, and the reading waited for more after it.
+pub record UsesBy {S : Type 0} (Waits : List ℕ → Type 0) (to_come : S → Option (List ℕ)) (reads : S → ℕ) (N : ℕ) (old new : Ahead S)
+    (limit : ℕ) (line : List ℕ) (read : LineRead) : Type 0 where
   pub seen : List ℕ
   pub ended : List ℕ
   pub is_line : IsLine seen
   pub is_end : (ended ≡ []) ⊎ (ended ≡ 10 ∷ [])
-  pub reads_are : ReadsWhile to_come reads N IsLine old (seen ++ ended) new
+  pub reads_are : ReadsWhile to_come reads N Waits old (seen ++ ended) new
   -- what was gathered of it
   pub front : (read ≡ NoMemory → ⊥) → line ≡ take limit seen
+
+-- it waits for more where no newline was met
+abbrev pub UsesLine : {S : Type 0} → (S → Option (List ℕ)) → (S → ℕ) → ℕ → Ahead S → Ahead S → ℕ → List ℕ → LineRead → Type 0
+UsesLine to_come reads N old new limit line read = UsesBy IsLine to_come reads N old new limit line read
+
+-- these bytes have no newline, and are no more than the limit
+abbrev pub IsWithin : ℕ → List ℕ → Type 0
+IsWithin limit bytes = IsLine bytes × (length bytes ≤ limit)
+
+-- it waits for more where no newline was met, and no more bytes than the limit
+abbrev pub UsesFront : {S : Type 0} → (S → Option (List ℕ)) → (S → ℕ) → ℕ → Ahead S → Ahead S → ℕ → List ℕ → LineRead → Type 0
+UsesFront to_come reads N old new limit line read = UsesBy (IsWithin limit) to_come reads N old new limit line read
+
+-- where a reading waits for more: one that reads a line above the limit whole, or one that leaves it
+abbrev pub waits_by : Bool → ℕ → List ℕ → Type 0
+waits_by true limit = IsLine
+waits_by false limit = IsWithin limit

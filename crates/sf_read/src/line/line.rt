@@ -6,7 +6,8 @@ ghost use Rattle.memchr.specs.Find.{IsFirstByte, is_byte};
 ghost use lib.Lanes.{chunk, mask_l};
 ghost use Rattle.sf_read.specs.source.Counts.{counted_on};
 ghost use Rattle.sf_read.specs.line.Cut.{IsLine};
-ghost use Rattle.sf_read.specs.line.Reading.{IsHeld, Outgrows, Reads, UsesLine, is_failed};
+ghost use Rattle.sf_read.specs.line.Reading.{IsHeld, Outgrows, Reads, ReadsFront, UsesBy, UsesFront, UsesLine};
+ghost use Rattle.sf_read.specs.line.Reading.{is_failed, waits_by};
 
 use crate::{Lookahead, Source};
 use memchr::memchr;
@@ -21,7 +22,7 @@ const LANES: usize = 16;
 pub enum LineRead {
     /// A line was read.
     Line,
-    /// A line was passed over that is longer than the limit, but for its first bytes.
+    /// The line is longer than the limit; its first bytes were read.
     TooLong,
     /// The input has no further line.
     End,
@@ -145,17 +146,25 @@ pub fn held_line<S: Source, const N: usize>(from: &Lookahead<S, N>, limit: usize
     }
 }
 
-/// Reads the next line of what the lookahead holds and its source gives, without its newline, in place of what was read
-/// last, as fgets reads one (C11 7.21.7.2). Of a line of more than `limit` bytes these first ones are read, and the
-/// others passed over; by the limit 0 each line is passed over. No memory is taken where the vector has room for the
-/// line, or for `limit` bytes; where it is refused, the answer is NoMemory, and what was read of the line is lost.
-pub fn next_line<S: Source, const N: usize>(
+/// Whether a line that is longer than the limit, if it is, is left.
+fn is_left(long: bool, all: bool) -> bool
+    ensures left { result ≡ true → (long ≡ true) × (all ≡ false) }
+    ensures stays { result ≡ false → all ≡ false → long ≡ false }
+{
+    long && !all
+}
+
+/// Gathers the next line, up to the limit. One that is longer is passed over to its end, if all of it is to be taken;
+/// else it is left once more bytes of it than the limit were met.
+fn gather_line<S: Source, const N: usize>(
     from: &mut Lookahead<S, N>,
     line: &mut Vec<u8>,
     limit: usize,
+    all: bool,
 ) -> LineRead
-    ensures reads { Reads S.to_come from.old from.new limit line.new.items result }
-    ensures waited { UsesLine S.to_come S.reads N from.old from.new limit line.new.items result }
+    ensures reads { all ≡ true → Reads S.to_come from.old from.new limit line.new.items result }
+    ensures fronts { all ≡ false → ReadsFront S.to_come from.old from.new limit line.new.items result }
+    ensures waited { UsesBy (waits_by all limit) S.to_come S.reads N from.old from.new limit line.new.items result }
     ensures failures { S.failures from.new.source
         ≡ (if is_failed result then counted_on (S.failures from.old.source) else S.failures from.old.source) }
     ensures refused { result ≡ LineRead.NoMemory → Outgrows S.to_come from.old limit (vec_capacity line.old) }
@@ -177,6 +186,10 @@ pub fn next_line<S: Source, const N: usize>(
             Ok(longer) => long = longer,
             Err(_) => return LineRead::NoMemory,
         }
+        if is_left(long, all) {
+            from.consume(piece.len);
+            return LineRead::TooLong;
+        }
         if piece.ended {
             from.consume(piece.len + 1);
             return if long {
@@ -191,4 +204,49 @@ pub fn next_line<S: Source, const N: usize>(
         }
     }
     LineRead::Endless
+}
+
+/// Reads the next line of what the lookahead holds and its source gives, without its newline, in place of what was read
+/// last, as fgets reads one (C11 7.21.7.2). Of a line of more than `limit` bytes these first ones are read, and the
+/// others passed over; by the limit 0 each line is passed over. No memory is taken where the vector has room for the
+/// line, or for `limit` bytes; where it is refused, the answer is NoMemory, and what was read of the line is lost.
+pub fn next_line<S: Source, const N: usize>(
+    from: &mut Lookahead<S, N>,
+    line: &mut Vec<u8>,
+    limit: usize,
+) -> LineRead
+    ensures reads { Reads S.to_come from.old from.new limit line.new.items result }
+    ensures waited { UsesLine S.to_come S.reads N from.old from.new limit line.new.items result }
+    ensures failures { S.failures from.new.source
+        ≡ (if is_failed result then counted_on (S.failures from.old.source) else S.failures from.old.source) }
+    ensures refused { result ≡ LineRead.NoMemory → Outgrows S.to_come from.old limit (vec_capacity line.old) }
+    ensures capacity { vec_capacity line.old ≤ vec_capacity line.new }
+    ensures unkept { limit ≡ 0 → result ≡ LineRead.NoMemory → ⊥ }
+    ensures enough { limit ≤ vec_capacity line.old → result ≡ LineRead.NoMemory → ⊥ }
+    ensures no_read { from.old.at_end ≡ true → from.new.source ≡ from.old.source }
+    ensures stays { from.old.at_end ≡ true → from.new.at_end ≡ true }
+{
+    gather_line(from, line, limit, true)
+}
+
+/// Reads the next line as `next_line` does, but for one of more than `limit` bytes: once more of it were met, the first
+/// `limit` ones are the answer, with TooLong, and nothing more is read. What stands after the bytes that were met is
+/// held or to come; `next_line` with the limit 0 passes over the rest of the line.
+pub fn read_front<S: Source, const N: usize>(
+    from: &mut Lookahead<S, N>,
+    line: &mut Vec<u8>,
+    limit: usize,
+) -> LineRead
+    ensures reads { ReadsFront S.to_come from.old from.new limit line.new.items result }
+    ensures waited { UsesFront S.to_come S.reads N from.old from.new limit line.new.items result }
+    ensures failures { S.failures from.new.source
+        ≡ (if is_failed result then counted_on (S.failures from.old.source) else S.failures from.old.source) }
+    ensures refused { result ≡ LineRead.NoMemory → Outgrows S.to_come from.old limit (vec_capacity line.old) }
+    ensures capacity { vec_capacity line.old ≤ vec_capacity line.new }
+    ensures unkept { limit ≡ 0 → result ≡ LineRead.NoMemory → ⊥ }
+    ensures enough { limit ≤ vec_capacity line.old → result ≡ LineRead.NoMemory → ⊥ }
+    ensures no_read { from.old.at_end ≡ true → from.new.source ≡ from.old.source }
+    ensures stays { from.old.at_end ≡ true → from.new.at_end ≡ true }
+{
+    gather_line(from, line, limit, false)
 }
