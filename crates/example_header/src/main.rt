@@ -1,7 +1,8 @@
 //! Sums the counts of `name,count,colour` lines on standard input, which a header line comes before.
 #![tactic(auto)]
 
-use sf_scanf::prelude::{Lines, Lookahead, Match, Profile, ScanFormat, StdSource};
+use anyhow::ensure;
+use sf_scanf::prelude::{Ended, Lines, Lookahead, Match, Profile, ScanFormat, StdSource};
 use sf_scanf::scan::fscan;
 
 /// The most bytes that one line may have.
@@ -15,7 +16,8 @@ fn main(rt: HostRuntime) -> anyhow::Result<()> {
     let header = ScanFormat::parse(alloc, Profile::One, b"%*[^\n]%*1[\n]")?;
     let format = ScanFormat::parse(alloc, Profile::One, b"%[^,],%u,%[^,]")?;
     let mut input = Lookahead::<_, 4096>::new(StdSource::new(rt.stdin()));
-    fscan(alloc, &mut input, &header, LIMIT)?;
+    let first = fscan(alloc, &mut input, &header, LIMIT)?;
+    ensure!(first.report().outcome().is_done(), "there is no header line");
     let lines = Lines::<Stock, _, 4096>::over(alloc, input, &format, LIMIT)?.matching(Match::Whole);
     let mut sum: u64 = 0;
     for line in lines {
