@@ -35,7 +35,7 @@ class Many:
     def rows(self, block, is_text):
         """The rows of the records that are done."""
         if self.format._numbers:
-            return block.rows_of_numbers(self.format._numbers, self.room.of_records(self.count), _RECORDS)
+            return block.rows_of_numbers(self.format._numbers, self.room.of_records(self.count))
         return block.rows(self.columns(is_text), self.count)
 
     def columns(self, is_text):

@@ -1,8 +1,9 @@
 """Rows of Python values, made of what the library writes: 16 bytes for each slot of each record, and the texts."""
 import struct
+from collections import deque
 from ctypes import string_at
 from io import BytesIO, StringIO
-from itertools import accumulate, chain, compress
+from itertools import accumulate, chain
 
 from ._library import CODES, F32, I64, NONE, TEXT, VALUE
 
@@ -86,17 +87,17 @@ class Block:
     """The rows of one block of an input, which can be ended before they are all taken."""
 
     def __init__(self):
-        self._columns, self._open = [], []
+        self._columns, self._unpacked = [], iter(())
 
     def rows(self, columns, count):
         """The rows of these columns, one after the other."""
         self._columns = columns or [[()] * count]
         return zip(*columns) if columns else iter(self._columns[0])
 
-    def rows_of_numbers(self, struct, cells, most):
-        """The rows of cells that have numbers alone, each made as it is taken. There are never more rows than `most`."""
-        self._open = self._open or [True] * most
-        return compress(struct.iter_unpack(cells), self._open)
+    def rows_of_numbers(self, struct, cells):
+        """The rows of cells that have numbers alone, each made as it is taken."""
+        self._unpacked = struct.iter_unpack(cells)
+        return self._unpacked
 
     def end(self):
         """Gives the values back. No row follows of columns, since zip ends where one of its lists does."""
@@ -104,9 +105,9 @@ class Block:
             it.clear()
 
     def close(self):
-        """No row follows, since compress ends where its list does."""
+        """No row follows: what is left of numbers is taken here."""
         self.end()
-        self._open.clear()
+        deque(self._unpacked, 0)
 
 
 class Rows:

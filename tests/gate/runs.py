@@ -8,7 +8,6 @@ import subprocess
 import sys
 import threading
 import time
-from dataclasses import dataclass, field
 from itertools import islice
 
 import needs
@@ -99,15 +98,12 @@ LAST = re.compile(r"(\d+) passed, (\d+) failed(?:, (\d+) skipped)?")
 OVER = re.compile(r"passed over: (?P<what>(?:(?P<number>\d+) )?.*?): (?P<why>.*)")
 
 
-@dataclass
 class Outcome:
     """What a command came to. `over` has what it passed over: how many rows, what they are, and why."""
 
-    passed: int = 0
-    failed: int = 0
-    skipped: int = 0
-    over: list = field(default_factory=list)
-    complaints: list = field(default_factory=list)
+    def __init__(self, passed=0, failed=0, skipped=0, over=(), complaints=()):
+        self.passed, self.failed, self.skipped = passed, failed, skipped
+        self.over, self.complaints = [*over], [*complaints]
 
 
 def complaints_in(lines):
