@@ -51,8 +51,9 @@ pub fn two_scans_read<S: Source, const N: usize>(
     second: &ScanFormat,
 ) -> Option<(Scanned<HeapStore>, Scanned<HeapStore>)>
     ensures { IfSome result (λ both. (bytes : List ℕ) × (blocks : List (List ℕ))
-        × AreOneInput S.to_come S.reads from.old from.new (record { directives = first.now; limit = 1000; report = both.0.report }
-        ∷ record { directives = second.now; limit = 1000; report = both.1.report } ∷ []) bytes blocks) }
+        × AreOneInput S.to_come S.reads from.old from.new (record
+        { directives = first.now; limit = 1000; report = both.0.report } ∷ record
+        { directives = second.now; limit = 1000; report = both.1.report } ∷ []) bytes blocks) }
 {
     reads_are_one_input::<S, N>();
     let Ok(before) = fscan(alloc, from, first, LIMIT) else {

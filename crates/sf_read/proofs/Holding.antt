@@ -55,7 +55,8 @@ held_made to_come reads N ds m old new report run met fits held source at_end = 
   bytes = take report.used old.held;
   used = sym (length-take-le report.used old.held fits);
   reads_are = no_reads (take report.used old.held) new (rw (held, take-append-drop) refl) source;
-  whole = λ _ z ending follows. inl (subst (λ (x : List ℕ). RunWithin ds m (x ++ z) ending report) (sym (append-nil old.held)) (run z ending));
+  whole = λ _ z ending follows. inl (subst (λ (x : List ℕ). RunWithin ds m (x ++ z) ending report) (sym (append-nil old.held))
+      (run z ending));
   cut = λ f. absurd (let g = ap is_fault met in cc);
   nothing_held = λ f. absurd (let g = ap is_fault met in cc);
   failed = λ f. absurd (let g = ap is_fault met in cc);

@@ -63,9 +63,11 @@ module _ {S : Type 0} (to_come : S → Option (List ℕ)) (reads : S → ℕ) (N
       let input : t ≡ old.held ++ here ++ (later ++ z) = input_here old.held here later z in
       let parts : t ≡ made.bytes ++ mid.held ++ (later ++ z) = input ∙ ap (λ (x : List ℕ). x ++ (later ++ z)) (sym made.reads_are.gave) in
       let took : take s.report.used t ≡ made.bytes = front t made.bytes mid.held (later ++ z) s.report.used parts made.used in
-      let left : drop s.report.used t ≡ mid.held ++ (later ++ z) = back t made.bytes mid.held (later ++ z) s.report.used parts made.used in (
+      let left : drop s.report.used t ≡ mid.held ++ (later ++ z) =
+      back t made.bytes mid.held (later ++ z) s.report.used parts made.used in (
         record {
-          whole = λ f. subst (λ (x : List ℕ). RunTold s.directives s.limit x End s.report) (sym input) (made.whole f (later ++ z) End follows);
+          whole = λ f. subst (λ (x : List ℕ). RunTold s.directives s.limit x End s.report) (sym input)
+              (made.whole f (later ++ z) End follows);
           cut = λ f. let all : made.bytes ≡ old.held ++ here = sym (append-nil made.bytes)
               ∙ ap (λ (h : List ℕ). made.bytes ++ h) (sym (made.nothing_held f).0) ∙ made.reads_are.gave in
               subst (λ (x : List ℕ). RunWithin s.directives s.limit x Fault s.report) (sym (took ∙ all)) (made.cut f);
@@ -89,7 +91,8 @@ module _ {S : Type 0} (to_come : S → Option (List ℕ)) (reads : S → ℕ) (N
         front = joined made.bytes (bytes_in_turn to_come reads N mid scans new more) mid.held old.held new.held (concat here) (concat later)
             made.reads_are.gave rest.front ∙ ap (λ (x : List ℕ). old.held ++ x) (sym both);
         count = rest.count ∙ ap (counted_by (length later)) made.reads_are.count
-            ∙ counted_more (length here) (length later) (length (here ++ later)) (reads old.source) (omega (arith, length-append here later));
+            ∙ counted_more (length here) (length later) (length (here ++ later)) (reads old.source)
+            (omega (arith, length-append here later));
         taken = subst (Consumes (to_come old.source) (to_come new.source)) (sym both)
             (Consumes-trans (to_come old.source) (to_come mid.source) (to_come new.source) (concat here) (concat later)
             made.reads_are.taken rest.taken);
