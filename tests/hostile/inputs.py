@@ -7,6 +7,7 @@ import program
 from answers import answers, difference, quoted
 
 SPACE = b" \t\n\v\f\r"
+LONG = "line 1: too long"
 
 
 def record(number, why, at, used, assigned=0):
@@ -36,6 +37,10 @@ def for_ever():
         ("yes 0 | tr -d '\\n'", ["scan", "%i"], record(1, "too long", 1, 1048576)),
         ("yes 1 | tr -d '\\n'", ["scan", "%65535d"], record(1, "out of range", 1, 65535)),
         ("yes -", ["scan", "%d"], record(1, "matching failure", 1, 1)),
+        ("cat /dev/zero", ["scan", "--lines", "%d"], LONG),
+        ("cat /dev/zero", ["scan", "--lines", "--limit", "0", "%*[^a]"], LONG),
+        ("yes 1 | tr -d '\\n'", ["scan", "--lines", "--limit", "10", "%d"], LONG),
+        ("yes 1 | tr -d '\\n'", ["copy", "--lines", "%d;", "%11d;"], LONG),
     ]
     for feed, words, err in cases:
         yield f"{feed} | sf {' '.join(words)[:60]}", piped(feed, words, err, 1)

@@ -198,6 +198,38 @@ class LinesThatAreTold(Streams):
             self.expect(1, b"1\n3\n", None, *self.WORDS, stdin=b"1\nx\n3\n", stderr=disk)
 
 
+class LinesAboveTheLimit(Streams):
+    """A line is reported once it is above the limit, whether its end has come or not."""
+    TOLD = b"sf: line 1: too long\n"
+
+    def test_a_line_without_an_end_is_told(self):
+        told = b"sf: /dev/zero: line 1: too long\n"
+        self.expect(1, b"", told, "scan", "-l", "%d", "/dev/zero")
+        self.expect(1, b"", told, "scan", "-l", "--limit", "0", "%d", "/dev/zero")
+        self.expect(1, b"", told, "copy", "-l", "%d;", "%11d;", "/dev/zero")
+
+    def test_it_is_told_while_the_input_is_open(self):
+        running = self.watched("scan", "-l", "--limit", "10", "%d")
+        self.feed(b"7" * 10)
+        self.assertIsNone(read_within(running.stderr, 0.2))
+        self.feed(b"7")
+        self.assertEqual(read_within(running.stderr, program.SECONDS), self.TOLD)
+        self.assertEqual(running.wait(program.SECONDS), 1)
+        self.assertEqual(running.stdout.read(), b"")
+
+    def test_with_keep_going_its_rest_is_passed_over(self):
+        running = self.watched("scan", "-l", "-k", "--limit", "10", "%d")
+        self.feed(b"7" * 11)
+        self.assertEqual(read_within(running.stderr, program.SECONDS), self.TOLD)
+        self.feed(b"8" * 100000)
+        self.assertIsNone(read_within(running.stderr, 0.2))
+        out, err = running.communicate(b"9\n2\n", timeout=program.SECONDS)
+        self.assertEqual((running.returncode, out, err), (1, b"2\n", b""))
+
+    def test_with_keep_going_memory_stays_flat(self):
+        self.assertEqual(self.bounded("scan", "-l", "-k", "%d", megabytes=16, stdin=b"7" * 60000000 + b"\n2\n"), (1, b"2\n", self.TOLD))
+
+
 class Blocks(Streams):
     # (what stands in front of the writer has 32,768 bytes, and 16,384 are read at once; a line has three bytes more than its text)
     LENGTHS = (1, 7, 13, 14, 29, 30, 3997, 8192, 16380, 16383, 16384, 32743, 32744, 32745, 32746, 32764, 32765, 32766, 32768, 40000, 70000)

@@ -1,7 +1,8 @@
 -- The records of the lines that are written are those of their rows.
-use Rattle.std.proofs.Common.{◌≡◌, ℕ, ◌+◌, ◌<◌, ◌^◌, Bool, true, false, cond, nat_eq, ◌&&◌, List, [], ◌∷◌, ◌++◌, length, map}
+use Rattle.std.proofs.Common.{◌≡◌, ℕ, zero, suc, ◌+◌, ◌<◌, ◌^◌, Bool, true, false, cond, nat_eq, ◌&&◌, List, [], ◌∷◌, ◌++◌, length, map}
 use Rattle.std.proofs.Common.{Option, Some, None, Ok, Err, inl, inr, refl, ap, ap₂, subst, ◌∙◌, arith, length-append}
-use Rattle.std.specs.List.{AllByRecursion, count_by}
+use Rattle.std.specs.Prelude.{drop, nat_lt, take}
+use Rattle.std.specs.List.{AllByRecursion, count_by, filter}
 use Rattle.sf_base.specs.Bytes.{AreBytes}
 use Rattle.sf_base.specs.Data.{Datum}
 use Rattle.sf_format.specs.declared.directive.Directive.{Directive}
@@ -11,7 +12,7 @@ use Rattle.sf_forms.specs.Heads.{headed, headed_text, names_over}
 use Rattle.sf_forms.specs.ReadingBack.{HeadedRecordsAreGiven, IsGivenValue}
 use Rattle.sf_forms.specs.makers.Forms.{Heading, writing_under}
 use Rattle.sf_forms.specs.makers.Works.{outcome_of}
-use Rattle.sf_read.specs.line.Cut.{begun_by, lines_by}
+use Rattle.sf_read.specs.line.Cut.{begun_by, lines_by, lines_of}
 use Rattle.sf_run.specs.outcome.Ending.{Ending}
 use Rattle.sf_run.specs.outcome.Ending.TheVariants.{End, Fault}
 use Rattle.sf_run.specs.outcome.Outcome.{Outcome}
@@ -23,7 +24,8 @@ use Rattle.sf_run.specs.Runs.{RunReport}
 use Rattle.sf_records.specs.declared.by_lines.end.LineFault.{LineFault}
 use Rattle.sf_records.specs.declared.by_lines.options.LinesOptions.{LinesOptions}
 use Rattle.sf_records.specs.ReadingBack.{AreGivenRows, columns_of, records_of}
-use Rattle.sf_records.specs.by_lines.Loops.{AreTurns, IfGoing, ending_by, goes_on, input_by, is_written, texts}
+use Rattle.sf_records.specs.by_lines.Loops.{AreTurns, IfGoing, goes_on, is_written, lines_for, lines_met, texts}
+use Rattle.sf_records.proofs.LinewiseLemmas.Choosing.{all_append}
 use Rattle.sf_records.specs.by_lines.ReadingBack.{AreLineRows, GivesRow, LineRow, LinesReadBack}
 use Rattle.sf_records.specs.by_lines.Turns.{Comes, LineWork, Picks, Turn, fault_from, fault_of, is_other, judged, number_of, turn_by}
 use Rattle.sf_records.specs.by_lines.Turns.{work_of}
@@ -47,6 +49,26 @@ lines_bytes ending (b ∷ t) are = by (nat_eq b 10) (lines_bytes ending t are.1)
         → AllByRecursion AreBytes (cond new ([] ∷ lines_by ending t) (begun_by b (lines_by ending t) ending))
     by true later = (tt, later)
     by false later = begun_bytes b (lines_by ending t) ending are.0 later
+
+all_left : {A : Type 0} (P : A → Type 0) (n : ℕ) (xs : List A) → AllByRecursion P xs → AllByRecursion P (drop n xs)
+all_left P zero xs all = all
+all_left P (suc n) [] all = tt
+all_left P (suc n) (x ∷ xs) all = all_left P n xs all.1
+
+all_kept : {A : Type 0} (P : A → Type 0) (test : A → Bool) (xs : List A) → AllByRecursion P xs → AllByRecursion P (filter test xs)
+all_kept P test [] all = tt
+all_kept P test (x ∷ xs) all = by (test x) (all_kept P test xs all.1)
+  where
+    by : (b : Bool) → AllByRecursion P (filter test xs) → AllByRecursion P (cond b (x ∷ filter test xs) (filter test xs))
+    by true rest = (all.0, rest)
+    by false rest = rest
+
+-- those of an input where a read failed, too
+met_bytes : (limit : ℕ) (t : List ℕ) → AreBytes t → AllByRecursion AreBytes (lines_met limit t)
+met_bytes limit t are = all_append AreBytes (lines_by Fault t)
+    (filter (λ line. nat_lt limit (length line)) (drop (length (lines_by Fault t)) (lines_of t))) (lines_bytes Fault t are)
+    (all_kept AreBytes (λ line. nat_lt limit (length line)) (drop (length (lines_by Fault t)) (lines_of t))
+    (all_left AreBytes (length (lines_by Fault t)) (lines_of t) (lines_bytes End t are)))
 
 -- ---- a line that is written
 
@@ -189,10 +211,9 @@ pub lines_back : {S : Type 0} (to_come : S → Option (List ℕ)) → EachDoneRu
 lines_back to_come fill_slots headed_given laws h options ignored formats telling accepted few t bytes now failures failures' before after
     silent told told' answer loop =
     let all = rowed fill_slots headed_given h options ignored formats telling accepted few 0
-    (lines_by (ending_by loop.failed) (input_by loop.failed loop.consumed t))
-    (lines_bytes (ending_by loop.failed) (input_by loop.failed loop.consumed t) (bytes_in loop.failed)) loop.done loop.later
+    (lines_for options.limit loop.failed loop.consumed t) (bytes_in loop.failed) loop.done loop.later
     (subst (λ (turns : List Turn). AreTurns (work_of options ignored formats (writing_under h) telling) 0
-    (lines_by (ending_by loop.failed) (input_by loop.failed loop.consumed t)) turns) loop.parts loop.are) in
+    (lines_for options.limit loop.failed loop.consumed t) turns) loop.parts loop.are) in
     record {
       rows = all.rows;
       are = all.are;
@@ -204,6 +225,6 @@ lines_back to_come fill_slots headed_given laws h options ignored formats tellin
       reads = reads_as laws h.form (names_over h) (map (λ row. columns_of h row.0 row.1) all.rows) all.tagged;
     }
   where
-    bytes_in : (failed : Bool) → AreBytes (input_by failed loop.consumed t)
-    bytes_in true = bytes_taken t loop.consumed bytes
-    bytes_in false = bytes
+    bytes_in : (failed : Bool) → AllByRecursion AreBytes (lines_for options.limit failed loop.consumed t)
+    bytes_in true = met_bytes options.limit (take loop.consumed t) (bytes_taken t loop.consumed bytes)
+    bytes_in false = lines_bytes End t bytes

@@ -1,22 +1,28 @@
 -- What comes of lines: that it is told of each, and joined.
 use Rattle.std.proofs.Common.{◌≡◌, ℕ, zero, suc, ◌+◌, ◌<◌, ◌≤◌, Bool, true, false, cond, List, [], ◌∷◌, ◌++◌, length, take, Option, Some}
-use Rattle.std.proofs.Common.{None, Err, ◌⊎◌, inl, inr, refl, sym, ap, subst, ◌∙◌, arith, append_assoc, append-nil}
-use Rattle.std.specs.Prelude.{IsSome}
+use Rattle.std.proofs.Common.{None, Err, ◌⊎◌, inl, inr, refl, sym, ap, subst, ◌∙◌, arith, append_assoc, append-nil, length-append, ◌&&◌}
+use Rattle.std.specs.Prelude.{IsSome, nat_lt, not}
+use Rattle.std.proofs.lemmas.List.{take-append-le}
 use Rattle.std.specs.List.{AllByRecursion, Contains, count_by}
 use Rattle.std.proofs.lemmas.Grind.{flat_map-append}
 use Rattle.std.proofs.lemmas.List.Sums.{sum_by-append}
 use Rattle.sf_format.specs.declared.directive.Directive.{Directive}
 use Rattle.sf_format.specs.Proper.{AreProper}
+use Rattle.sf_forms.specs.makers.Works.{Work, outcome_of}
 use Rattle.sf_run.specs.outcome.Ending.TheVariants.{End}
+use Rattle.sf_run.specs.outcome.Outcome.{Outcome}
+use Rattle.sf_run.specs.outcome.Status.{Status}
+use Rattle.sf_run.specs.outcome.Status.TheVariants.{Done, InputFailure, MatchingFailure, OutOfRange, NoMemory}
+use Rattle.sf_run.specs.outcome.Status.TheVariants as statuses
 use Rattle.sf_run.specs.Runs.{RunReport}
 use Rattle.sf_run.specs.Laws.{EachHasOneReport}
 use Rattle.sf_records.specs.declared.by_lines.end.LineFault.{LineFault}
-use Rattle.sf_records.specs.declared.by_lines.end.LineFault.TheVariants.{TooLong}
-use Rattle.sf_records.specs.by_lines.Turns.{AreScanned, LineWork, Matches, Misses, Picks, Turn, IsJudged, Comes, fault_of, number_of}
-use Rattle.sf_records.specs.by_lines.Turns.{turn_by}
-use Rattle.sf_records.specs.by_lines.Turns.{used_whole}
+use Rattle.sf_records.specs.declared.by_lines.end.LineFault.TheVariants.{Failed, LeftOver, TooLong, Unfit}
+use Rattle.sf_records.specs.by_lines.Turns.{AreScanned, LineWork, Matches, Miss, Misses, Picks, Turn, IsJudged, Comes, fault_of, number_of}
+use Rattle.sf_records.specs.by_lines.Turns.{fault_from, is_other, judged, turn_by, used_whole, written_by}
 use Rattle.sf_records.proofs.LinewiseLemmas.Choosing.{all_append, contains_first, contains_later}
-use Rattle.sf_records.specs.by_lines.Loops.{IfGoing, AllGoOn, AreTurns, goes_on, tellings, telling_of, texts, text_of}
+use Rattle.sf_records.specs.by_lines.Loops.{IfGoing, AllGoOn, AreTurns, ends_long, goes_on, is_long, tellings}
+use Rattle.sf_records.specs.by_lines.Loops.{telling_of, texts, text_of}
 
 -- ---- lines after each of which the loop goes on
 
@@ -70,6 +76,81 @@ passed_more w n (one ∷ front) (first ∷ done) line turn p comes goes = (
   passed_more w (n + 1) front done line turn p.2 (subst (λ (k : ℕ). Comes w k line turn) {x = n + suc (length front) + 1}
       {y = n + 1 + length front + 1} (omega arith) comes) goes,
 )
+
+-- ---- a line above the limit at which the loop stops
+
+not_both : (b c : Bool) → c ≡ true → (b && not c) ≡ false
+not_both true c e = rw e refl
+not_both false c e = refl
+
+pub none_long : (w : LineWork) (turns : List Turn) → AllGoOn w turns → ends_long w turns ≡ false
+none_long w [] all = refl
+none_long w (turn ∷ []) all = not_both (is_long turn) (goes_on w turn) all.0
+none_long w (turn ∷ next ∷ turns) all = none_long w (next ∷ turns) all.1
+
+pub long_at_last : (w : LineWork) (done : List Turn) (turn : Turn)
+    → ends_long w (done ++ turn ∷ []) ≡ (is_long turn && not (goes_on w turn))
+long_at_last w [] turn = refl
+long_at_last w (one ∷ []) turn = refl
+long_at_last w (one ∷ next ∷ done) turn = long_at_last w (next ∷ done) turn
+
+no_long_fault : (whole : Bool) (size : ℕ) (status : Status) (o : Outcome) → fault_from whole size status o ≡ Some TooLong → ⊥
+no_long_fault whole size Done o e = by (whole && nat_lt o.used size) e
+  where
+    by : (b : Bool) → cond b (Some (LeftOver o.used)) None ≡ Some TooLong → ⊥
+    by true e = cc
+    by false e = cc
+no_long_fault whole size InputFailure o e = cc
+no_long_fault whole size MatchingFailure o e = cc
+no_long_fault whole size OutOfRange o e = cc
+no_long_fault whole size statuses.TooLong o e = cc
+no_long_fault whole size NoMemory o e = cc
+
+judged_short : (matching : Bool) (made : Work) (r : RunReport) (line : List ℕ) (fault : Option LineFault) → (fault ≡ Some TooLong → ⊥)
+    → is_long (judged matching made r line fault) ≡ false
+judged_short matching made r line None other = by (made.fits r)
+  where
+    by : (b : Bool) → is_long (written_by b (made.text r) line) ≡ false
+    by true = refl
+    by false = refl
+judged_short matching made r line (Some fault) other = by (matching && is_other fault) fault other
+  where
+    by : (b : Bool) (fault : LineFault) → (Some fault ≡ Some TooLong → ⊥) → is_long (cond b None (Some (Err (line, fault)))) ≡ false
+    by true fault other = refl
+    by false (Failed o) other = refl
+    by false (LeftOver at) other = refl
+    by false TooLong other = absurd (other refl)
+    by false Unfit other = refl
+
+-- a line within the limit isn't reported as one above it
+pub short_turn : (w : LineWork) (number : ℕ) (line : List ℕ) (turn : Turn) → Comes w number line turn → length line ≤ w.options.limit
+    → is_long turn ≡ false
+short_turn w number line turn (inl (skipped, is)) short = ap is_long is
+short_turn w number line turn (inr (after, inl (long, is))) short = absurd (omega (arith, long, short))
+short_turn w number line turn (inr (after, inr (few, inl (ignored, is)))) short = ap is_long is
+short_turn w number line turn (inr (after, inr (few, inr (read, (ds, r, picks, is))))) short =
+    ap is_long is ∙ judged_short w.options.matching (w.makes (number_of picks) ds) r line (fault_of w.options line r)
+    (no_long_fault w.options.whole (length line) r.status (outcome_of r))
+
+-- one that is above it is, unless it is passed over
+pub long_turn : (w : LineWork) (number : ℕ) (line : List ℕ) (turn : Turn) (miss : Miss) → Comes w number line turn
+    → w.options.limit < length line → turn ≡ Some (Err miss) → is_long turn ≡ true
+long_turn w number line turn miss (inl (skipped, is)) long some = absurd (let other = sym is ∙ some in cc)
+long_turn w number line turn miss (inr (after, inl (above, is))) long some = ap is_long is
+long_turn w number line turn miss (inr (after, inr (few, more))) long some = absurd (omega (arith, few, long))
+
+-- so is a line that begins so
+pub comes_whole : (w : LineWork) (number : ℕ) (part more : List ℕ) (turn : Turn) → w.options.limit < length part
+    → Comes w number part turn → Comes w number (part ++ more) turn
+comes_whole w number part more turn long (inl skipped) = inl skipped
+comes_whole w number part more turn long (inr (after, inl (above, is))) = inr (
+  after,
+  inl (
+    omega (arith, above, length-append part more),
+    is ∙ ap (λ (y : List ℕ). Some (Err (y, TooLong))) (sym (take-append-le w.options.limit part more (omega (arith, above)))),
+  ),
+)
+comes_whole w number part more turn long (inr (after, inr (few, other))) = absurd (omega (arith, few, long))
 
 -- ---- sums
 

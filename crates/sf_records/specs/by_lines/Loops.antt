@@ -1,14 +1,14 @@
 -- What comes of the lines of an input, and how the loop over them ends.
-use Rattle.std.specs.Prelude.{◌≡◌, ◌≤◌, ◌+◌, ◌-◌, ◌^◌, ◌++◌, ◌∷◌, ◌⊎◌, ℕ, nat_eq, Bool, true, false, if◌then◌else◌, List, [], length, take}
-use Rattle.std.specs.Prelude.{drop, Option, Some, None, Ok, Err}
-use Rattle.std.specs.List.{AllByRecursion, flat_map, count_by}
+use Rattle.std.specs.Prelude.{◌≡◌, ◌≤◌, ◌<◌, ◌+◌, ◌-◌, ◌^◌, ◌++◌, ◌∷◌, ◌⊎◌, ◌&&◌, not, ℕ, nat_eq, nat_lt, Bool, true, false}
+use Rattle.std.specs.Prelude.{if◌then◌else◌, List, [], length, take, drop, Option, Some, None, Ok, Err}
+use Rattle.std.specs.List.{AllByRecursion, filter, flat_map, count_by}
 use Rattle.std.specs.Io.KnownBytes.{Appends}
-use Rattle.sf_run.specs.outcome.Ending.{Ending}
 use Rattle.sf_run.specs.outcome.Ending.TheVariants as endings
 use Rattle.sf_read.specs.source.Ahead.{Ahead, input_of}
 use Rattle.sf_read.specs.source.Counts.{counted_on}
 use Rattle.sf_read.specs.declared.line.line.LineRead.{LineRead}
 use Rattle.sf_read.specs.declared.line.line.LineRead.TheVariants as reads
+use Rattle.sf_records.specs.declared.by_lines.end.LineFault.TheVariants.{TooLong}
 use Rattle.sf_records.specs.declared.by_lines.end.LinesEnd.{LinesEnd}
 use Rattle.sf_records.specs.declared.by_lines.end.LinesFault.{LinesFault}
 use Rattle.sf_records.specs.declared.by_lines.end.LinesFault.TheVariants.{Read, Write, Memory, TooMany}
@@ -95,10 +95,10 @@ abbrev pub AllGoOn : LineWork → List Turn → Type 0
 AllGoOn w turns = AllByRecursion (λ turn. goes_on w turn ≡ true) turns
 
 -- each line has had its turn, up to one at which the loop stops; or it stops at none, and the read failed in the line
--- after
-abbrev pub Concludes : LineWork → Bool → List Turn → LinesEnd → Type 0
-Concludes w true turns answer = AllGoOn w turns × (answer ≡ ended turns (Some (Read (length turns + 1))))
-Concludes w false turns answer = answer ≡ ended turns None
+-- after those that are ended, of which there are so many
+abbrev pub Concludes : LineWork → Bool → ℕ → List Turn → LinesEnd → Type 0
+Concludes w true whole turns answer = AllGoOn w turns × (answer ≡ ended turns (Some (Read (whole + 1))))
+Concludes w false whole turns answer = answer ≡ ended turns None
 
 -- the text of the first of these was begun, and is not written in full
 abbrev pub IsBegun : List ℕ → List Turn → Type 0
@@ -120,6 +120,27 @@ pub record AreLinesAndPart (t : List ℕ) (consumed lines : ℕ) (part : List �
   pub is_line : IsLine part
   pub bytes : take consumed t ≡ take whole t ++ part
 
+-- a line that is reported as one above the limit
+abbrev pub is_long : Turn → Bool
+is_long (Some (Err (line, TooLong))) = true
+is_long _ = false
+
+-- the loop stops at the last of these, which is above the limit
+abbrev pub ends_long : LineWork → List Turn → Bool
+ends_long w [] = false
+ends_long w (turn ∷ []) = is_long turn && not (goes_on w turn)
+ends_long w (turn ∷ next ∷ turns) = ends_long w (next ∷ turns)
+
+-- so many bytes are those of so many lines; or of these but the last, and of that one more than the limit
+abbrev pub AreTakenBy : Bool → ℕ → List ℕ → ℕ → ℕ → Type 0
+AreTakenBy true limit t consumed lines = (part : List ℕ) × AreLinesAndPart t consumed (lines - 1) part × (limit < length part)
+AreTakenBy false limit t consumed lines = AreLines t consumed lines
+
+-- The bytes of the lines that had these turns. Where the loop stops at the last one for being above the limit, they end within it, after
+-- more of its bytes than the limit.
+abbrev pub AreTaken : LineWork → List ℕ → ℕ → List Turn → Type 0
+AreTaken w t consumed turns = AreTakenBy (ends_long w turns) w.options.limit t consumed (length turns)
+
 -- The bytes up to where memory was refused: before the first line; or after those that are passed over, once the line
 -- after so many was read, or while it was.
 abbrev pub IsRefusedAt : LineWork → List ℕ → ℕ → ℕ → Type 0
@@ -127,10 +148,10 @@ IsRefusedAt w t consumed lines =
     (lines ≡ 0) × (consumed ≡ 0)
     ⊎ (w.options.skip ≤ lines) × (AreLines t consumed (lines + 1) ⊎ ((part : List ℕ) × AreLinesAndPart t consumed lines part))
 
--- the bytes of the most lines; or of these, and too many of the next one
+-- the bytes of the most lines; or of these but the last, and too many of that one
 abbrev pub AreTooMany : List ℕ → ℕ → ℕ → Type 0
 AreTooMany t consumed lines = (lines ≡ most_lines) × AreLines t consumed lines
-    ⊎ ((part : List ℕ) × AreLinesAndPart t consumed lines part × (endless ≤ length part))
+    ⊎ (0 < lines) × ((part : List ℕ) × AreLinesAndPart t consumed (lines - 1) part × (endless ≤ length part))
 
 -- The loop was ended before, after these turns, where so many bytes of t were consumed: the sink failed within the text
 -- of the next line, which was taken whole; memory was refused; or there are too many lines, or too many bytes of one.
@@ -142,12 +163,15 @@ IsCutShort w done part later t consumed answer =
 
 -- ---- the loop over a source
 
--- what the loop had for its input: all of t, or, where the source failed, the bytes that were consumed
-abbrev pub input_by : Bool → ℕ → List ℕ → List ℕ
-input_by failed consumed t = if failed then take consumed t else t
+-- The lines of a text after which a read failed: those that are ended, and what is after these where it has more bytes than the limit,
+-- since a line has its turn once it is above that.
+abbrev pub lines_met : ℕ → List ℕ → List (List ℕ)
+lines_met limit t = lines_by endings.Fault t
+    ++ filter (λ line. nat_lt limit (length line)) (drop (length (lines_by endings.Fault t)) (lines_of t))
 
-abbrev pub ending_by : Bool → Ending
-ending_by failed = if failed then endings.Fault else endings.End
+-- the lines that the loop had: those of t; or, where the source failed, those of the bytes that were consumed
+abbrev pub lines_for : ℕ → Bool → ℕ → List ℕ → List (List ℕ)
+lines_for limit failed consumed t = if failed then lines_met limit (take consumed t) else lines_of t
 
 -- What the loop over the input t wrote, reported and answered. now: what is held and to come afterwards. The sink held
 -- the bytes `before`, and then `after`, where it makes them known; `failures` and `failures'` are the counts of the
@@ -164,7 +188,7 @@ pub record Loops {S : Type 0} (w : LineWork) (to_come : S → Option (List ℕ))
   pub rest : input_of to_come now ≡ Some (drop consumed t)
   -- what comes of the input's lines, and of how many of them it did
   pub turns : List Turn
-  pub are : AreTurns w 0 (lines_by (ending_by failed) (input_by failed consumed t)) turns
+  pub are : AreTurns w 0 (lines_for w.options.limit failed consumed t) turns
   pub done : List Turn
   pub later : List Turn
   pub parts : turns ≡ done ++ later
@@ -172,7 +196,8 @@ pub record Loops {S : Type 0} (w : LineWork) (to_come : S → Option (List ℕ))
   pub part : List ℕ
   pub appends : Appends before after (texts done ++ part)
   pub tells : silent ≡ false → Appends told told' (tellings w 0 done)
-  pub ends : (later ≡ []) × (part ≡ []) × Concludes w failed done answer × (failed ≡ false → AreLines t consumed (length done))
+  pub ends : (later ≡ []) × (part ≡ []) × Concludes w failed (length (lines_by endings.Fault (take consumed t))) done answer
+      × (failed ≡ false → AreTaken w t consumed done)
       ⊎ (failed ≡ false) × AllGoOn w done × IsCutShort w done part later t consumed answer
 
 -- the same, with what was reported of these lines: all of it, or a part where the teller failed within it. `dumb`:

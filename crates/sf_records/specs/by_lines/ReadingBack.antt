@@ -7,7 +7,6 @@ use Rattle.sf_format.specs.declared.directive.Directive.{Directive}
 use Rattle.sf_format.specs.Proper.{IsAccepted, destinations_of}
 use Rattle.sf_forms.specs.Heads.{names_over}
 use Rattle.sf_forms.specs.makers.Forms.{Heading, writing_under}
-use Rattle.sf_read.specs.line.Cut.{lines_by}
 use Rattle.sf_read.specs.source.Ahead.{Ahead}
 use Rattle.sf_run.specs.Rows.{FillsSlots, given_to}
 use Rattle.sf_run.specs.Runs.{RunReport}
@@ -15,7 +14,7 @@ use Rattle.sf_records.specs.declared.by_lines.end.LineFault.{LineFault}
 use Rattle.sf_records.specs.declared.by_lines.end.LinesEnd.{LinesEnd}
 use Rattle.sf_records.specs.declared.by_lines.options.LinesOptions.{LinesOptions}
 use Rattle.sf_records.specs.ReadingBack.{AreGivenRows, ReadsAs, columns_of, records_of}
-use Rattle.sf_records.specs.by_lines.Loops.{Loops, ending_by, input_by, is_written, texts}
+use Rattle.sf_records.specs.by_lines.Loops.{Loops, is_written, lines_for, texts}
 use Rattle.sf_records.specs.by_lines.Turns.{LineWork, Picks, Turn, fault_of, number_of, work_of}
 
 -- the line matches the format with this number, which counts, and its run gave this to the slots
@@ -61,4 +60,4 @@ LinesReadBack {S} to_come =
     (loop : Loops (work_of options ignored formats (writing_under h) telling) to_come t now failures failures' before after silent told
     told' answer)
     → LinesReadAsRows h (work_of options ignored formats (writing_under h) telling)
-    (lines_by (ending_by loop.failed) (input_by loop.failed loop.consumed t)) loop.done
+    (lines_for options.limit loop.failed loop.consumed t) loop.done

@@ -120,7 +120,7 @@ impl Counts {
         let mut counts = self;
         match judged {
             Judged::Written => counts.written += 1,
-            Judged::Failed => counts.failed += 1,
+            Judged::Failed | Judged::Cut(_) => counts.failed += 1,
             Judged::Skipped | Judged::Stopped(_) | Judged::Unread(_) => {}
         }
         counts
@@ -145,7 +145,7 @@ impl Counts {
     }
 }
 
-/// Why the loop stops where the line with this number was not read.
+/// Why the loop stops where the line with this number was not read, or its rest was not.
 pub(crate) fn read_fault(read: LineRead, line: u64) -> Option<LinesFault>
     ensures { result ≡ fault_after line read }
 {
@@ -169,6 +169,6 @@ pub(crate) fn next_step(
         Judged::Skipped | Judged::Written => Ok(()),
         Judged::Failed => { if keep_going { Ok(()) } else { Err(None) } }
         Judged::Stopped(fault) => Err(Some(fault)),
-        Judged::Unread(read) => Err(read_fault(read, number)),
+        Judged::Cut(read) | Judged::Unread(read) => Err(read_fault(read, number)),
     }
 }

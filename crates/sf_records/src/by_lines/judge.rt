@@ -38,6 +38,9 @@ pub(crate) enum Judged {
     Written,
     /// It fails, and was reported.
     Failed,
+    /// It is above the limit, and was reported, and the loop stops within it: TooLong, where it isn't to keep going;
+    /// else what the reading of the rest came to.
+    Cut(LineRead),
     /// It counts as nothing, and the loop stops.
     Stopped(LinesFault),
     /// No line was read.

@@ -77,7 +77,7 @@ fn store_for(alloc: Global, formats: &LineFormats<'_>) -> Result<HeapStore, Allo
 /// and sscanf (C11 7.21.7.2, 7.21.6.7): up to byte 10, which is no part of it, or to the end of the input.
 ///
 /// - The first lines are passed over, as many as `skip` is.
-/// - A line of more than `limit` bytes fails, by its first ones.
+/// - A line of more than `limit` bytes fails, by its first ones, and is reported once more of it were met.
 /// - A line that one of `ignored` is Done on, and uses whole, is passed over.
 /// - Of any other the first of `tried` counts that it matches: that is Done on it, and, with `whole`, uses all of it.
 ///   The maker writes what it makes of that; where the values don't fit, the line fails.
@@ -86,7 +86,9 @@ fn store_for(alloc: Global, formats: &LineFormats<'_>) -> Result<HeapStore, Allo
 ///
 /// Each line that fails goes to the teller, and the loop stops there, unless it is to keep going. Where the teller is
 /// refused memory, the loop ends with that fault, and the line isn't counted. What is after the lines that were read
-/// stays held or unread.
+/// stays held or unread. The rest of a line above the limit is passed over, and takes no memory, where the loop keeps
+/// going; else nothing more is read, and the rest stays held or unread too. Where the source fails in that rest, the
+/// line counts as one that fails, and the loop ends with that fault.
 ///
 /// The status is 0 where no line fails, 1 where one does, 3 where a read or the sink failed, and 4 where memory
 /// was refused.

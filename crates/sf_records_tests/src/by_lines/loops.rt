@@ -295,6 +295,28 @@ static FAILURES: [Failure; 3] = [
     ),
 ];
 
+/// A read fails within the rest of a line above the limit, which was told.
+static LONG_FAILURE: Failure = (
+    &[
+        ReadStep::Give(b"ab\nabcd"),
+        ReadStep::Give(b"e"),
+        ReadStep::Fail,
+        ReadStep::Give(b"f\n"),
+    ],
+    &[],
+    false,
+    Wanted {
+        output: "ab\n",
+        told: "2ta",
+        end: LinesEnd {
+            status: 3,
+            written: 1,
+            failed: 1,
+            fault: Some(LinesFault::Read { line: 2 }),
+        },
+    },
+);
+
 /// How many reads have failed where a loop ends so.
 fn failed_reads(end: LinesEnd) -> u64 {
     match end.fault {
@@ -303,13 +325,15 @@ fn failed_reads(end: LinesEnd) -> u64 {
     }
 }
 
-/// The loop that keeps going, with what fails.
+/// The loop, with what fails.
 fn fails_so(
     rt: &(impl Abort + AllocGlobal),
     failure: &Failure,
     formats: &LineFormats<'_>,
+    options: LinesOptions,
 ) -> Result<(), Fail>
     requires some { 0 < length formats.now.tried.now }
+    requires limit { options.limit ≤ 2147483647 }
 {
     let (reads, writes, refuses, wanted) = failure;
     let mut from = Lookahead::<ScriptSource<'_>, 64>::new(ScriptSource::new(reads));
@@ -323,7 +347,7 @@ fn fails_so(
         &mut maker,
         &mut teller,
         formats,
-        KEEP_GOING,
+        options,
     );
     is_ended(rt, to.bytes(), &teller.said, end, wanted);
     assert_eq!(rt; from.source().failures(), failed_reads(end));
@@ -339,9 +363,9 @@ fn devices_fail(rt: HostRuntime) -> Result<(), Fail> {
         tried: &tried,
     };
     for failure in &FAILURES {
-        fails_so(&rt, failure, &formats)?;
+        fails_so(&rt, failure, &formats, KEEP_GOING)?;
     }
-    Ok(())
+    fails_so(&rt, &LONG_FAILURE, &formats, SHORT)
 }
 
 /// How the loop over the lines of a source ends by `%s`, at the first that doesn't match.

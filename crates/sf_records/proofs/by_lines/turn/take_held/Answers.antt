@@ -40,7 +40,9 @@ returns-clause-turns g c telling said =
     let line : c.split_at-2.result.0.now ≡ take len held = c.split_at-2.ensures.front ∙ ap (take len) c.held-held.ensures.held in
     turned g.S.Source.to_come c.args.from.now c.consume.new.self w c.args.number _ _ _ _ _ _ (take len held)
     (takes g.S.Source.to_come c.args.from.now c.consume.new.self len c.requires.held c.requires.open c.consume.ensures.held
-    c.consume.ensures.source) c.judge-judged.result
+    c.consume.ensures.source)
+    (let within = c.requires.held.within in omega (arith, c.requires.short, length-take-le len held (omega (arith, within))))
+    c.judge-judged.result
     (subst (λ (y : List ℕ). Came w c.args.number y (g.K.Sink.contents c.args.to.now) (g.K.Sink.contents c.judge-judged.new.to)
     (g.E.Teller.failed c.args.teller.now) (g.E.Teller.failed c.judge-judged.new.teller) (g.E.Teller.told c.args.teller.now)
     (g.E.Teller.told c.judge-judged.new.teller) c.judge-judged.result)
