@@ -17,7 +17,7 @@ fn main(rt: HostRuntime) -> anyhow::Result<()> {
     let format = ScanFormat::parse(alloc, Profile::One, b"%[^,],%u,%[^,]")?;
     let mut input = Lookahead::<_, 4096>::new(StdSource::new(rt.stdin()));
     let first = fscan(alloc, &mut input, &header, LIMIT)?;
-    ensure!(first.report().outcome().is_done(), "there is no header line");
+    ensure!(first.report().outcome().is_done(), "no header line");
     let lines = Lines::<Stock, _, 4096>::over(alloc, input, &format, LIMIT)?.matching(Match::Whole);
     let mut sum: u64 = 0;
     for line in lines {

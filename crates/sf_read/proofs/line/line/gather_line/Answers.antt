@@ -80,7 +80,8 @@ returns-then-long-clause-reads g c =
     let going = c.loop-block.invariant.going in
     λ _. ended_long going c.piece_of-piece.result.len (rw c.held-held.ensures.held at c.piece_of-piece.ensures.line)
     (sym c.is_at_end.ensures.is ∙ c.if-is_at_end.false) c.consume-then-piece.new.self c.gather.new.line.items _
-    (rw c.held-held.ensures.held at (c.piece_of-piece.ensures.ended c.if-piece.true)) c.consume-then-piece.ensures.held c.consume-then-piece.ensures.source
+    (rw c.held-held.ensures.held at (c.piece_of-piece.ensures.ended c.if-piece.true)) c.consume-then-piece.ensures.held
+    c.consume-then-piece.ensures.source
     c.loop-block.line.ok.0 (rw c.held-held.ensures.held at c.piece_of-piece.ensures.within) (c.in-Ok.ensures.longer c.if-long.true)
     (rw (← c.held-held.ensures.held) c.in-Ok.ensures.front)
 
@@ -111,7 +112,8 @@ returns-else-long-clause-reads g c =
     let going = c.loop-block.invariant.going in
     λ _. ended_short going c.piece_of-piece.result.len (rw c.held-held.ensures.held at c.piece_of-piece.ensures.line)
     (sym c.is_at_end.ensures.is ∙ c.if-is_at_end.false) c.consume-then-piece.new.self c.gather.new.line.items _
-    (rw c.held-held.ensures.held at (c.piece_of-piece.ensures.ended c.if-piece.true)) c.consume-then-piece.ensures.held c.consume-then-piece.ensures.source
+    (rw c.held-held.ensures.held at (c.piece_of-piece.ensures.ended c.if-piece.true)) c.consume-then-piece.ensures.held
+    c.consume-then-piece.ensures.source
     c.loop-block.line.ok.0 (rw c.held-held.ensures.held at c.piece_of-piece.ensures.within) (c.in-Ok.ensures.short c.if-long.false)
     (rw (← c.held-held.ensures.held) c.in-Ok.ensures.front)
 
@@ -120,7 +122,8 @@ returns-else-long-clause-fronts g c =
     let going = c.loop-block.invariant.going in
     λ _. ended_short going c.piece_of-piece.result.len (rw c.held-held.ensures.held at c.piece_of-piece.ensures.line)
     (sym c.is_at_end.ensures.is ∙ c.if-is_at_end.false) c.consume-then-piece.new.self c.gather.new.line.items _
-    (rw c.held-held.ensures.held at (c.piece_of-piece.ensures.ended c.if-piece.true)) c.consume-then-piece.ensures.held c.consume-then-piece.ensures.source
+    (rw c.held-held.ensures.held at (c.piece_of-piece.ensures.ended c.if-piece.true)) c.consume-then-piece.ensures.held
+    c.consume-then-piece.ensures.source
     c.loop-block.line.ok.0 (rw c.held-held.ensures.held at c.piece_of-piece.ensures.within) (c.in-Ok.ensures.short c.if-long.false)
     (rw (← c.held-held.ensures.held) c.in-Ok.ensures.front)
 
@@ -215,13 +218,15 @@ pub returns-then-long-clause-waited : goal.returns-then-long-clause-waited
 returns-then-long-clause-waited g c =
     using.used_line c.loop-block.invariant.using _ (rw c.held-held.ensures.held at c.piece_of-piece.ensures.line) c.gather.new.line.items
     (rw (← c.held-held.ensures.held) c.in-Ok.ensures.front) _ c.consume-then-piece.new.self _
-    (rw c.held-held.ensures.held at (c.piece_of-piece.ensures.ended c.if-piece.true)) c.consume-then-piece.ensures.held c.consume-then-piece.ensures.source
+    (rw c.held-held.ensures.held at (c.piece_of-piece.ensures.ended c.if-piece.true)) c.consume-then-piece.ensures.held
+    c.consume-then-piece.ensures.source
 
 pub returns-else-long-clause-waited : goal.returns-else-long-clause-waited
 returns-else-long-clause-waited g c =
     using.used_line c.loop-block.invariant.using _ (rw c.held-held.ensures.held at c.piece_of-piece.ensures.line) c.gather.new.line.items
     (rw (← c.held-held.ensures.held) c.in-Ok.ensures.front) _ c.consume-then-piece.new.self _
-    (rw c.held-held.ensures.held at (c.piece_of-piece.ensures.ended c.if-piece.true)) c.consume-then-piece.ensures.held c.consume-then-piece.ensures.source
+    (rw c.held-held.ensures.held at (c.piece_of-piece.ensures.ended c.if-piece.true)) c.consume-then-piece.ensures.held
+    c.consume-then-piece.ensures.source
 
 pub returns-then-is_err-clause-waited : goal.returns-then-is_err-clause-waited
 returns-then-is_err-clause-waited g c =
