@@ -2,7 +2,8 @@ use Rattle.std.proofs.Common.{◌∙◌, Bool, cond, length, refl, sym, ap, arit
 use Rattle.std.proofs.lemmas.List.{length-take-le, take-append-drop}
 use Rattle.std.specs.Prelude.{vec_capacity}
 use Rattle.sf_read.specs.source.Counts.{counted_on}
-use Rattle.sf_read.proofs.LineLemmas.Gathering.{begins, not_before, within, at_end, at_end_short, ended_long, ended_short, failed, left_long}
+use Rattle.sf_read.proofs.LineLemmas.Gathering.{begins, not_before, within, at_end, at_end_short, ended_long, ended_short}
+use Rattle.sf_read.proofs.LineLemmas.Gathering.{failed, left_long}
 use Rattle.sf_read.proofs.LineLemmas.Gathering.{failed_short, more, outgrows, too_many, too_many_short}
 use Rattle.sf_read.proofs.LineLemmas.Gathering.{empty_list, tested_zero}
 use Rattle.sf_read.proofs.LineLemmas.Gathering.{tested_some, if_ok, if_err}
@@ -36,7 +37,8 @@ returns-then-is_at_end-clause-fronts g c =
     let going = c.loop-block.invariant.going in
     let sized = c.loop-block.line.ok.0 in
     let is = c.is_empty.ensures in
-    λ left. rw (c.last_read.ensures.read) (at_end_short going (c.loop-block.invariant.short left) (sym c.is_at_end.ensures.is ∙ c.if-is_at_end.true)
+    λ left. rw (c.last_read.ensures.read) (at_end_short going (c.loop-block.invariant.short left)
+    (sym c.is_at_end.ensures.is ∙ c.if-is_at_end.true)
     (c.is_at_end.ensures.held c.if-is_at_end.true) (c.is_at_end.ensures.told c.if-is_at_end.true) c.is_empty.result
     (λ e. empty_list c.loop-block.line.items (sym sized ∙ tested_zero c.loop-block.line.len c.is_empty.result is e))
     (λ e. omega (arith, sized, tested_some c.loop-block.line.len c.is_empty.result is e)))
