@@ -99,7 +99,8 @@ module _ {S : Type 0} {all : Bool} {to_come : S → Option (List ℕ)} {reads : 
           ended = 10 ∷ [];
           is_line = line_append u.seen piece u.is_line is_piece;
           is_end = inr refl;
-          reads_are = used_more {to_come = to_come} {reads = reads} {N = N} {Waits = waits_by all limit} {old = old} {now = now} {x = u.seen}
+          reads_are = used_more {to_come = to_come} {reads = reads} {N = N} {Waits = waits_by all limit} {old = old} {now = now}
+              {x = u.seen}
               ((u.seen ++ piece) ++ 10 ∷ []) new u.reads_are source whole
               (omega (arith, length-append (u.seen ++ piece) (10 ∷ []), length-append u.seen piece));
           front = λ _. front_now;
@@ -117,7 +118,8 @@ module _ {S : Type 0} {all : Bool} {to_come : S → Option (List ℕ)} {reads : 
           ended = [];
           is_line = line_append u.seen piece u.is_line is_piece;
           is_end = inl refl;
-          reads_are = used_more {to_come = to_come} {reads = reads} {N = N} {Waits = waits_by all limit} {old = old} {now = now} {x = u.seen}
+          reads_are = used_more {to_come = to_come} {reads = reads} {N = N} {Waits = waits_by all limit} {old = old} {now = now}
+              {x = u.seen}
               ((u.seen ++ piece) ++ []) new u.reads_are source whole
               (omega (arith, length-append (u.seen ++ piece) [], length-append u.seen piece));
           front = λ _. front_now;

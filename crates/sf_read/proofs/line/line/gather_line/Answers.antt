@@ -2,8 +2,8 @@ use Rattle.std.proofs.Common.{◌∙◌, Bool, cond, length, refl, sym, ap, arit
 use Rattle.std.proofs.lemmas.List.{length-take-le, take-append-drop}
 use Rattle.std.specs.Prelude.{vec_capacity}
 use Rattle.sf_read.specs.source.Counts.{counted_on}
-use Rattle.sf_read.proofs.LineLemmas.Gathering.{begins, not_before, within, at_end, at_end_short, ended_long, ended_short, failed, left_long}
-use Rattle.sf_read.proofs.LineLemmas.Gathering.{failed_short, more, outgrows, too_many, too_many_short}
+use Rattle.sf_read.proofs.LineLemmas.Gathering.{begins, not_before, within, at_end, at_end_short, ended_long, ended_short, failed}
+use Rattle.sf_read.proofs.LineLemmas.Gathering.{failed_short, left_long, more, outgrows, too_many, too_many_short}
 use Rattle.sf_read.proofs.LineLemmas.Gathering.{empty_list, tested_zero}
 use Rattle.sf_read.proofs.LineLemmas.Gathering.{tested_some, if_ok, if_err}
 use Rattle.sf_read.proofs.LineLemmas.Using as using
@@ -36,7 +36,8 @@ returns-then-is_at_end-clause-fronts g c =
     let going = c.loop-block.invariant.going in
     let sized = c.loop-block.line.ok.0 in
     let is = c.is_empty.ensures in
-    λ left. rw (c.last_read.ensures.read) (at_end_short going (c.loop-block.invariant.short left) (sym c.is_at_end.ensures.is ∙ c.if-is_at_end.true)
+    λ left. rw (c.last_read.ensures.read) (at_end_short going (c.loop-block.invariant.short left)
+    (sym c.is_at_end.ensures.is ∙ c.if-is_at_end.true)
     (c.is_at_end.ensures.held c.if-is_at_end.true) (c.is_at_end.ensures.told c.if-is_at_end.true) c.is_empty.result
     (λ e. empty_list c.loop-block.line.items (sym sized ∙ tested_zero c.loop-block.line.len c.is_empty.result is e))
     (λ e. omega (arith, sized, tested_some c.loop-block.line.len c.is_empty.result is e)))
@@ -80,7 +81,8 @@ returns-then-long-clause-reads g c =
     let going = c.loop-block.invariant.going in
     λ _. ended_long going c.piece_of-piece.result.len (rw c.held-held.ensures.held at c.piece_of-piece.ensures.line)
     (sym c.is_at_end.ensures.is ∙ c.if-is_at_end.false) c.consume-then-piece.new.self c.gather.new.line.items _
-    (rw c.held-held.ensures.held at (c.piece_of-piece.ensures.ended c.if-piece.true)) c.consume-then-piece.ensures.held c.consume-then-piece.ensures.source
+    (rw c.held-held.ensures.held at (c.piece_of-piece.ensures.ended c.if-piece.true)) c.consume-then-piece.ensures.held
+    c.consume-then-piece.ensures.source
     c.loop-block.line.ok.0 (rw c.held-held.ensures.held at c.piece_of-piece.ensures.within) (c.in-Ok.ensures.longer c.if-long.true)
     (rw (← c.held-held.ensures.held) c.in-Ok.ensures.front)
 
@@ -111,7 +113,8 @@ returns-else-long-clause-reads g c =
     let going = c.loop-block.invariant.going in
     λ _. ended_short going c.piece_of-piece.result.len (rw c.held-held.ensures.held at c.piece_of-piece.ensures.line)
     (sym c.is_at_end.ensures.is ∙ c.if-is_at_end.false) c.consume-then-piece.new.self c.gather.new.line.items _
-    (rw c.held-held.ensures.held at (c.piece_of-piece.ensures.ended c.if-piece.true)) c.consume-then-piece.ensures.held c.consume-then-piece.ensures.source
+    (rw c.held-held.ensures.held at (c.piece_of-piece.ensures.ended c.if-piece.true)) c.consume-then-piece.ensures.held
+    c.consume-then-piece.ensures.source
     c.loop-block.line.ok.0 (rw c.held-held.ensures.held at c.piece_of-piece.ensures.within) (c.in-Ok.ensures.short c.if-long.false)
     (rw (← c.held-held.ensures.held) c.in-Ok.ensures.front)
 
@@ -120,7 +123,8 @@ returns-else-long-clause-fronts g c =
     let going = c.loop-block.invariant.going in
     λ _. ended_short going c.piece_of-piece.result.len (rw c.held-held.ensures.held at c.piece_of-piece.ensures.line)
     (sym c.is_at_end.ensures.is ∙ c.if-is_at_end.false) c.consume-then-piece.new.self c.gather.new.line.items _
-    (rw c.held-held.ensures.held at (c.piece_of-piece.ensures.ended c.if-piece.true)) c.consume-then-piece.ensures.held c.consume-then-piece.ensures.source
+    (rw c.held-held.ensures.held at (c.piece_of-piece.ensures.ended c.if-piece.true)) c.consume-then-piece.ensures.held
+    c.consume-then-piece.ensures.source
     c.loop-block.line.ok.0 (rw c.held-held.ensures.held at c.piece_of-piece.ensures.within) (c.in-Ok.ensures.short c.if-long.false)
     (rw (← c.held-held.ensures.held) c.in-Ok.ensures.front)
 
@@ -215,13 +219,15 @@ pub returns-then-long-clause-waited : goal.returns-then-long-clause-waited
 returns-then-long-clause-waited g c =
     using.used_line c.loop-block.invariant.using _ (rw c.held-held.ensures.held at c.piece_of-piece.ensures.line) c.gather.new.line.items
     (rw (← c.held-held.ensures.held) c.in-Ok.ensures.front) _ c.consume-then-piece.new.self _
-    (rw c.held-held.ensures.held at (c.piece_of-piece.ensures.ended c.if-piece.true)) c.consume-then-piece.ensures.held c.consume-then-piece.ensures.source
+    (rw c.held-held.ensures.held at (c.piece_of-piece.ensures.ended c.if-piece.true)) c.consume-then-piece.ensures.held
+    c.consume-then-piece.ensures.source
 
 pub returns-else-long-clause-waited : goal.returns-else-long-clause-waited
 returns-else-long-clause-waited g c =
     using.used_line c.loop-block.invariant.using _ (rw c.held-held.ensures.held at c.piece_of-piece.ensures.line) c.gather.new.line.items
     (rw (← c.held-held.ensures.held) c.in-Ok.ensures.front) _ c.consume-then-piece.new.self _
-    (rw c.held-held.ensures.held at (c.piece_of-piece.ensures.ended c.if-piece.true)) c.consume-then-piece.ensures.held c.consume-then-piece.ensures.source
+    (rw c.held-held.ensures.held at (c.piece_of-piece.ensures.ended c.if-piece.true)) c.consume-then-piece.ensures.held
+    c.consume-then-piece.ensures.source
 
 pub returns-then-is_err-clause-waited : goal.returns-then-is_err-clause-waited
 returns-then-is_err-clause-waited g c =
