@@ -14,8 +14,7 @@ use Rattle.sf_run.specs.outcome.Outcome.{Outcome}
 use Rattle.sf_run.specs.outcome.Status.{Status}
 use Rattle.sf_read.specs.field.Rows.{AreSlotsOf}
 use Rattle.sf_run.specs.outcome.Ending.TheVariants.{End}
-use Rattle.sf_run.specs.Runs.{RunReport}
-use Rattle.sf_read.specs.source.Ahead.{Ahead, input_of}
+use Rattle.sf_read.specs.source.Ahead.{input_of}
 use Rattle.sf_read.specs.Laws.{ScanMade}
 use Rattle.sf_read.specs.Reads.{counted_by}
 use Rattle.sf_read.specs.Scan.{MayFollow, is_fault}
