@@ -1,17 +1,19 @@
 -- What loops over the lines of one text came to, by the laws.
 use Rattle.std.proofs.Common.{◌≡◌, ◌⊎◌, ℕ, Bool, true, false, if◌then◌else◌, List, [], ◌∷◌, ◌++◌, length, Option, Some, None, inl, inr}
 use Rattle.std.proofs.Common.{sym, ap, subst, ◌∙◌, append-nil}
+use Rattle.std.specs.Prelude.{take}
 use Rattle.std.specs.List.{AllByRecursion}
 use Rattle.sf_format.specs.declared.directive.Directive.{Directive}
 use Rattle.sf_format.specs.Proper.{AreProper, IsAccepted}
 use Rattle.sf_forms.specs.Heads.{Heading, bare}
 use Rattle.sf_forms.specs.declared.form.OutputForm.TheVariants.{Json}
 use Rattle.sf_forms.specs.makers.Forms.{writing_under}
+use Rattle.sf_run.specs.outcome.Ending.TheVariants as endings
 use Rattle.sf_read.specs.line.Cut.{lines_by, lines_of}
 use Rattle.sf_read.specs.source.Ahead.{Ahead}
 use Rattle.sf_read.specs.source.Counts.{counted_on}
 use Rattle.sf_records.specs.by_lines.Laws.{LinesHaveOneTurn}
-use Rattle.sf_records.specs.by_lines.Loops.{AllGoOn, AreLines, AreTurns, Concludes, IsCutShort, Loops, ended, ending_by, input_by, texts}
+use Rattle.sf_records.specs.by_lines.Loops.{AllGoOn, AreTaken, AreTurns, Concludes, IsCutShort, Loops, ended, lines_for, texts}
 use Rattle.sf_records.specs.by_lines.Turns.{AreScanned, LineWork, Turn, work_of}
 use Rattle.sf_records.specs.declared.by_lines.end.LinesEnd.{LinesEnd}
 use Rattle.sf_records.specs.declared.by_lines.end.LinesFault.TheVariants as faults
@@ -26,9 +28,10 @@ pub ended_lines : {S : Type 0} {to_come : S → Option (List ℕ)} (w : LineWork
 ended_lines w t before after empty answer loop none = by loop.failed loop.failures_are loop.are loop.ends
   where
     by : (failed : Bool) → ◌≡◌ {A = ℕ} 0 (if failed then counted_on 0 else 0)
-        → AreTurns w 0 (lines_by (ending_by failed) (input_by failed loop.consumed t)) loop.turns
-        → ((loop.later ≡ []) × (loop.part ≡ []) × Concludes w failed loop.done answer
-        × (failed ≡ false → AreLines t loop.consumed (length loop.done)))
+        → AreTurns w 0 (lines_for w.options.limit failed loop.consumed t) loop.turns
+        → ((loop.later ≡ []) × (loop.part ≡ [])
+        × Concludes w failed (length (lines_by endings.Fault (take loop.consumed t))) loop.done answer
+        × (failed ≡ false → AreTaken w t loop.consumed loop.done))
         ⊎ ((failed ≡ false) × AllGoOn w loop.done × IsCutShort w loop.done loop.part loop.later t loop.consumed answer)
         → (turns : List Turn) × AreTurns w 0 (lines_of t) turns × (after ≡ texts turns) × (answer ≡ ended turns None)
     by true failures are ends = absurd cc

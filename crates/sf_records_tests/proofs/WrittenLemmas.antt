@@ -3,7 +3,7 @@ use Rattle.std.proofs.Common.{◌≡◌, ℕ, suc, Bool, true, false, List, [], 
 use Rattle.std.proofs.Common.{Option, Some, None, Result, Ok, Err, ◌⊎◌, inl, inr, refl, sym, ap, subst, ◌∙◌, arith}
 use Rattle.std.proofs.Common.{append_assoc, true≢false}
 use Rattle.std.specs.List.{AllByRecursion, count_by, join_with_byte}
-use Rattle.std.specs.Prelude.{is_err}
+use Rattle.std.specs.Prelude.{is_err, take}
 use Rattle.sf_forms.specs.declared.makers.maker.Unwritten.{Unwritten}
 use Rattle.sf_forms.specs.makers.Works.{Writes}
 use Rattle.sf_read.specs.line.Cut.{lines_by}
@@ -19,11 +19,12 @@ use Rattle.sf_forms.specs.Heads.{Heading, header_text}
 use Rattle.sf_forms.specs.JsonReading.{element_given, json_objects, json_rows}
 use Rattle.sf_forms.specs.ReadingBack.{text_given, with_names}
 use Rattle.sf_run.specs.outcome.Ending.{Ending}
+use Rattle.sf_run.specs.outcome.Ending.TheVariants as endings
 use Rattle.sf_records.specs.declared.end.ToolEnd.{ToolEnd}
 use Rattle.sf_records.specs.Judging.{is_write}
 use Rattle.sf_records.specs.ReadingBack.{ReadsAsRows, records_of}
 use Rattle.sf_records.specs.by_lines.Loops as lines
-use Rattle.sf_records.specs.by_lines.Loops.{AllGoOn, AreLines, Concludes, IsCutShort, Loops, ending_by, input_by, is_written, texts}
+use Rattle.sf_records.specs.by_lines.Loops.{AllGoOn, AreTaken, Concludes, IsCutShort, Loops, is_written, lines_for, texts}
 use Rattle.sf_records.specs.declared.by_lines.end.LinesEnd.{LinesEnd}
 use Rattle.sf_records.specs.by_lines.ReadingBack.{LineRow, LinesReadAsRows}
 use Rattle.sf_records.specs.by_lines.Turns.{LineWork, Turn}
@@ -160,7 +161,8 @@ pub record ArraysRead (after : List ℕ) (answer : LinesEnd) : Type 0 where
 
 -- what the end says of the lines
 ends_so : (w : LineWork) (failed : Bool) (done later : List Turn) (part : List ℕ) (t : List ℕ) (consumed : ℕ) (answer : LinesEnd)
-    → ((later ≡ []) × (part ≡ []) × Concludes w failed done answer × (failed ≡ false → AreLines t consumed (length done)))
+    → ((later ≡ []) × (part ≡ []) × Concludes w failed (length (lines_by endings.Fault (take consumed t))) done answer
+    × (failed ≡ false → AreTaken w t consumed done))
     ⊎ ((failed ≡ false) × AllGoOn w done × IsCutShort w done part later t consumed answer)
     → (lines.is_write answer.fault ≡ false → part ≡ []) × (answer.written ≡ count_by is_written done)
 ends_so w true done later part t consumed answer (inl (none, empty, concludes, are)) =
@@ -179,9 +181,9 @@ ends_so w failed done later part t consumed answer (inr (ok, goes, inr (inr (is,
 pub arrays_read : {S : Type 0} {to_come : S → Option (List ℕ)} (h : Heading) → h ≡ as_arrays → (w : LineWork) (t : List ℕ) {now : Ahead S}
     {failures failures' : ℕ} (before after : List ℕ) → before ≡ [] → {silent : Bool} {told told' : Option (List ℕ)} (answer : LinesEnd)
     (loop : Loops w to_come t now failures failures' (Some before) (Some after) silent told told' answer)
-    → LinesReadAsRows h w (lines_by (ending_by loop.failed) (input_by loop.failed loop.consumed t)) loop.done → ArraysRead after answer
+    → LinesReadAsRows h w (lines_for w.options.limit loop.failed loop.consumed t) loop.done → ArraysRead after answer
 arrays_read h is w t before after empty answer loop rows =
-    let lines_are = lines_by (ending_by loop.failed) (input_by loop.failed loop.consumed t) in
+    let lines_are = lines_for w.options.limit loop.failed loop.consumed t in
     let back = subst (λ (k : Heading). LinesReadAsRows k w lines_are loop.done) is rows in
     let end = ends_so w loop.failed loop.done loop.later loop.part t loop.consumed answer loop.ends in
     record {

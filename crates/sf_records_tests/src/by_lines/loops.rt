@@ -317,6 +317,23 @@ static LONG_FAILURE: Failure = (
     },
 );
 
+/// A line above the limit stops the loop: the read that would fail is not asked for.
+static LONG_STOP: Failure = (
+    &[ReadStep::Give(b"ab\nabcd"), ReadStep::Fail],
+    &[],
+    false,
+    Wanted {
+        output: "",
+        told: "2ta",
+        end: LinesEnd {
+            status: 1,
+            written: 0,
+            failed: 1,
+            fault: None,
+        },
+    },
+);
+
 /// How many reads have failed where a loop ends so.
 fn failed_reads(end: LinesEnd) -> u64 {
     match end.fault {
@@ -365,7 +382,8 @@ fn devices_fail(rt: HostRuntime) -> Result<(), Fail> {
     for failure in &FAILURES {
         fails_so(&rt, failure, &formats, KEEP_GOING)?;
     }
-    fails_so(&rt, &LONG_FAILURE, &formats, SHORT)
+    fails_so(&rt, &LONG_FAILURE, &formats, SHORT)?;
+    fails_so(&rt, &LONG_STOP, &formats, SHORT_SKIP_1)
 }
 
 /// How the loop over the lines of a source ends by `%s`, at the first that doesn't match.
