@@ -39,7 +39,7 @@ kind_there (suc n) i d kind below =
     let last : List ℕ = slot_number (kind (suc n)) ∷ [] in
     let at : i ≤ n = omega (arith, below) in
     elim (eq-or-lt_of_le at) [
-      inl same ↦ get_or-append_right (kinds_to n kind) last n i d (count_kinds n kind) (omega (arith, same))
+      | inl same ↦ get_or-append_right (kinds_to n kind) last n i d (count_kinds n kind) (omega (arith, same))
           ∙ ap (λ k. get_or last k d) (let e : i - n ≡ 0 = omega (arith, same) in e)
           ∙ ap (λ k. slot_number (kind k)) (let e : suc n ≡ i + 1 = omega (arith, same) in e)
       | inr less ↦ get_or_append_left (kinds_to n kind) last d i (omega (arith, less, count_kinds n kind))
@@ -84,7 +84,8 @@ line_taken ds proper limit text len report row stays run done is below used shor
     let line : List ℕ = take len text in
     let whole : text ++ [] ≡ line ++ drop len text = append-nil text ∙ sym (take-append-drop len text) in
     let size : length line ≡ len = length-take-le len text (omega (arith, below)) in
-    let own = stays ds proper limit line (drop len text) End End report (subst (λ x. RunWithin ds limit x End report) whole (run [] End)) done
+    let own = stays ds proper limit line (drop len text) End End report (subst (λ x. RunWithin ds limit x End report) whole (run [] End))
+    done
     (omega (arith, used, size)) in
     record {
       report = record report { met = own.0 };

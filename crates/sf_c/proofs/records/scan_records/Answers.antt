@@ -122,7 +122,7 @@ records-preserved c =
     omega (arith, length-append scanned.cells row, count, row_is.count) in
     let some : 0 < size = size_some c.args.lines c.args.format.now c.args.limit left size report front.0 is front.2 in
     let before : AreAt c.args.lines c.args.format.now c.args.limit c.args.text.now c.put_next.new.done c.put_next.new.values
-        c.put_next.new.texts (c.records.at + c.destinations-slots.result) = (
+    c.put_next.new.texts (c.records.at + c.destinations-slots.result) = (
       record {
         reports = scanned.reports ++ report ∷ [];
         are = subst (AreRecords c.args.lines c.args.format.now c.args.limit c.args.text.now (scanned.reports ++ report ∷ []))
