@@ -117,7 +117,7 @@ fn put_line(
 /// Takes the records of the lines that come next, as long as each is seen at once to be one and has no text, and there
 /// is room; by lines, and where the format has numbers alone. Answers the place of the next cell.
 #[inline(never)]
-pub(crate) fn put_lines(
+fn put_each_line(
     lines: bool,
     numbers: bool,
     store: &mut HeapStore,
@@ -155,4 +155,41 @@ pub(crate) fn put_lines(
         done.used += size;
     }
     at
+}
+
+/// As `put_each_line`, without a call where no line can be taken.
+#[inline(always)]
+pub(crate) fn put_lines(
+    lines: bool,
+    numbers: bool,
+    store: &mut HeapStore,
+    format: &ScanFormat,
+    slots: u8,
+    kinds: &[u8],
+    text: &[u8],
+    limit: u32,
+    values: &mut [SfValue],
+    from: usize,
+    done: &mut SfDone,
+) -> usize
+    requires slots { slots ≡ slots_in format.now }
+    requires kinds { kinds.now ≡ kinds_to slots (λ slot. kind_at slot format.now) }
+    requires used { done.old.used ≤ length text.now }
+    requires few { done.old.records ≤ done.old.used }
+    requires room { from ≤ length values.old }
+    ensures records { (texts : List ℕ) → AreAt lines format.now limit text.now done.old values.old texts from
+        → AreAt lines format.now limit text.now done.new values.new texts result }
+    ensures used { done.new.used ≤ length text.now }
+    ensures on { done.old.used ≤ done.new.used }
+    ensures few { done.new.records ≤ done.new.used }
+    ensures room { result ≤ length values.new }
+    ensures filled { done.new.filled ≡ done.old.filled }
+    ensures failed { done.new.failed ≡ done.old.failed }
+{
+    if !lines || !numbers {
+        return from;
+    }
+    put_each_line(
+        lines, numbers, store, format, slots, kinds, text, limit, values, from, done,
+    )
 }
