@@ -1,3 +1,4 @@
 pub mod Cells
 pub mod Data
 pub mod Runs
+pub mod Taking

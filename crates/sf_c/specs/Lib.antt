@@ -4,5 +4,6 @@ pub mod Formats
 pub mod Scans
 pub mod Records
 pub mod Fronts
+pub mod Lines
 pub mod Prints
 pub mod Words

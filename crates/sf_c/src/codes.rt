@@ -39,6 +39,9 @@ pub(crate) const NO_PAIR: i32 = 8;
 /// There is no such profile.
 pub(crate) const BAD_PROFILE: i32 = 9;
 
+/// The number of the kind of a text.
+pub(crate) const TEXT: u8 = 9;
+
 /// The profile with this number.
 pub(crate) fn profile_of(number: u8) -> Option<Profile>
     ensures { result ≡ profile_of number }

@@ -46,7 +46,7 @@ fn refuse(refusal: Refusal, found: &mut SfKinds) -> i32
 }
 
 /// Writes the kinds of a scan format's slots.
-fn put_scan_kinds(format: &ScanFormat, slots: u8, kinds: &mut [u8])
+pub(crate) fn put_scan_kinds(format: &ScanFormat, slots: u8, kinds: &mut [u8])
     requires { slots ≤ length kinds.old }
     ensures front { take slots kinds.new ≡ kinds_to slots (λ slot. kind_at slot format.now) }
     ensures rest { drop slots kinds.new ≡ drop slots kinds.old }

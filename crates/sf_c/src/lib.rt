@@ -16,6 +16,7 @@ ghost use Rattle.sf_c.specs.Words.{words_for};
 mod codes;
 mod formats;
 mod kinds;
+mod lines;
 mod outcome;
 mod pair;
 mod print;

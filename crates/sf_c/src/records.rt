@@ -9,8 +9,10 @@ ghost use Rattle.sf_c.specs.Fronts.{IsFront};
 ghost use Rattle.sf_c.specs.Scans.{HasNoRoom, slots_in};
 ghost use Rattle.sf_c.specs.Values.{IsRow};
 
-use crate::codes::{BAD_LIMIT, NO_MEMORY, NO_ROOM, OK};
+use crate::codes::{BAD_LIMIT, NO_MEMORY, NO_ROOM, OK, TEXT};
 use crate::formats::scan_format_of;
+use crate::kinds::put_scan_kinds;
+use crate::lines::put_lines;
 use crate::outcome::{SfOutcome, nothing, outcome_by, outcome_too_long};
 use crate::rows::{put_row, texts_len};
 use crate::scan::{MOST_TEXTS, refuse};
@@ -199,8 +201,14 @@ fn scan_records(
     ensures codes { (result ≡ pos 0) ⊎ ((result ≡ pos 3) ⊎ (result ≡ pos 4)) }
 {
     let slots = format.destinations();
+    let mut block = [0; 32];
+    put_scan_kinds(format, slots, &mut block);
+    let kinds = &block[..slots as usize];
+    let numbers = !kinds.contains(&TEXT);
     let mut store = first;
-    let mut at = 0;
+    let mut at = put_lines(
+        lines, numbers, &mut store, format, slots, kinds, text, limit, values, 0, done,
+    );
     'records: while done.used < text.len() {
         if values.len() - at < slots as usize {
             return NO_ROOM;
@@ -224,6 +232,9 @@ fn scan_records(
                 }
                 at += slots as usize;
                 store = scanned.into_store();
+                at = put_lines(
+                    lines, numbers, &mut store, format, slots, kinds, text, limit, values, at, done,
+                );
             }
         }
     }

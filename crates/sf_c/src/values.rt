@@ -27,7 +27,7 @@ pub struct SfValue {
 
 /// The cell of a number or of a float.
 #[inline(always)]
-fn number(slot: u8, kind: Kind, bits: u64) -> SfValue
+pub(crate) fn number(slot: u8, kind: Kind, bits: u64) -> SfValue
     ensures { result ≡ record {
       bits = bits;
       len = 0;

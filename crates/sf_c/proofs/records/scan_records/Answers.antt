@@ -4,6 +4,7 @@ use Rattle.std.proofs.lemmas.List.{take_rest}
 use Rattle.sf_run.specs.Runs.{RunReport}
 use Rattle.sf_c.specs.declared.records.SfDone.{SfDone}
 use Rattle.sf_c.specs.declared.values.SfValue.{SfValue}
+use Rattle.sf_c.specs.Lines.{AreAt}
 use Rattle.sf_c.specs.Records.{AreCutShort, AreRecords, AreRows, IsRunAt, IsTaken}
 use Rattle.sf_c.specs.Scans.{HasNoRoom, outcome_by, slots_in}
 use Rattle.sf_c.specs.Values.{IsRow}
@@ -14,23 +15,24 @@ use Rattle.sf_c.proofs.records.scan_records.Goals as goal
 pub records-init : goal.records-init
 records-init c =
     let nothing = c.requires.nothing in
+    let before : AreAt c.args.lines c.args.format.now c.args.limit c.args.text.now c.args.done.now c.args.values.now c.args.texts.now 0 = (
+      record {
+        reports = [];
+        are = ap (λ (d : SfDone). d.used) nothing;
+        count = ap (λ (d : SfDone). d.records) nothing;
+        cells = [];
+        laid = refl;
+        rows = refl;
+      },
+      refl,
+    ) in
     record {
-      scanned = (
-        record {
-          reports = [];
-          are = ap (λ (d : SfDone). d.used) nothing;
-          count = ap (λ (d : SfDone). d.records) nothing;
-          cells = [];
-          laid = refl;
-          rows = refl;
-        },
-        refl,
-      );
-      used = omega (arith, ap (λ (d : SfDone). d.used) nothing);
-      filled = omega (arith, ap (λ (d : SfDone). d.filled) nothing);
-      few = omega (arith, ap (λ (d : SfDone). d.records) nothing);
-      failed = ap (λ (d : SfDone). d.failed) nothing;
-      at = omega arith;
+      scanned = c.put_lines-at.ensures.records c.args.texts.now before;
+      used = c.put_lines-at.ensures.used;
+      filled = omega (arith, c.put_lines-at.ensures.filled, ap (λ (d : SfDone). d.filled) nothing);
+      few = c.put_lines-at.ensures.few;
+      failed = c.put_lines-at.ensures.failed ∙ ap (λ (d : SfDone). d.failed) nothing;
+      at = c.put_lines-at.ensures.room;
     }
 
 pub returns-then-values-at-clause-full : goal.returns-then-values-at-clause-full
@@ -119,28 +121,30 @@ records-preserved c =
     let len : length (scanned.cells ++ row) ≡ c.records.at + slots_in c.args.format.now =
     omega (arith, length-append scanned.cells row, count, row_is.count) in
     let some : 0 < size = size_some c.args.lines c.args.format.now c.args.limit left size report front.0 is front.2 in
+    let before : AreAt c.args.lines c.args.format.now c.args.limit c.args.text.now c.put_next.new.done c.put_next.new.values
+    c.put_next.new.texts (c.records.at + c.destinations-slots.result) = (
+      record {
+        reports = scanned.reports ++ report ∷ [];
+        are = subst (AreRecords c.args.lines c.args.format.now c.args.limit c.args.text.now (scanned.reports ++ report ∷ []))
+            (sym (c.put_next.ensures.size yes))
+            (records_more c.args.lines c.args.format.now c.args.limit c.args.text.now scanned.reports report c.records.done.used size
+            scanned.are front.0 is);
+        count = omega (arith, c.put_next.ensures.records yes, scanned.count, length-append scanned.reports (report ∷ []));
+        cells = scanned.cells ++ row;
+        laid = ap (λ (n : ℕ). take n c.put_next.new.values) len ∙ laid
+            ∙ ap (λ (x : List SfValue). x ++ row) (ap (λ (n : ℕ). take n c.records.values) (sym count) ∙ scanned.laid);
+        rows = rows_more texts c.args.format.now scanned.reports report scanned.cells row
+            (subst (λ (t : List ℕ). AreRows t c.args.format.now scanned.reports scanned.cells) (sym texts_are)
+            (rows_longer (take c.records.done.filled c.records.texts) more c.args.format.now scanned.reports scanned.cells scanned.rows))
+            row_is;
+      },
+      omega (arith, len, c.destinations-slots.ensures.count),
+    ) in
     record {
-      scanned = (
-        record {
-          reports = scanned.reports ++ report ∷ [];
-          are = subst (AreRecords c.args.lines c.args.format.now c.args.limit c.args.text.now (scanned.reports ++ report ∷ []))
-              (sym (c.put_next.ensures.size yes))
-              (records_more c.args.lines c.args.format.now c.args.limit c.args.text.now scanned.reports report c.records.done.used size
-              scanned.are front.0 is);
-          count = omega (arith, c.put_next.ensures.records yes, scanned.count, length-append scanned.reports (report ∷ []));
-          cells = scanned.cells ++ row;
-          laid = ap (λ (n : ℕ). take n c.put_next.new.values) len ∙ laid
-              ∙ ap (λ (x : List SfValue). x ++ row) (ap (λ (n : ℕ). take n c.records.values) (sym count) ∙ scanned.laid);
-          rows = rows_more texts c.args.format.now scanned.reports report scanned.cells row
-              (subst (λ (t : List ℕ). AreRows t c.args.format.now scanned.reports scanned.cells) (sym texts_are)
-              (rows_longer (take c.records.done.filled c.records.texts) more c.args.format.now scanned.reports scanned.cells scanned.rows))
-              row_is;
-        },
-        omega (arith, len, c.destinations-slots.ensures.count),
-      );
-      used = omega (arith, c.put_next.ensures.size yes, front.1, length-drop c.records.done.used c.args.text.now, c.records.invariant.used);
-      filled = c.put_next.ensures.within yes;
-      few = omega (arith, c.put_next.ensures.size yes, c.put_next.ensures.records yes, some, c.records.invariant.few);
-      failed = c.put_next.ensures.failed ∙ c.records.invariant.failed;
-      at = omega (arith, c.if-values-at.false, c.put_next.auto.values, c.records.auto.values, c.records.invariant.at);
+      scanned = c.put_lines-at-in-Run.ensures.records c.put_next.new.texts before;
+      used = c.put_lines-at-in-Run.ensures.used;
+      filled = omega (arith, c.put_next.ensures.within yes, c.put_lines-at-in-Run.ensures.filled);
+      few = c.put_lines-at-in-Run.ensures.few;
+      failed = c.put_lines-at-in-Run.ensures.failed ∙ c.put_next.ensures.failed ∙ c.records.invariant.failed;
+      at = c.put_lines-at-in-Run.ensures.room;
     }
