@@ -6,7 +6,8 @@
 
    What C leaves open is refused, with a status each, and no destination is written unless the call answers SF_OK.
    Formats: C11's, of the C locale, without %p, %m and wide characters; %b of base 2; %?d, whose item may be missing, so
-   that its destination stays as it is. %d wants int32_t, %ld int64_t, %hhu uint8_t, %f float, %lf double, and so on.
+   that its destination stays as it is; %=8lf, a column of eight bytes; %!d, digits alone.
+   %d wants int32_t, %ld int64_t, %hhu uint8_t, %f float, %lf double, and so on.
    Ownership: a call keeps nothing but what a reader is opened with (`from`), which has to live as long as the reader.
    sf_close gives back all of a reader's memory, which grows to the longest record. Any thread may call; a reader is for
    one thread at a time. There are no globals, no locale and no errno. Memory comes from malloc: no signal handler may

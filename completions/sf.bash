@@ -4,7 +4,7 @@ _sf() {
     local word=${COMP_WORDS[COMP_CWORD]} before=${COMP_WORDS[COMP_CWORD-1]} at
     local all='-p --profile --explain --no-explain -h --help' records='--limit --line-buffered'
     local lines='-l --lines -s --skip -w --whole -k --keep-going -q --quiet'
-    local scan='-o --output --print --names -e --tag --matching --ignore'
+    local scan='-S --strict -o --output --print --names -e --tag --matching --ignore'
     COMPREPLY=()
     # the file of a redirection
     if [[ $before == *[\<\>]* ]]; then

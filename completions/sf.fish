@@ -36,6 +36,7 @@ complete -c sf -n '__sf_has_command show scan print check copy' -s h -l help -d 
 complete -c sf -n '__sf_has_command scan copy' -l limit -x -d 'The most bytes of one record'
 complete -c sf -n '__sf_has_command scan copy' -l line-buffered -d 'Write what each record gives at once'
 complete -c sf -n '__sf_has_command show scan print check copy' -s p -l profile -x -a '1 2 3' -d 'The formats that are read'
+complete -c sf -n '__sf_has_command scan' -s S -l strict -d 'Take no space, plus or prefix before a value; with -l, as with -w'
 complete -c sf -n '__sf_has_command scan' -s o -l output -x -a 'plain tsv json csv' -d 'How values are written'
 complete -c sf -n '__sf_has_command scan' -l print -x -d 'Write each record by this print format, without a newline of its own'
 complete -c sf -n '__sf_has_command scan' -l names -x -d 'The names of the columns, as a,b: a header or keys'

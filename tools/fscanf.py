@@ -26,17 +26,6 @@ getattr(sys, "set_int_max_str_digits", int)(0)
 
 from scan_formats import Byte, Conversion, Fault, Percent, Space, WHITE, directives_of, quoted  # noqa: E402
 
-# ---- fronts of the input
-
-
-def greatest(most, holds):
-    """IsGreatest: the greatest number up to `most` with a property that 0 has, and each number below one that has it."""
-    least = most if holds(most) else 0
-    while least < most:
-        half = (least + most + 1) // 2
-        least, most = (half, most) if holds(half) else (least, half - 1)
-    return least
-
 
 def skip(x):
     """IsSkip: how many bytes of white space stand in front (p5, p8)."""
@@ -48,32 +37,31 @@ def skip(x):
 # The radix of an integer whose first digit isn't 0, of one whose first digit is 0, and after the letters of prefixes.
 RADICES = dict(Dec=(10, 10, {}), Oct=(8, 8, {}), Hex=(16, 16, {b"x": 16}), Bin=(2, 2, {b"b": 2}))
 RADICES |= dict(Auto=(10, 8, {b"x": 16}), AutoBin=(10, 8, {b"x": 16, b"b": 2}))
+SIGNS = dict(Any=b"+-", Minus=b"-", Nothing=b"")  # has_plus, has_minus: those that may stand there
 
 
 def number(radix, digits):
     """IsNumber: the number of one or more digits of the radix; None where these are none."""
-    is_numeral = digits and not digits.lower().translate(None, b"0123456789abcdef"[:radix])
-    return int(digits, radix) if is_numeral else None
+    return int(digits, radix) if digits and not digits.lower().translate(None, b"0123456789abcdef"[:radix]) else None
 
 
-def unsigned(base, body):
-    """IsUnsigned, IsPrefixed: the magnitude of what follows the sign of an integer."""
+def unsigned(base, body, lead):
+    """IsUnsigned, IsPrefixed, has_prefix: the magnitude of what follows the sign of an integer."""
     first, zero, prefixes = RADICES[base]
-    if body[:1] == b"0" and body[1:2].lower() in prefixes:
+    if lead != "Nothing" and body[:1] == b"0" and body[1:2].lower() in prefixes:
         return number(prefixes[body[1:2].lower()], body[2:])
     return number(zero if body[:1] == b"0" else first, body)
 
 
-def signed(s):
-    """IsSign: whether a minus stands in front, and what follows an optional sign."""
-    return s[:1] == b"-", s[1:] if s[:1] in (b"+", b"-") else s
+def signed(s, lead="Any"):
+    """IsSign: whether a minus stands in front, and what follows an optional sign, of those that may stand there."""
+    return s[:1] == b"-", s[1:] if s[:1] in SIGNS[lead] else s
 
 
-def integer(base, s):
-    """IsInteger: the sign and the magnitude of an integer of the base; None where it is none."""
-    negative, body = signed(s)
-    m = unsigned(base, body)
-    return None if m is None else (negative, m)
+def integer(base, s, lead):
+    """IsInteger: the sign and the magnitude of an integer of the base; no magnitude where it is none."""
+    negative, body = signed(s, lead)
+    return negative, unsigned(base, body, lead)
 
 
 # ---- matching sequences of floats (p12; 7.22.1.3p3)
@@ -90,30 +78,30 @@ def numeral(form, size):
     return parts.groups() if parts and parts[1] + parts[2] else None
 
 
-def is_float(s):
-    """IsFloat: a sign or none, and a decimal or a hexadecimal numeral, an infinity or a NaN."""
-    size = signed(s)[1]
-    return bool(numeral(DECIMAL, size) or numeral(HEXADECIMAL, size) or INFINITY.fullmatch(size) or NAN.fullmatch(size))
+def is_float(s, lead):
+    """IsFloat: a sign or none, and a numeral, an infinity or a NaN. IsDecimalFloat, with !: a minus or none, and a decimal numeral."""
+    size = signed(s, lead)[1]
+    is_other = numeral(HEXADECIMAL, size) or INFINITY.fullmatch(size) or NAN.fullmatch(size)
+    return bool(numeral(DECIMAL, size) or lead == "Any" and is_other)
 
 
 # ---- input items (p9)
 
 # What makes a matching sequence of a front of a number, where anything does: a digit, or the end of a word.
 TAILS = {"Int": [b"", b"0"], "Float": [b"", b"0", b")", b"nan", b"an", b"n", *(b"infinity"[at:] for at in range(8))]}
-NO_WHITE = bytes({*range(256)} - WHITE)
 
 
 def are_members(c, s):
-    """Each byte is of the set; of s, none is white space."""
-    return not s.translate(None, bytes(c.members if c.shape == "Set" else NO_WHITE))
+    """Each byte is of the set; of s, none is white space, but in a column without !, which may have it (Fills)."""
+    return c.column and c.lead == "Any" or not s.translate(None, bytes(c.members if c.shape == "Set" else {*range(256)} - WHITE))
 
 
 def matches(c, s):
     """Matches: s is a matching sequence of the conversion (p12)."""
     if c.shape == "Int":
-        return integer(c.base, s) is not None
+        return integer(c.base, s, c.lead)[1] is not None
     if c.shape == "Float":
-        return is_float(s)
+        return is_float(s, c.lead)
     return len(s) == c.width if c.shape == "Chars" else len(s) > 0 and are_members(c, s)
 
 
@@ -126,8 +114,13 @@ def begins(c, f):
 
 
 def item(c, x):
-    """IsItem: how long the longest front is, within the width, that begins a matching sequence."""
-    return greatest(len(x) if c.width is None else min(len(x), c.width), lambda j: begins(c, x[:j]))
+    """IsItem, IsGreatest: how long the longest front is, within the width, that begins a matching sequence. So does each front of it."""
+    least, half = 0, len(x[: c.width])
+    most = half
+    while least < most:
+        least, most = (half, most) if begins(c, x[:half]) else (least, half - 1)
+        half = (least + most + 1) // 2
+    return least
 
 
 # ---- values (p10)
@@ -176,7 +169,7 @@ def real(kind, s):
 def stored(c, s):
     """ItemStored: what an assigned conversion stores of a matching item; None where its kind doesn't hold it."""
     if c.shape == "Int":
-        return value_of(c.kind, *integer(c.base, s))
+        return value_of(c.kind, *integer(c.base, s, c.lead))
     return real(c.kind, s) if c.shape == "Float" else s
 
 
@@ -197,7 +190,7 @@ def stores(c, value):
 
 
 def item_ends(c, x, j):
-    """ItemEnds, EmptyItem: how a conversion ends whose item is the first j bytes of x (p9, p10)."""
+    """ItemEnds, EmptyItem: how a conversion ends whose item is the first j bytes of x (p9, p10). ColumnEnds: or the text of its column."""
     if j == 0:
         return MISSES if c.optional else MATCHING_FAILURE if x else INPUT_FAILURE
     if not matches(c, x[:j]):
@@ -206,10 +199,17 @@ def item_ends(c, x, j):
 
 
 def item_step(c, x):
-    """ItemStep: white space, where the shape skips it (p8), and the item."""
-    s = skip(x) if c.shape in ("Int", "Text", "Float") else 0
+    """ItemStep, IsSkipBefore: white space, where it is skipped (p8; with ! it isn't), and the item."""
+    s = skip(x) if c.lead == "Any" else 0
     j = item(c, x[s:])
     return s + j, item_ends(c, x[s:], j)
+
+
+def column_step(c, x):
+    """ColumnStep, IsTextOf: the column, as many bytes as its width allows, and how a conversion ends with the text in it, if it has one."""
+    column, text = x[: c.width], x[: c.width].strip(bytes(WHITE))
+    text = column if text and c.lead in ("Minus", "Nothing") else text
+    return len(column), item_ends(c, text or column, len(text))
 
 
 def step(d, x, n):
@@ -223,7 +223,7 @@ def step(d, x, n):
         return skip(x) + j, end
     if d.shape == "Count":
         return 0, PASSES if d.slot is None else stores(d, value_of(d.kind, False, n))
-    return item_step(d, x)
+    return column_step(d, x) if d.column else item_step(d, x)
 
 
 # ---- whole runs (p4, p16)
@@ -262,8 +262,8 @@ def is_open(directives, x, ran):
 
 def report_of(ran, met):
     status, at = (ran[-1].end[1], len(ran)) if ran and ran[-1].end[0] == "Fails" else ("Done", 0)
-    values = [it.end[1:] for it in ran if it.end[0] == "Stores"]
-    return Report(status, at, counted(ran, "Stores"), counted(ran, "Stores", "Passes"), used(ran), met, values)
+    counts = counted(ran, "Stores"), counted(ran, "Stores", "Passes"), used(ran)
+    return Report(status, at, *counts, met, [it.end[1:] for it in ran if it.end[0] == "Stores"])
 
 
 def run(directives, x, limit=2**31 - 1, ending="End"):
@@ -290,8 +290,7 @@ def main():
         report = run(directives_of(os.fsencode(given.format), given.profile), sys.stdin.buffer.read(), given.limit)
     except Fault as fault:
         sys.exit(f"scan format: {fault}")
-    told = ", ".join(f"{it} {getattr(report, it)}" for it in Report._fields[2:6])
-    print(f"fscanf returns {c_return(report)}; {report.status} at {report.at}, {told}")
+    print(f"fscanf returns {c_return(report)}; {report.status} at {report.at}", *(f"{it} {getattr(report, it)}" for it in Report._fields[2:6]), sep=", ")
     for slot, value in sorted(report.values):
         print(f"slot {slot}:", quoted(value) if isinstance(value, bytes) else value)
 

@@ -12,11 +12,12 @@ import re
 import sys
 from collections import namedtuple
 
-# The directives (C11 7.21.6.2p3). A conversion without a slot is suppressed.
+# The directives (C11 7.21.6.2p3). A conversion without a slot is suppressed. `lead` is what may stand before its item: Any is what C allows, white
+# space, either sign and a prefix; Minus and Nothing are those of `!`; None is that of a letter that never has any of these.
 Space = namedtuple("Space", "")
 Byte = namedtuple("Byte", "byte")
 Percent = namedtuple("Percent", "")
-Conversion = namedtuple("Conversion", "letter shape base members kind width slot optional")
+Conversion = namedtuple("Conversion", "letter shape base members kind width slot optional column lead")
 
 MOST_BYTES, MOST_WIDTH, MOST_SLOTS = 4096, 65535, 32
 WHITE = frozenset(b"\t\n\v\f\r ")
@@ -24,10 +25,8 @@ SIGNED = {b"": "i32", b"hh": "i8", b"h": "i16"}
 UNSIGNED = {b"": "u32", b"hh": "u8", b"h": "u16"}
 SHAPES = {**dict.fromkeys("diuoxXb", "Int"), "s": "Text", "[": "Set", "c": "Chars", "n": "Count", **dict.fromkeys("aAeEfFgG", "Float")}
 BASES = {"d": "Dec", "u": "Dec", "o": "Oct", "x": "Hex", "X": "Hex", "b": "Bin"}
-OPENING = {
-    1: re.compile(rb"(?:(?P<number>[0-9]+)\$)?(?P<star>\*?)(?P<optional>)(?P<width>[0-9]*)(?P<size>hh|h|ll|l|j|z|t|)"),
-    3: re.compile(rb"(?:(?P<number>[0-9]+)\$)?(?P<star>\*?)(?P<optional>\??)(?P<width>[0-9]*)(?P<size>hh|h|ll|l|j|z|t|)"),
-}
+OPENING = r"(?:(?P<number>[0-9]+)\$)?(?P<star>\*?)(?P<optional>%s)(?P<column>%s)(?P<strict>%s)(?P<width>[0-9]*)(?P<size>hh|h|ll|l|j|z|t|)"
+OPENINGS = {it: re.compile((OPENING % ((r"\??", "=?", "!?") if it == 3 else ("", "", ""))).encode()) for it in (1, 2, 3)}
 
 
 class Fault(Exception):
@@ -70,7 +69,14 @@ def judge_letter(profile, letter, opening, at):
         (is_text and size == b"l", "F5 LeftOut", at),
         (is_text and size != b"" or is_float and size not in (b"", b"l"), "F6 BadLength", at),
         (letter == "n" and any(opening[it] for it in ("star", "width", "optional")), "F9 BadCount", at),
+        (opening["column"] != b"" and (opening["width"] == b"" or letter in "cn"), "F20 BadMark", at),
+        (letter in "c[n" and opening["strict"] != b"", "F20 BadMark", at),
     )
+
+
+def lead_of(letter, is_strict):
+    """What may stand before the item of a letter, with `!` or without; nothing is ever skipped before that of c, [ and n."""
+    return None if letter in "c[n" else "Any" if not is_strict else "Nothing" if letter in "uoxXbs" else "Minus"
 
 
 def scanlist(text, at):
@@ -93,7 +99,7 @@ def scanlist(text, at):
 
 def conversion(text, at, profile, earlier):
     """The conversion whose % stands at the place, where it ends, and its number, if it has one; `earlier` has those before it."""
-    opening = OPENING[3 if profile == 3 else 1].match(text, at + 1)
+    opening = OPENINGS[profile].match(text, at + 1)
     number, star, width, size = (opening[it] for it in ("number", "star", "width", "size"))
     refuse(
         (number is not None and not 1 <= int(number) <= MOST_SLOTS, "F11 BadNumber", at + 1),
@@ -114,7 +120,9 @@ def conversion(text, at, profile, earlier):
     slot = None if star else int(number) if number is not None else len(earlier) + 1
     base = BASES.get(letter, ("Auto" if profile == 1 else "AutoBin") if letter == "i" else None)
     bytes_ = int(width) if width else 1 if letter == "c" else None
-    return Conversion(letter, SHAPES[letter], base, members, kind_of(letter, size), bytes_, slot, bool(opening["optional"])), end, number
+    lead = lead_of(letter, opening["strict"] != b"")
+    marks = bool(opening["optional"]), bool(opening["column"]), lead
+    return Conversion(letter, SHAPES[letter], base, members, kind_of(letter, size), bytes_, slot, *marks), end, number
 
 
 def directives_of(text, profile=1):
@@ -163,9 +171,9 @@ def shown(directives):
         if isinstance(it, Conversion):
             width, slot = ("-" if one is None else one for one in (it.width, it.slot))
             members = f" members {len(it.members)}" if it.shape == "Set" else ""
-            mark = " optional" if it.optional else ""
+            marks = " optional" * it.optional + " column" * it.column + " strict" * (it.lead in ("Minus", "Nothing"))
             letter = "f" if it.shape == "Float" else it.letter.lower()
-            yield f"{number} {letter} {it.kind} width {width} slot {slot}{members}{mark}"
+            yield f"{number} {letter} {it.kind} width {width} slot {slot}{members}{marks}"
         else:
             said = f"byte {quoted(bytes([it.byte]))}" if isinstance(it, Byte) else type(it).__name__.lower()
             yield f"{number} {said}"

@@ -24,6 +24,8 @@ Formats are those of C's fscanf and fprintf:
     %lf %f            a float; %f is rounded to 32 bits
     %s %[a-z] %5c     a word, a text of these letters, five bytes
     %?d               an int, or None where none stands there
+    %=8lf %=10s       the float, the text, in a column of eight, of ten bytes, whatever they are
+    %!d               an int, with nothing but a minus before its digits
     %*d               an int that is dropped; it has no bounds
     white space       any white space, or none; numbers and %s pass over it, too
     other bytes       themselves; %% is a percent sign

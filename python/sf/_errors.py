@@ -1,7 +1,7 @@
 """What is raised."""
 import re
 
-# Why a format is refused (F1 to F18), and why two are no pair (Q1 to Q13): docs/FORMATS.md has each rule.
+# Why a format is refused (F1 to F20), and why two are no pair (Q1 to Q14): docs/FORMATS.md has each rule.
 _FORMATS = {
     1: ("Truncated", "the format ends inside a conversion; %% stands for a percent sign"),
     2: ("ZeroWidth", "a conversion of width 0 takes nothing"),
@@ -21,6 +21,7 @@ _FORMATS = {
     16: ("TooManyDestinations", "a format has at most 32 values"),
     17: ("BadFlag", "this letter has no such flag or precision"),
     18: ("PrecisionTooLarge", "a precision is at most 255"),
+    20: ("BadMark", "a = has a width after it, and %c and %n have no =; %c, %[ and %n have no !"),
 }
 _PAIRS = {
     1: ("NotAligned", "what stands here is not what the other format has in its place"),
@@ -35,9 +36,10 @@ _PAIRS = {
     10: ("BadFlagHere", "what this flag, width or precision writes is not read back"),
     11: ("NoValues", "a pair has at least one value"),
     13: ("MayBeMissing", "what may be missing is not written: leave out the ?"),
+    14: ("BadMark", "the two widths differ at a conversion with =, or what this flag, width or letter writes is not read by one with !"),
 }
 # One directive of a scan format (C11 7.21.6.2p3): white space, a byte, or a conversion.
-_DIRECTIVE = re.compile(rb"[\t-\r ]+|%%|%(?:[0-9]+\$)?\*?\??[0-9]*(?:hh|h|ll|l|j|z|t)?(?:\[\^?.[^]]*\]|[^\[])|.", re.DOTALL)
+_DIRECTIVE = re.compile(rb"[\t-\r ]+|%%|%(?:[0-9]+\$)?\*?\??=?!?[0-9]*(?:hh|h|ll|l|j|z|t)?(?:\[\^?.[^]]*\]|[^\[])|.", re.DOTALL)
 # How many bytes of an input a message shows.
 _SHOWN = 24
 
@@ -59,7 +61,7 @@ class FormatError(ValueError):
     ('scan format', 'F8', 'BackwardRange', 2)
 
     - `which`: "scan format", "print format" or "pair".
-    - `fault`: its code, from F1 to F18, of a pair from Q1 to Q13, and `name` the word for that.
+    - `fault`: its code, from F1 to F20, of a pair from Q1 to Q14, and `name` the word for that.
     - `at`: the byte of the format at which it was found, counted from 0; of a pair the directive of
       the scan format, counted from 1.
     - `format`: the format's text, as a str; of a pair that of the scan format.

@@ -47,7 +47,8 @@ class Format:
     - `whole`: whether a text or a line has failed of which the format leaves something.
     - `encoding`: makes a str of each text. Without it texts are bytes, but of a str, and of a file
       object that gives str, they are str.
-    - `profile`: 1 has C's conversions but those of floats, 2 base 2 beside, 3 floats and `?` beside.
+    - `profile`: 1 has C's conversions but those of floats, 2 base 2 beside, 3 floats and the marks
+      `?`, `=` and `!` beside.
     - `limit`: the most bytes that a line may have, and that a record or a text may take.
 
     Threads may use a format at once. Its attributes say what it was made of; `slots` is how many

@@ -1,4 +1,5 @@
-"""Random pairs of formats of profile 3 beside a reading of the pair check in docs/FORMATS.md, and values printed and read back.
+"""Random pairs of formats of profile 3, with columns and strict conversions, beside a reading of the pair check in docs/FORMATS.md, and values printed and
+read back.
 
 The reading makes lists of bytes where the program walks, and takes the texts of floats from the C library.
 """
@@ -13,7 +14,7 @@ from float_texts import number_of as float_of
 
 DIGITS, SPACES, ALL = set(b"0123456789"), set(b" \t\n\v\f\r"), set(range(256))
 HEXADECIMAL = DIGITS | set(b"abcdefABCDEF")
-NAMES = {1: "NotAligned", 2: "KindDiffers", 3: "NumberDiffers", 4: "NoWidth", 5: "TooNarrow", 6: "RunsOn", 7: "OpenEnd", 8: "LeadingZero", 9: "NotWritten", 10: "BadFlagHere", 11: "NoValues", 13: "MayBeMissing"}
+NAMES = {1: "NotAligned", 2: "KindDiffers", 3: "NumberDiffers", 4: "NoWidth", 5: "TooNarrow", 6: "RunsOn", 7: "OpenEnd", 8: "LeadingZero", 9: "NotWritten", 10: "BadFlagHere", 11: "NoValues", 13: "MayBeMissing", 14: "BadMark"}
 FLAGS = {"d": "-+ 0", "i": "-+ 0", "u": "-0", "o": "-#0", "x": "-#0", "X": "-#0", "s": "-", "c": "-"} | {it: "-+ #0" for it in "fFeEgGaA"}
 SIZES = {"hh": 8, "h": 16, "": 32, "l": 64}
 SETS = {"a-c": set(b"abc"), "^,": ALL - {44}, "^ ": ALL - {32}, "0-9": DIGITS, "^\\n": ALL - {10}}
@@ -66,8 +67,26 @@ class Print:
         """Whether zeros come before the digits, and no blanks before all."""
         return "0" in self.flags and "-" not in self.flags and (self.precision is None or sort_of(self.letter) == "float")
 
+    def bare_bytes(self):
+        """What the text of a number may begin with, without the blanks before it."""
+        signed = self.letter in "di" or sort_of(self.letter) == "float"
+        if not signed:
+            return {"o": set(b"01234567"), "x": HEXADECIMAL, "X": HEXADECIMAL}.get(self.letter, DIGITS)
+        return set(b"+-") if "+" in self.flags else set(b" -") if " " in self.flags else DIGITS | set(b"-")
+
+    def first_bytes_in(self, column):
+        """The same of a text that is a column."""
+        if self.letter in "sc":
+            inked = {"s": ALL - SPACES, "[": SETS.get(column.members, ALL) - SPACES}.get(column.letter, set()) if self.letter == "s" else set()
+        else:
+            inked = self.bare_bytes()
+        is_filled = inked and self.width and not column.strict and "-" not in self.flags and not self.pads_with_zeros()
+        return inked | ({32} if is_filled else set())
+
     def first_bytes(self, after):
         """What its text may begin with, where this scan directive is the next one."""
+        if isinstance(after, Scan) and after.column and not after.suppressed:
+            return self.first_bytes_in(after)
         if self.letter in "sc":
             letter = after.letter if isinstance(after, Scan) and not after.suppressed else None
             if self.letter == "s" and letter == "s":
@@ -75,9 +94,7 @@ class Print:
             if self.letter == "s" and letter == "[":
                 return SETS[after.members]
             return ALL if letter == "c" else set()
-        signed = self.letter in "di" or sort_of(self.letter) == "float"
-        first = set(b"+-") if signed and "+" in self.flags else set(b" -") if signed and " " in self.flags else DIGITS | set(b"-") if signed else {"o": set(b"01234567"), "x": HEXADECIMAL, "X": HEXADECIMAL}.get(self.letter, DIGITS)
-        return first | ({32} if self.width and not self.pads_with_zeros() else set())
+        return self.bare_bytes() | ({32} if self.width and not self.pads_with_zeros() else set())
 
 
 class Scan:
@@ -95,12 +112,18 @@ class Scan:
             self.length = ""
         self.members = rng.choice(list(SETS)) if self.letter == "[" else ""
         self.slot = 0
+        self.column, self.strict = self.letter not in "cn" and rng.random() < 0.3, self.letter not in "[cn" and rng.random() < 0.2
+        if self.column:
+            unit.width = unit.width or rng.choice((0, 1, 4, 8, 12, 24))
+            self.width = unit.width if unit.width and rng.random() < 0.95 else rng.choice((1, 4, 8, 12))
+            unit.flags += "0" * ("0" not in unit.flags and "0" in FLAGS[unit.letter] and self.strict and rng.random() < 0.7)
         if self.letter == "n":
             self.suppressed = False
 
     def text(self):
         ending = f"[{self.members}]" if self.letter == "[" else self.letter
-        return f"%{'*' if self.suppressed else ''}{'?' if self.optional else ''}{self.width or ''}{self.length}{ending}"
+        marks = "*" * self.suppressed + "?" * self.optional + "=" * self.column + "!" * self.strict
+        return f"%{marks}{self.width or ''}{self.length}{ending}"
 
     def kind(self):
         sort = sort_of(self.letter)
@@ -162,23 +185,38 @@ def stop_set(unit, it):
     if it.letter in "s[":
         return ALL - SPACES if it.letter == "s" else SETS[it.members]
     if sort_of(it.letter) == "float":
-        letter = unit.letter.lower()
+        letter, prefix = unit.letter.lower(), set() if it.strict else set(b"xX")
         if letter in "ea":
             return DIGITS
         if letter == "f":
-            return DIGITS | set(b"eE") if unit.precision != 0 or "#" in unit.flags else DIGITS | set(b".eExX")
-        return DIGITS | set(b".eExX")
-    least_is_zero = unit.of(0).lstrip(b" ") == b"0"
+            return DIGITS | set(b"eE") if unit.precision != 0 or "#" in unit.flags else DIGITS | set(b".eE") | prefix
+        return DIGITS | set(b".eE") | prefix
+    least_is_zero = unit.of(0).lstrip(b" ") == b"0" and not it.strict
     return {"o": set(b"01234567"), "x": HEXADECIMAL | (set(b"xX") if least_is_zero else set()), "i": DIGITS | set(b"xXbB")}.get(it.letter.lower(), DIGITS)
+
+
+def suits(unit, it):
+    """Whether the marks of one suit what the other prints."""
+    if it.column and unit.width != it.width:
+        return False
+    if not it.strict:
+        return True
+    if set("+ #") & set(unit.flags) or unit.letter in "aA":
+        return False
+    return it.letter == "s" or unit.pads_with_zeros() if it.column else not unit.width
 
 
 def conversion_fault(unit, it, rest, after):
     """The number of the fault of one conversion, or 0."""
     sort = sort_of(unit.letter)
+    if not suits(unit, it):
+        return 14
     if unit.kind() != it.kind() or not pairs_letters(unit, it):
         return 2
     if unit.slot != it.slot:
         return 3
+    if it.column:
+        return 8 if it.letter == "i" and (unit.pads_with_zeros() or (unit.precision or 0) > 1) else 0
     if "-" in unit.flags or sort == "integer" and unit.precision == 0 or unit.letter == "s" and unit.precision is not None or unit.letter == "s" and unit.width and it.letter in "[c" or unit.letter == "c" and (unit.width or (it.width or 1) != 1):
         return 10
     if it.letter != "c" and it.width is None:
@@ -213,11 +251,11 @@ def verdict(prints, scans):
             left, fault = left[run:], 0 if run else 1
             if not fault and not left:
                 fault = 7
-            elif not fault and isinstance(after, Scan) and not after.suppressed and after.letter in "[c":
+            elif not fault and isinstance(after, Scan) and not after.suppressed and (after.letter in "[c" or after.column or after.strict):
                 first = left[0].first_bytes(after) if isinstance(left[0], Print) else {left[0]}
                 fault = 6 if first & SPACES else 0
         elif isinstance(it, Dropped) or it.suppressed:
-            one = isinstance(it, Dropped) or it.letter == "c" and (it.width or 1) == 1 or it.letter == "[" and it.width == 1
+            one = isinstance(it, Dropped) or it.letter == "c" and (it.width or 1) == 1 or it.letter == "[" and it.width == 1 and not it.column
             has = one and left and isinstance(left[0], int) and (it.has(left[0]) if isinstance(it, Dropped) else it.letter == "c" or left[0] in SETS[it.members])
             fault, left = 0 if has else 1, left[1:]
         elif not left or not isinstance(left[0], Print):
@@ -240,10 +278,28 @@ def value_for(rng, unit, it):
         least, most = (-(2 ** (bits - 1)), 2 ** (bits - 1) - 1) if unit.letter in "di" else (0, 2**bits - 1)
         return rng.choice((rng.randint(least, most), rng.randint(max(least, -99), 99), 0, most, least))
     letters = sorted((SETS[it.members] if it.letter == "[" else ALL) & set(b"abcxyz019,;:") or {97})
-    return bytes(rng.choices(letters, k=it.width or 1 if it.letter == "c" else rng.randint(1, min(it.width, 9))))
+    if it.column and it.letter == "s":
+        letters.append(32)
+    count = it.width or 1 if it.letter == "c" or it.column and it.strict else rng.randint(1, min(it.width, 9))
+    return bytes(rng.choices(letters, k=count))
+
+
+def stands(unit, it, value):
+    """Whether the value stands in the column that is printed of it."""
+    text = unit.of(value)
+    if len(text) != it.width:
+        return False
+    if sort_of(unit.letter) == "integer":
+        return bool(set(text) & HEXADECIMAL)
+    if sort_of(unit.letter) == "float":
+        return struct.pack("<d", float_of(text.strip(b" "), True)) == struct.pack("<d", value)
+    is_whole = len(value) == it.width and b" " not in value if it.strict else value.strip(b" ") == value != b""
+    return is_whole and (unit.precision is None or len(value) <= unit.precision)
 
 
 def fits(unit, it, value):
+    if it.column:
+        return stands(unit, it, value)
     text = unit.of(value)
     if sort_of(unit.letter) not in ("integer", "float"):
         return True

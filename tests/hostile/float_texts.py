@@ -26,15 +26,18 @@ FRONT = re.compile(
     rb"0[xX]%(h)s*\.?%(h)s*|(?i:i|in|inf|infi|infin|infini|infinit|infinity|n|na|nan)|(?i:nan)\([0-9A-Za-z_]*\)?)"
     % {b"d": DIGITS, b"h": HEX}
 )
+# The same under `!`.
+STRICT_MATCH = re.compile(rb"-?(?:[0-9]+\.?[0-9]*|\.[0-9]+)(?:[eE][-+]?[0-9]+)?")
+STRICT_FRONT = re.compile(rb"-?(?:(?:[0-9]+\.?[0-9]*|\.[0-9]+)[eE][-+]?[0-9]*|[0-9]*\.?[0-9]*)")
 
 
-def item_of(text, width=None):
+def item_of(text, front=FRONT):
     """The input item at the front of a text."""
     # (what begins a sequence is begun by each front of it, so the longest one is found by halves; mostly it is all of the text)
-    least, most = 0, len(text) if width is None else min(len(text), width)
-    half = most
+    least = 0
+    half = most = len(text)
     while least < most:
-        least, most = (half, most) if FRONT.fullmatch(text[:half]) else (least, half - 1)
+        least, most = (half, most) if front.fullmatch(text[:half]) else (least, half - 1)
         half = (least + most + 1) // 2
     return text[:least]
 
@@ -130,22 +133,22 @@ LINES = 2500
 
 # ---- reading
 
-def reads(make, is_double, seed):
-    """A check that lines of a float each are read as by C, and those that are none fail where C11 says."""
+def reads(make, is_double, seed, mark=""):
+    """A check that lines of a float each are read as by C, and those that are none fail where C11 says, or `!` does."""
     def check():
-        rng = random.Random(seed)
+        rng, (match, begin) = random.Random(seed), (STRICT_MATCH, STRICT_FRONT) if mark else (MATCH, FRONT)
         lines = [make(rng) for _ in range(LINES)]
         due, failures = [], []
         for number, line in enumerate(lines, 1):
-            text = line.lstrip(b" ")
-            item, front = item_of(text), len(line) - len(text)
-            value = number_of(item, is_double) if MATCH.fullmatch(item) else None
+            text = line if mark else line.lstrip(b" ")
+            item, front = item_of(text, begin), len(line) - len(text)
+            value = number_of(item, is_double) if match.fullmatch(item) else None
             if value is not None:
                 due.append(bits(value))
                 continue
-            why = b"input failure" if not text else b"out of range" if MATCH.fullmatch(item) else b"matching failure"
+            why = b"input failure" if not text else b"out of range" if match.fullmatch(item) else b"matching failure"
             failures.append(b"sf: line %d: %s at 1, used %d, assigned 0" % (number, why, front + len(item)))
-        words = ("scan", "--profile", "3", "--lines", "--keep-going", "--print", "%a\\n", "%lf" if is_double else "%f")
+        words = ("scan", "--profile", "3", "--lines", "--keep-going", "--print", "%a\\n", f"%{mark}lf" if is_double else f"%{mark}f")
         status, out, err = program.run(*words, stdin=b"\n".join(lines) + b"\n")
         got = [bits(float.fromhex(it.decode())) for it in out.split(b"\n")[:-1]]
         if err.split(b"\n")[:-1] != failures:
@@ -271,6 +274,8 @@ def shortest(is_double, seed):
 def checks():
     for is_double, make, seed in itertools.product((True, False), TEXTS, (1, 2, 3)):
         yield f"reading a {'double' if is_double else 'binary32'}: {make.__name__}, seed {seed}", reads(make, is_double, f"{make.__name__} {seed}")
+    for is_double, make in itertools.product((True, False), TEXTS):
+        yield f"reading a {'double' if is_double else 'binary32'} under !: {make.__name__}", reads(make, is_double, f"strict {make.__name__}", "!")
     for seed, format_ in enumerate(formats(random.Random(41), 40)):
         yield f"printing by {format_}", prints(format_, seed)
     for is_double, seed in itertools.product((True, False), (1, 2)):

@@ -3,6 +3,8 @@
 Each fault and its place is that of the table "Refused formats" in docs/FORMATS.md; the kinds are those of its tables of
 conversions.
 """
+import itertools
+
 from answers import answers, escaped
 
 SIGNED, UNSIGNED = "di", "uoxX"
@@ -85,6 +87,84 @@ def letters():
             text = "%" + before + length + letter
             word = escaped(text.encode("latin-1"))
             yield f"{text!r} scans", judged("show", "scan", word, scan_letter(before, length, letter))
+
+
+def strict_letter(letter):
+    """What `sf show --profile 3` answers of `%!` and this letter."""
+    if letter == "\0":
+        return "F14 Nul at 2"
+    if letter in "cn[":
+        return "F20 BadMark at 2"
+    if letter in "diuoxXbsaAeEfFgG":
+        shown, kind = ("f", "f32") if letter in "aAeEfFgG" else (letter.lower(), "text" if letter == "s" else "i32" if letter in SIGNED else "u32")
+        return f"1 {shown} {kind} width - slot 1 strict\n" + last(1, 0 if kind in ("i32", "u32") else "-")
+    if letter == "0":
+        return "F2 ZeroWidth at 2"
+    if letter in "123456789" or is_prefix_of_length(letter):
+        return "F1 Truncated at 3"
+    return "F5 LeftOut at 2" if letter in "mLpCS" else "F4 UnknownLetter at 2"
+
+
+def column_letter(letter, width=""):
+    """What `sf show --profile 3` answers of `%=`, the width, and this letter."""
+    at = 2 + len(width)
+    if letter == "\0":
+        return f"F14 Nul at {at}"
+    if letter == "0" and not width:
+        return f"F2 ZeroWidth at {at}"
+    if letter in "0123456789" or is_prefix_of_length(letter) or letter == "!" and not width:
+        return f"F1 Truncated at {at + 1}"
+    if letter in "mLpCS":
+        return f"F5 LeftOut at {at}"
+    if letter == "n" and width:
+        return f"F9 BadCount at {at}"
+    if letter in "cn" or letter in "diuoxXbs[aAeEfFgG" and not width:
+        return f"F20 BadMark at {at}"
+    if letter == "[":
+        return f"F7 OpenSet at {at}"
+    if letter in "diuoxXbsaAeEfFgG":
+        is_float, kind = letter in "aAeEfFgG", "text" if letter == "s" else "i32" if letter in SIGNED else "u32"
+        shown, kind = ("f", "f32") if is_float else (letter.lower(), kind)
+        return f"1 {shown} {kind} width {width} slot 1 column\n" + last(1, width if is_float or letter == "s" else 0)
+    return f"F4 UnknownLetter at {at}"
+
+
+def columns():
+    """Each byte where a letter is due after a `=` of profile 3, without a width and with one; and the order of the marks."""
+    for width, code in itertools.product(("", "3"), range(256)):
+        word = escaped(b"%=" + width.encode() + bytes([code]))
+        yield f"%={width}{chr(code)!r} scans", judged("show", "scan", word, column_letter(chr(code), width), "--profile", "3")
+    for code in range(256):
+        word = escaped(b"%=3" + bytes([code]))
+        yield f"%=3{chr(code)!r} has no mark", judged("show", "scan", word, "F4 UnknownLetter at 1", "--profile", str(1 + code % 2))
+    for order in itertools.permutations("*?=!"):
+        # (a mark that belongs before one that was passed is no letter)
+        places = ["*?=!".index(it) for it in order]
+        late = next((at + 1 for at in range(1, 4) if places[at] < max(places[:at])), None)
+        answer = f"F4 UnknownLetter at {late}" if late else "1 d i32 width 3 slot - optional column strict\n" + last(0, 0)
+        yield f"%{''.join(order)}3d scans", judged("show", "scan", f"%{''.join(order)}3d", answer, "--profile", "3")
+    for text, answer in [("%==3d", "F4 UnknownLetter at 2"), ("%3=d", "F4 UnknownLetter at 2"), ("%l=3d", "F4 UnknownLetter at 2"), ("%=1$3d", "F4 UnknownLetter at 3"),
+                         ("%1$=3d", "1 d i32 width 3 slot 1 column\n" + last(1, 0)), ("%=0003s", "1 s text width 3 slot 1 column\n" + last(1, 3)), ("%=65536d", "F3 TooWide at 2"),
+                         ("%=" + "0" * 4000 + "c", "F2 ZeroWidth at 2"), ("%=" + "9" * 4000 + "c", "F3 TooWide at 2"), ("%=3lc", "F5 LeftOut at 4"), ("%=hh[a]", "F6 BadLength at 4"), ("%=3hf", "F6 BadLength at 4"),
+                         ("%=[z-a]", "F20 BadMark at 2"), ("%=3[z-a]", "F8 BackwardRange at 4"), ("%=!3[z-a]", "F20 BadMark at 4"), ("%=!3c", "F20 BadMark at 4"), ("%*=n", "F9 BadCount at 3"), ("%?=n", "F9 BadCount at 3"),
+                         ("%=3[=]", "1 [ text width 3 slot 1 members 1 column\n" + last(1, 3)), ("%d%2$=3d", "F10 MixedNumbering at 2"), ("%1$*=3d", "F11 BadNumber at 3"),
+                         ("%=" * 2048, "F4 UnknownLetter at 2"), ("%" + "=" * 4095, "F4 UnknownLetter at 2"), ("%?(%=3d%)", "F4 UnknownLetter at 2"), ("%=(%=3d%)", "F4 UnknownLetter at 2"),
+                         ("%=65535s" * 32, "".join(f"{it} s text width 65535 slot {it} column\n" for it in range(1, 33)) + last(32, 2097120)), ("%*=3d" * 819, "".join(f"{it} d i32 width 3 slot - column\n" for it in range(1, 820)) + last(0, 0))]:
+        yield f"{text[:20]} scans", judged("show", "scan", text, answer, "--profile", "3")
+
+
+def marks():
+    """Each byte where a letter is due after a `!` of profile 3, which profiles 1 and 2 don't have; and where other faults come first."""
+    for code in range(256):
+        word = escaped(b"%!" + bytes([code]))
+        yield f"%!{chr(code)!r} scans", judged("show", "scan", word, strict_letter(chr(code)), "--profile", "3")
+        yield f"%!{chr(code)!r} has no mark", judged("show", "scan", word, "F4 UnknownLetter at 1", "--profile", str(1 + code % 2))
+    for text, answer in [("%*!n", "F9 BadCount at 3"), ("%?!n", "F9 BadCount at 3"), ("%!1n", "F9 BadCount at 3"), ("%!lc", "F5 LeftOut at 3"), ("%!hh[a]", "F6 BadLength at 4"),
+                         ("%![z-a]", "F20 BadMark at 2"), ("%![", "F20 BadMark at 2"), ("%!0c", "F2 ZeroWidth at 2"), ("%!65536d", "F3 TooWide at 2"), ("%1$!65535c", "F20 BadMark at 9"),
+                         ("%d%2$!n", "F20 BadMark at 6"), ("%!?d", "F4 UnknownLetter at 2"), ("%!*d", "F4 UnknownLetter at 2"), ("%5!d", "F4 UnknownLetter at 2"), ("%l!d", "F4 UnknownLetter at 2"),
+                         ("%!" * 2048, "F4 UnknownLetter at 2"), ("%" + "!" * 4095, "F4 UnknownLetter at 2")]:
+        yield f"{text[:20]} scans", judged("show", "scan", text, answer, "--profile", "3")
+    yield "%*?!5d scans", judged("show", "scan", "%*?!5d", "1 d i32 width 5 slot - optional strict\n" + last(0, 0), "--profile", "3")
 
 
 def told(text, answer):
@@ -189,5 +269,5 @@ def escapes():
 
 
 def checks():
-    for group in (letters, numbers, lengths, many, escapes):
+    for group in (letters, marks, columns, numbers, lengths, many, escapes):
         yield from group()

@@ -41,6 +41,12 @@ def for_ever():
         ("cat /dev/zero", ["scan", "--lines", "--limit", "0", "%*[^a]"], LONG),
         ("yes 1 | tr -d '\\n'", ["scan", "--lines", "--limit", "10", "%d"], LONG),
         ("yes 1 | tr -d '\\n'", ["copy", "--lines", "%d;", "%11d;"], LONG),
+        ("yes ''", ["scan", "--profile", "3", "%=65535d"], record(1, "matching failure", 1, 65535)),
+        ("yes ''", ["scan", "--profile", "3", "--limit", "1000", "%?=65535d"], record(1, "too long", 1, 1000)),
+        ("cat /dev/zero", ["scan", "--profile", "3", "%=65535[a]"], record(1, "matching failure", 1, 65535)),
+        ("cat /dev/zero", ["scan", "--profile", "3", "%=65535s%=65535s%=5d"], record(1, "matching failure", 3, 131075, 2)),
+        ("yes 1 | tr -d '\\n'", ["scan", "--profile", "3", "%=65535d"], record(1, "out of range", 1, 65535)),
+        ("cat /dev/zero", ["scan", "--profile", "3", "--lines", "%=5d"], LONG),
     ]
     for feed, words, err in cases:
         yield f"{feed} | sf {' '.join(words)[:60]}", piped(feed, words, err, 1)
@@ -83,6 +89,37 @@ def long_ones():
                 value = number % 2**size if abs(number) < 2**size else None
                 want = {"out": b"%d\n" % value} if value is not None else {"err": record(1, "out of range", 1, len(text)), "status": 1}
                 yield f"%{length}u of {number}", answers("scan", f"%{length}u", stdin=text, **want)
+
+
+def columns():
+    """Columns of as many bytes as one can have, and each byte in one."""
+    wide, most = ("scan", "--profile", "3"), 65535
+    text = b"a" + b" " * (most - 2) + b"b"
+    yield "a text with blanks inside", answers(*wide, f"%={most}s", stdin=text, out=b'"%s"\n' % text)
+    yield "a byte after blanks", answers(*wide, f"%={most}s", stdin=b" " * (most - 1) + b"x", out=b'"x"\n')
+    yield "a byte before blanks", answers(*wide, f"%={most}s", stdin=b"x" + b" " * (most - 1), out=b'"x"\n')
+    yield "a byte before fewer blanks", answers(*wide, f"%={most}s", stdin=b"x" + b" " * (most - 2), out=b'"x"\n')
+    yield "blanks alone", answers(*wide, f"%={most}s", stdin=b" " * most, err=record(1, "matching failure", 1, most), status=1)
+    yield "blanks that may be missing", answers(*wide, f"%?={most}s", stdin=b" " * most * 2, out=b"-\n-\n")
+    yield "fewer blanks that may be missing", answers(*wide, f"%?={most}s", stdin=b" " * (most - 1))
+    yield "32 columns", answers(*wide, "--limit", "2147483647", f"%={most}s" * 32, stdin=(b" e" + b" " * (most - 2)) * 32, out=b" ".join([b'"e"'] * 32) + b"\n")
+    yield "32 columns, one byte each", answers(*wide, "%=1s" * 32, stdin=b"f" * 64, out=(b" ".join([b'"f"'] * 32) + b"\n") * 2)
+    yield "zeros and a number", answers(*wide, f"%={most}d", stdin=b"0" * (most - 1) + b"7", out=b"7\n")
+    yield "blanks around a number", answers(*wide, f"%={most}lf", stdin=b" " * 30000 + b"-1.5e3" + b" " * (most - 30006), out=b"-1500.0\n")
+    yield "nines", answers(*wide, f"%={most}d", stdin=b"9" * most, err=record(1, "out of range", 1, most), status=1)
+    yield "nines that are dropped", answers(*wide, f"%*={most}d", stdin=b"9" * most, out=b"\n")
+    yield "1,000,000 columns of one byte", answers(*wide, "%*=1[\\x01-\\xff]", stdin=b"ab" * 500000, out=b"\n" * 1000000)
+    for code in range(256):
+        byte = bytes([code])
+        is_white = byte in SPACE
+        middle = b"a%sc" % byte
+        yield f"byte {code} in a text", answers(*wide, "%=3s%=3s%=3s", stdin=byte + b"bc" + middle + b"ab" + byte,
+                                               out=b"%s %s %s\n" % (quoted(b"bc" if is_white else byte + b"bc"), quoted(middle), quoted(b"ab" if is_white else b"ab" + byte)))
+        number = b"%d" % int(byte + b"12") if byte in b"0123456789-+" else b"12" if is_white else None
+        want = {"out": number + b"\n"} if number else {"err": record(1, "matching failure", 1, 3), "status": 1}
+        yield f"byte {code} before a number", answers(*wide, "%=3d", stdin=byte + b"12", **want)
+        want = {"out": b"12%s\n" % byte} if byte in b"0123456789" else {"out": b"12\n"} if is_white else {"err": record(1, "matching failure", 1, 3), "status": 1}
+        yield f"byte {code} after a number", answers(*wide, "%=3d", stdin=b"12" + byte, **want)
 
 
 def directives():
@@ -140,5 +177,5 @@ def fronts():
 
 
 def checks():
-    for group in (for_ever, long_ones, directives, every_byte, fronts):
+    for group in (for_ever, long_ones, columns, directives, every_byte, fronts):
         yield from group()

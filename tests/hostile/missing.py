@@ -1,6 +1,7 @@
-"""Random formats of profile 3, with values that may be missing, beside a reading of docs/FORMATS.md that shares nothing with the program.
+"""Random formats of profile 3, with values that may be missing, columns and strict values, beside a reading of docs/FORMATS.md that shares nothing with the
+program.
 
-The reading takes the whole line at once, and finds each input item by halves, among the fronts that a pattern has. The program's JSON
+The reading takes the whole line at once, and finds each input item by halves, among the fronts that a pattern has; a column it cuts out. The program's JSON
 lines and its errors must be those of the reading.
 """
 import json
@@ -9,7 +10,7 @@ import re
 import struct
 
 import program
-from float_texts import MATCH as FLOAT, FRONT as FLOAT_FRONT, number_of
+from float_texts import MATCH as FLOAT, FRONT as FLOAT_FRONT, STRICT_MATCH as STRICT_FLOAT, STRICT_FRONT as STRICT_FLOAT_FRONT, number_of
 
 SPACE = b" \t\n\v\f\r"
 KINDS = {"hh": 8, "h": 16, "": 32, "l": 64, "ll": 64, "j": 64, "z": 64, "t": 64}
@@ -31,6 +32,23 @@ FRONT = {
     "b": rb"[-+]?(?:0[bB])?[01]*",
     "i": rb"[-+]?(?:[1-9][0-9]*|0[0-7]*|0[xX][0-9a-fA-F]*|0[bB][01]*)?",
 }
+# The same under `!`: a minus before those of d and i, and nothing before the others.
+STRICT_WHOLE = {
+    "d": rb"-?[0-9]+",
+    "u": rb"[0-9]+",
+    "o": rb"[0-7]+",
+    "x": rb"[0-9a-fA-F]+",
+    "b": rb"[01]+",
+    "i": rb"-?(?:[1-9][0-9]*|0[0-7]*|0[xX][0-9a-fA-F]+|0[bB][01]+)",
+}
+STRICT_FRONT = {
+    "d": rb"-?[0-9]*",
+    "u": rb"[0-9]*",
+    "o": rb"[0-7]*",
+    "x": rb"[0-9a-fA-F]*",
+    "b": rb"[01]*",
+    "i": rb"-?(?:[1-9][0-9]*|0[0-7]*|0[xX][0-9a-fA-F]*|0[bB][01]*)?",
+}
 
 
 class Conversion:
@@ -40,21 +58,24 @@ class Conversion:
         self.letter = rng.choice("dduuxiobfffss[[[cn")
         self.suppressed = self.letter != "n" and rng.random() < 0.15
         self.optional = self.letter != "n" and rng.random() < 0.6
-        self.width = rng.randint(1, 6) if self.letter != "n" and rng.random() < 0.4 else None
+        self.column = self.letter not in "cn" and rng.random() < 0.3
+        self.strict = self.letter not in "[cn" and rng.random() < 0.3
+        self.width = rng.randint(1, 6) if self.column or self.letter != "n" and rng.random() < 0.4 else None
         self.length = rng.choice(("", "l")) if self.letter == "f" else rng.choice(list(KINDS)) if self.letter in "duxiobn" else ""
         self.members = rng.choice((b"a-c", b"^,", b"0-9", b",", b"^ ", b".", b"ab,")) if self.letter == "[" else b""
 
     def text(self):
-        star, question = "*" if self.suppressed else "", "?" if self.optional else ""
+        marks = "*" * self.suppressed + "?" * self.optional + "=" * self.column + "!" * self.strict
         ending = f"[{self.members.decode()}]" if self.letter == "[" else self.letter
-        return f"%{star}{question}{self.width or ''}{self.length}{ending}"
+        return f"%{marks}{self.width or ''}{self.length}{ending}"
 
     def patterns(self):
         """What matches, and what begins a match."""
         if self.letter == "f":
-            return FLOAT, FLOAT_FRONT
+            return (STRICT_FLOAT, STRICT_FLOAT_FRONT) if self.strict else (FLOAT, FLOAT_FRONT)
         if self.letter in WHOLE:
-            return re.compile(WHOLE[self.letter]), re.compile(FRONT[self.letter])
+            whole, front = (STRICT_WHOLE, STRICT_FRONT) if self.strict else (WHOLE, FRONT)
+            return re.compile(whole[self.letter]), re.compile(front[self.letter])
         member = rb"[%s]" % self.members if self.letter == "[" else rb"[^ \t\n\v\f\r]"
         if self.letter == "c":
             return re.compile(rb"(?s:.{%d})" % (self.width or 1)), re.compile(rb"(?s:.{0,%d})" % (self.width or 1))
@@ -67,6 +88,21 @@ class Conversion:
             half = (least + most + 1) // 2
             least, most = (half, most) if front.fullmatch(text[:half]) else (least, half - 1)
         return text[:least]
+
+    def take(self, rest):
+        """How many bytes it uses, its item or the text in its column, and why that doesn't match, if it doesn't."""
+        if self.column:
+            column = rest[: self.width]
+            text = column if self.strict else column.strip(SPACE)
+            if not column.strip(SPACE):
+                return len(column), b"", "matching" if column else "input"
+            matches = self.letter == "s" and not self.strict or self.patterns()[0].fullmatch(text)
+            return len(column), text, None if matches else "matching"
+        skipped = 0 if self.letter in "[c" or self.strict else len(rest) - len(rest.lstrip(SPACE))
+        item = self.item(rest[skipped:])
+        if not item:
+            return skipped, item, "matching" if rest[skipped:] else "input"
+        return skipped + len(item), item, None if self.patterns()[0].fullmatch(item) else "matching"
 
     def value(self, item):
         """The value that a matching item has, or None where its kind doesn't hold it."""
@@ -124,17 +160,13 @@ def run(parts, line):
                 return None, (at, "range", used, assigned)
             values.append(used)
         else:
-            skipped = 0 if it.letter in "[c" else len(rest) - len(rest.lstrip(SPACE))
-            used, rest = used + skipped, rest[skipped:]
-            item = it.item(rest)
-            if not item and it.optional:
+            count, item, why = it.take(rest)
+            used += count
+            if why and (item or not it.optional):
+                return None, (at, why, used, assigned)
+            if why:
                 values += [] if it.suppressed else [None]
                 continue
-            if not item:
-                return None, (at, "matching" if rest else "input", used, assigned)
-            used += len(item)
-            if not it.patterns()[0].fullmatch(item):
-                return None, (at, "matching", used, assigned)
             if it.suppressed:
                 continue
             value = it.value(item)
@@ -167,6 +199,7 @@ def line_for(rng, parts):
     """A line that a format nearly matches."""
     line = b""
     for it in parts:
+        at = len(line)
         if rng.random() < 0.12:
             line += rng.choice((b"", b" ", b"x", b"-", b"0x", b"1e"))
         if it is None:
@@ -179,6 +212,8 @@ def line_for(rng, parts):
             line += rng.choice((b"", b"0", b"7", b"-1", b"+12", b" 300", b"0x1F", b"070", b"0b11", b"99999999999", b"18446744073709551616", b"-128", b"255"))
         elif it.letter != "n":
             line += rng.choice((b"", b"a", b"abc", b"ab,", b"12", b" x", b".", b",", b"a.b c"))
+        if isinstance(it, Conversion) and it.column and rng.random() < 0.8:
+            line = line[:at] + rng.choice((bytes.ljust, bytes.rjust, bytes.center))(line[at : at + it.width], it.width)
     return line + rng.choice((b"", b"", b"", b" ", b"rest"))
 
 

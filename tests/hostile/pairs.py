@@ -1,4 +1,4 @@
-"""Pairs of one conversion and one literal: which are accepted, and what is read back, with each of the 256 bytes behind.
+"""Pairs of one conversion and one literal, and of columns: which are accepted, and what is read back, with each of the 256 bytes behind.
 
 The stop sets and first bytes are those of docs/FORMATS.md, "Pairs"; the texts of the boundary values are Python's.
 """
@@ -106,6 +106,62 @@ def texts():
         yield f"{name} reads back", there_and_back(print_, scan, made, [quoted(it) for it in values], range(256))
 
 
+THREE = ("--profile", "3")
+# Columns of numbers: a scan letter with its marks, and the print conversions that it reads back, each with the text that Python gives a number.
+COLUMNS = [
+    ("=", "d", [("%{1}{0}d", "{}d"), ("%-{1}{0}d", "<{}d"), ("%0{1}{0}d", "0{}d"), ("%+{1}{0}d", "+{}d"), ("%-+{1}{0}i", "<+{}d")]),
+    ("=", "i", [("%{1}{0}d", "{}d"), ("%-{1}{0}i", "<{}d")]),
+    ("=", "u", [("%{1}{0}u", "{}d"), ("%-{1}{0}u", "<{}d"), ("%0{1}{0}u", "0{}d")]),
+    ("=", "o", [("%{1}{0}o", "{}o"), ("%0{1}{0}o", "0{}o")]),
+    ("=", "x", [("%{1}{0}X", "{}X"), ("%-{1}{0}x", "<{}x"), ("%0{1}{0}x", "0{}x")]),
+    ("=!", "d", [("%0{1}{0}d", "0{}d")]),
+    ("=!", "u", [("%0{1}{0}u", "0{}d")]),
+    ("=!", "x", [("%0{1}{0}X", "0{}X")]),
+]
+# Columns of texts: a scan conversion, the print conversions, and texts.
+TEXT_COLUMNS = [
+    ("%=1s", ["%1s", "%-1s"], [bytes([it]) for it in range(256) if it not in SPACE]),
+    ("%=5s", ["%5s", "%-5s", "%5.5s"], [b"a", b"\0", b"\xff", b"abcde", b"a b", b"a\n\tb", b"-1\"]"]),
+    ("%=4[^;]", ["%4s", "%-4s"], [b"a", b"\0\xff", b"a,b", b"a  b"]),
+    ("%=3[a-c]", ["%3s", "%-3.3s"], [b"a", b"ab", b"cab"]),
+    ("%=!3s", ["%3s", "%-3s"], [b"abc", b"\0\xff;", b"+-1"]),
+]
+
+
+def read_back_from(print_, scan, texts, shown):
+    """A check that texts that are columns are read back with each byte behind, and are copied as they stand."""
+    def check():
+        beside = b"".join(text + bytes([byte]) for text in texts for byte in range(256))
+        due = b"".join(one + b" " + quoted(bytes([byte])) + b"\n" for one in shown for byte in range(256))
+        fault = difference(program.run("scan", *THREE, scan + "%c", stdin=beside), (0, due, b""))
+        fault = fault or difference(program.run("scan", *THREE, scan, stdin=b"".join(texts)), (0, b"".join(it + b"\n" for it in shown), b""))
+        return fault or difference(program.run("copy", *THREE, print_, scan, stdin=b"".join(texts)), (0, b"".join(texts), b""))
+    return check
+
+
+def columns():
+    """Columns: each print of the column's width is accepted, each other refused; what is printed in it is read back, whatever stands behind."""
+    for marks, letter, prints in COLUMNS:
+        for (length, size), (pattern, spec) in ((one, other) for one in SIZES.items() for other in prints):
+            values = (SIGNED if letter in "di" else UNSIGNED)[size]
+            width = max(len(format(it, spec.format(1))) for it in values)
+            texts = [format(it, spec.format(width)).encode() for it in values]
+            print_, scan = pattern.format(length, width), f"%{marks}{width}{length}{letter}"
+            yield f"{print_} {scan} is accepted", answers("check", *THREE, print_, scan, out=b"accepted\n")
+            yield f"{print_} {scan} reads back", read_back_from(print_, scan, texts, [b"%d" % it for it in values])
+            for other in (width - 1, width + 1):
+                yield f"{print_} {scan} of {other}", answers("check", *THREE, pattern.format(length, other), scan, out=b"refused: Q14 BadMark at 1\n", status=1)
+    for scan, prints, values in TEXT_COLUMNS:
+        for print_ in prints:
+            width = int("".join(it for it in print_.partition(".")[0] if it.isdigit()))
+            texts = [it.ljust(width) if "-" in print_ else it.rjust(width) for it in values]
+            yield f"{print_} {scan} is accepted", answers("check", *THREE, print_, scan, out=b"accepted\n")
+            yield f"{print_} {scan} reads back", read_back_from(print_, scan, texts, [quoted(it) for it in values])
+    for print_, scan, text, good in [("%5.5d", "%=5d", b"   12-1234", b"00012"), ("%5.0d", "%=5d", b"    7    0", b"    7"), ("%+3d", "%=3d", b" 12123", b"+12"), ("%#4x", "%=4x", b"  ff abc", b"0xff"),
+                                     ("%5.3s", "%=5s", b"fig  plums", b"  fig"), ("%-3s", "%=!3s", b"figf", b"fig"), ("%8.2f", "%=8lf", b"    12.5   0.125", b"   12.50"), ("%8.2f", "%=8lf", b"    12.5     inf", b"   12.50")]:
+        yield f"{print_} {scan} of {text}", answers("copy", *THREE, print_, scan, stdin=text, out=good, err="record 2: values do not fit", status=1)
+
+
 def literals():
     """Each byte as the literal behind a conversion: accepted where it isn't in the stop set."""
     for print_, scan, stop in [("%x", "%8x", HEX + b"xX"), ("%02x", "%8x", HEX), ("%i", "%11i", DECIMAL + b"xX"),
@@ -125,6 +181,6 @@ def unfit():
 
 
 def checks():
-    for group in (numbers, texts, literals, unfit):
+    for group in (numbers, texts, columns, literals, unfit):
         for name, call in group():
             yield f"{group.__name__}: {name}", call

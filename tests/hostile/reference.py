@@ -1,8 +1,8 @@
 """The program beside tools/fscanf.py, which shares nothing with it.
 
 On each case of tests/program that scans or shows and that needs nothing else of the command, and on each row of crates/sf_rows: what
-the table says is what the reference gives. On formats and inputs by chance, always the same ones: what the program says is. And the reference beside
-the C libraries that are there: where these differ from it, docs/LIBCS.md says why.
+the table says is what the reference gives. On formats and inputs by chance, always the same ones: what the program says is; and --strict is the mark
+`!` in each conversion. And the reference beside the C libraries that are there: where these differ from it, docs/LIBCS.md says why.
 """
 import ast
 import decimal
@@ -32,7 +32,7 @@ LIMIT = 1048576
 # The options that are made here: those with a value, and those without.
 WITH = {"--profile": "profile", "-p": "profile", "--limit": "limit", "-e": "formats", "--ignore": "ignored", "--skip": "skip", "-s": "skip"}
 WITHOUT = {"--lines": "lines", "-l": "lines", "--keep-going": "keep_going", "-k": "keep_going", "--whole": "whole", "--quiet": "quiet", "-q": "quiet",
-           "--matching": "matching", "--line-buffered": "line_buffered", "--explain": "explain", "--no-explain": "no_explain"}
+           "--matching": "matching", "--line-buffered": "line_buffered", "--explain": "explain", "--no-explain": "no_explain", "--strict": "strict", "-S": "strict"}
 
 
 class Elsewhere(Exception):
@@ -60,11 +60,17 @@ def unescaped(word):
     return bytes(found)
 
 
-def directives_of(word, profile):
+def strictly(it):
+    """A directive as if it had a `!`, where it can have that."""
+    return it._replace(lead=scan_formats.lead_of(it.letter, True)) if isinstance(it, scan_formats.Conversion) else it
+
+
+def directives_of(word, given):
     try:
-        return scan_formats.directives_of(unescaped(word), profile)
+        directives = scan_formats.directives_of(unescaped(word), given["profile"])
     except scan_formats.Fault as fault:
         raise Refused(f"scan format: {fault}") from None
+    return [strictly(it) for it in directives] if given.get("strict") else directives
 
 
 def order_of(args):
@@ -168,7 +174,7 @@ def lines(formats, text, given):
         elif any(judged([it], line, True)[2] == "" for it in given["ignored"]):
             continue
         else:
-            directives, report, fault = judged(formats, line, given.get("whole"))
+            directives, report, fault = judged(formats, line, given.get("whole") or given.get("strict"))
             if not fault:
                 written.append(line_of(directives, report))
                 continue
@@ -184,8 +190,8 @@ def answered(args, text):
     """The status, the output and the error text of a call, by the reference."""
     verb, given, words = order_of(args)
     try:
-        given["ignored"] = [directives_of(it, given["profile"]) for it in given["ignored"]]
-        formats = [directives_of(it, given["profile"]) for it in words]
+        given["ignored"] = [directives_of(it, given) for it in given["ignored"]]
+        formats = [directives_of(it, given) for it in words]
     except Refused as refused:
         return 2, b"", f"sf: {refused}\n".encode("latin-1")
     if verb == "show":
@@ -330,10 +336,10 @@ NOISE = (",", ";", " ", "  ", "\t", "a", "x", "0", "-", "%", "\xe9", "\v")
 
 def conversion_of(chance, profile):
     letter = chance.choice(LETTERS[profile])
-    is_count = letter == "n"
+    is_count, is_column = letter == "n", letter not in "cn" and profile == 3 and chance.random() < 0.3
     star = "*" * (not is_count and chance.random() < 0.15)
-    mark = "?" * (not is_count and profile == 3 and chance.random() < 0.2)
-    width = str(chance.choice((1, 1, 2, 2, 3, 4, 5, 7, 12, 30))) * (not is_count and chance.random() < 0.4)
+    mark = "?" * (not is_count and profile == 3 and chance.random() < 0.2) + "=" * is_column + "!" * (letter not in "cn[" and profile == 3 and chance.random() < 0.3)
+    width = str(chance.choice((1, 1, 2, 2, 3, 4, 5, 7, 12, 30))) * (is_column or not is_count and chance.random() < 0.4)
     size = chance.choice(("", "l")) if letter in "faeg" else "" if letter in "sc[" else chance.choice(SIZES)
     return f"%{star}{mark}{width}{size}{letter}" + (chance.choice(SETS) + "]") * (letter == "[")
 
@@ -345,6 +351,12 @@ def format_of(chance, profile):
         for number, at in enumerate(chance.sample(assigned, len(assigned)), 1):
             parts[at] = f"%{number}${parts[at][1:]}"
     return "".join(parts).encode("latin-1")
+
+
+def column_of(chance, text, width):
+    """A text in a column, which mostly is as wide as it should be, and may be blank."""
+    placed = chance.choice((str.ljust, str.rjust, str.center))(text[:width], width)
+    return chance.choice((placed, placed, placed, placed, placed, " " * width, placed.replace(" ", "\t"), placed.strip(), text))
 
 
 def input_of(chance, directives):
@@ -360,12 +372,18 @@ def input_of(chance, directives):
             parts.append(chance.choice(("", " ", "\t ")))
         else:
             parts.append(chance.choice(NUMBERS if shape in ("Int", "Count") else FLOATS if shape == "Float" else TEXTS))
+        if getattr(it, "column", False):
+            parts[-1] = column_of(chance, parts[-1], it.width)
         if chance.random() < 0.15:
             parts.append(chance.choice(NOISE))
         if chance.random() < 0.3:
             parts.append(" ")
     text = "".join(parts)[: chance.choice((None, None, None, chance.randint(0, 12)))]
     return text.replace("\n", " ").encode("latin-1")
+
+
+def word_of(text):
+    return escaped(text).encode()
 
 
 def by_chance(seed):
@@ -375,13 +393,13 @@ def by_chance(seed):
         profile = chance.choice((1, 2, 3, 3))
         text = format_of(chance, profile)
         directives = scan_formats.directives_of(text, profile)
-        words = [b"--profile", b"%d" % profile]
+        words = [b"--profile", b"%d" % profile] + [b"--strict"] * (chance.random() < 0.2)
         inputs = [input_of(chance, directives) for _ in range(LINES)]
-        yield [b"scan", *words, b"--lines", b"--keep-going", b"--", escaped(text).encode()], b"\n".join(inputs)
+        yield [b"scan", *words, b"--lines", b"--keep-going", b"--", word_of(text)], b"\n".join(inputs)
         for _ in range(WHOLE):
             limit = [b"--limit", b"%d" % chance.choice((0, 1, 3, 5, 20))] * (chance.random() < 0.2)
             whole = b"".join(input_of(chance, directives) + chance.choice((b"", b"\n")) for _ in range(chance.randint(1, 3)))
-            yield [b"scan", *words, *limit, b"--", escaped(text).encode()], whole
+            yield [b"scan", *words, *limit, b"--", word_of(text)], whole
 
 
 def drawn(seed):
@@ -391,6 +409,65 @@ def drawn(seed):
             found = difference(program.run(*words, stdin=text), answered(words, text))
             if found:
                 return f"{words} of {text!r}: {found}"
+        return ""
+    return check
+
+
+# What follows the % of a conversion that can have a `!` and has none.
+UNMARKED = re.compile(rb"%%|%(?:[0-9]+\$)?\*?\??=?(?=[0-9]*(?:hh|h|ll|l|j|z|t|)[diuoxXbsaAeEfFgG])")
+
+
+def marked(text):
+    """A format of profile 3 with a `!` in each conversion that can have it."""
+    return UNMARKED.sub(lambda it: it[0] + b"!" * (it[0] != b"%%"), text)
+
+
+def with_formats(options, texts):
+    """The options, each with a format after it."""
+    return [it for option, text in zip(options, texts) for it in (option, word_of(text))]
+
+
+def strict(seed):
+    """A check that --strict is a `!` in each conversion, and --whole where lines are read."""
+    def check():
+        chance, words = random.Random(f"strict {seed}"), [b"scan", b"--profile", b"3"]
+        for _ in range(FORMATS):
+            options = [b"-e"] * chance.choice((1, 1, 2)) + [b"--ignore"] * chance.choice((0, 0, 1))
+            texts = [format_of(chance, 3) for _ in options]
+            inputs = b"\n".join(input_of(chance, scan_formats.directives_of(chance.choice(texts), 3)) for _ in range(LINES))
+            plain, written, lines_ = with_formats(options, texts), with_formats(options, map(marked, texts)), [b"--lines", b"--keep-going"]
+            for left, right in (([*lines_, b"--strict", *plain], [*lines_, b"--whole", *written]), ([b"--strict", plain[1]], [written[1]])):
+                found = difference(program.run(*words, *left, stdin=inputs), program.run(*words, *right, stdin=inputs))
+                if found:
+                    return f"{texts} of {inputs}: {left}: {found}"
+        return ""
+    return check
+
+
+# ---- formats by chance that may be none
+
+# The parts of a conversion, in their order; each may be written.
+NONE_OR = (("", "", "", "", "1$", "2$", "33$"), ("*",), ("?",), ("=",), ("!",), ("", "0", "5", "5", "5", "65536"), ("", "", "hh", "l", "j", "L"))
+ENDS = (*"diuoxXbscnfae%m", "[a]", "[", "[^]", "[z-a]", "", "\0")
+
+
+def specification_of(chance):
+    parts = [chance.choice(them) * (chance.random() < 0.3) for them in NONE_OR]
+    if chance.random() < 0.1:
+        chance.shuffle(parts)
+    return "%" + "".join(parts) + chance.choice(ENDS) + chance.choice(("", "", ",", " "))
+
+
+def spelled(seed):
+    """A check that the program shows these formats, or reports the first fault of each, as the reference does."""
+    def check():
+        chance = random.Random(f"spelled {seed}")
+        for _ in range(3 * FORMATS):
+            text = "".join(specification_of(chance) for _ in range(chance.choice((1, 1, 2, 3))))
+            words = [b"show", b"--profile", b"%d" % chance.choice((1, 2, 3, 3, 3)), b"--", word_of(text.encode())]
+            found = difference(program.run(*words), answered(words, b""))
+            if found:
+                return f"{words}: {found}"
         return ""
     return check
 
@@ -423,3 +500,6 @@ def checks():
         yield f"cases {turn}", of_table(turn, 8)
     for seed in range(ROUNDS):
         yield f"by chance {seed}", drawn(seed)
+    for seed in range(8):
+        yield f"strict {seed}", strict(seed)
+        yield f"spelled {seed}", spelled(seed)

@@ -134,9 +134,33 @@ sf: scan format: F4 UnknownLetter at 2
 """),
     (r"scan -p3 '%?*d'", """
 sf: scan format: F4 UnknownLetter at 2
-  "*": a star stands before a ? and a width: write %*?5d
+  "*": a star stands before a ?, a =, a ! and a width: write %*?=!5d
   "%?*d"
      ^
+"""),
+    (r"scan %=5d", """
+sf: scan format: F4 UnknownLetter at 1
+  "=": what stands in a column has a = before its width, in a scan format and by --profile 3: write %=8d
+  "%=5d"
+    ^
+"""),
+    (r"scan -p3 '%5=d'", """
+sf: scan format: F4 UnknownLetter at 2
+  "=": what stands in a column has a = before its width, in a scan format and by --profile 3: write %=8d
+  "%5=d"
+     ^
+"""),
+    (r"scan -p3 '%=d'", """
+sf: scan format: F20 BadMark at 2
+  a = has a width after it, and %c and %n have no =; %c, %[ and %n have no !
+  "%=d"
+     ^
+"""),
+    (r"scan -p3 '%=5c'", """
+sf: scan format: F20 BadMark at 3
+  a = has a width after it, and %c and %n have no =; %c, %[ and %n have no !
+  "%=5c"
+      ^
 """),
     (r"scan %b", """
 sf: scan format: F4 UnknownLetter at 1
@@ -437,6 +461,18 @@ sf: pair: Q10 BadFlagHere at 1
   scan format, directive 1: "%5d", d i32 width 5 slot 1
   print format, directive 1: d i32 flags "-" width 5 precision - slot 1
 """),
+    (r"copy -p3 '%5d\n' '%=6d%*1[\n]'", """
+sf: pair: Q14 BadMark at 1
+  the two widths differ at a conversion with =, or what this flag, width or letter writes is not read by one with !
+  scan format, directive 1: "%=6d", d i32 width 6 slot 1 column
+  print format, directive 1: d i32 flags "" width 5 precision - slot 1
+"""),
+    (r"copy -p3 '%+d;' '%!11d;'", """
+sf: pair: Q14 BadMark at 1
+  the two widths differ at a conversion with =, or what this flag, width or letter writes is not read by one with !
+  scan format, directive 1: "%!11d", d i32 width 11 slot 1 strict
+  print format, directive 1: d i32 flags "+" width - precision - slot 1
+"""),
     (r"copy 'a\n' 'a%*1[\n]'", """
 sf: pair: Q11 NoValues at 0
   a pair has at least one value
@@ -667,6 +703,42 @@ sf: line 1: matching failure at 1, used 0, assigned 0
   directive 1: "%[0-9.]", [ text width - slot 1 members 11
   there stood " 62.50 5"
   white space stands in front, which only numbers and %s pass over: a blank at the format's front does, too
+"""),
+    # columns
+    (r"scan -l -p3 '%=5d|'", "1 2  |\n", """
+sf: line 1: matching failure at 1, used 5, assigned 0
+  directive 1: "%=5d", d i32 width 5 slot 1 column
+  the column has "1 2  "
+  there stood "|"
+"""),
+    (r"scan -l -p3 '%=3hhu'", "300\n", """
+sf: line 1: out of range at 1, used 3, assigned 0
+  directive 1: "%=3hhu", u u8 width 3 slot 1 column
+  directive 1 wants a number from 0 to 255
+  the column has "300"
+"""),
+    (r"scan -l -p3 '%=5d'", "12x\n", """
+sf: line 1: matching failure at 1, used 3, assigned 0
+  directive 1: "%=5d", d i32 width 5 slot 1 column
+  the input ended there
+"""),
+    (r"scan -l -p3 '%=!2hhu'", " 1\n", """
+sf: line 1: matching failure at 1, used 2, assigned 0
+  directive 1: "%=!2hhu", u u8 width 2 slot 1 column strict
+  directive 1 wants digits alone, and no sign, prefix or white space before them, in the whole column
+  the column has " 1"
+"""),
+    (r"scan -l -p3 'ATOM  %=5d'", "ATOM     12 N\n", """
+sf: line 1: matching failure at 6, used 13, assigned 0
+  directive 6: "%=5d", d i32 width 5 slot 1 column
+  the input ended there
+  white space in the format takes the blanks of the column after it, too: write %*c for a byte that is passed over
+"""),
+    (r"scan -p3 '%=3d'", "1 2\n", r"""
+sf: record 1: matching failure at 1, used 3, assigned 0
+  directive 1: "%=3d", d i32 width 3 slot 1 column
+  at line 1, column 4 of the input
+  there stood "\x0a"
 """),
     (r"scan --lines --limit 5 %s", "abc\nabcdefgh\n", """
 sf: line 2: too long

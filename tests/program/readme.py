@@ -20,7 +20,7 @@ from program import ROOT
 MARK = "--readme-51c8--"
 
 # How many lines a screen has, and what the first one has to show.
-SCREEN, FIRST = 40, ("`awk ", "## Install", "$ make -s install", "| sf scan -lw -p3 --print", "%lf", "%?s", "null", "out of range at")
+SCREEN, FIRST = 40, ("`awk ", "## Install", "$ make -s install", "| sf scan -lS -p3 --print", "%lf", "%?s", "null", "out of range at")
 
 # What `make install` takes from a clone.
 PARTS = ("Makefile", "man", "completions", "crates/sf_words/src", "tests/cookbook/data")

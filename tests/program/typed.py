@@ -43,6 +43,8 @@ HELPED = (
     ("a width that is too large", ("sf scan %99999999d", "a width is at most 65535")),
     ("too many values", ("sf scan '" + "%d " * 33 + "'", "a format has at most 32 values")),
     ("what may be missing", ("sf scan '%?d'", "in a scan format and by --profile 3: write %?5d")),
+    ("a column", ("sf scan '%=5d'", "in a scan format and by --profile 3: write %=8d"), ("sf scan -p3 '%5=d'", "in a scan format and by --profile 3: write %=8d")),
+    ("a column without a width", ("sf scan -p3 %=d", "a = has a width after it")),
     ("a width among the values", ("sf print '%*d' 5 5", "%*: a width or a precision among the values is not part of sf")),
     ("a precision", ("sf scan '%5.2f'", "a scan format has no precision: write %5f, and not %5.2f")),
     ("a precision in profile 3", ("sf scan -p3 '%5.2f'", "a scan format has no precision: write %5f, and not %5.2f")),
@@ -85,6 +87,7 @@ HELPED = (
     ("a check without a width", (r"sf check '%d\n' '%d\n'", "a conversion that is read back needs a width: write %11d")),
     ("a copy by formats in the other order", (r"sf copy '%11d%*1[\n]' '%d\n'", ORDER)),
     ("a check of formats in the other order", (r"sf check '%11d%*1[\n]' '%d\n'", ORDER)),
+    ("a copy of a column of another width", (r"sf copy -p3 '%5d\n' '%=6d%*1[\n]'", "the two widths differ at a conversion with =")),
     ("a copy of floats without a width", (r"sf copy -p3 '%.2f\n' '%lf%*1[\n]'", "a conversion that is read back needs a width: write %313lf")),
     ("a check of one format", (r"sf check '%s\n'", WIDTH), (r"sf check -p3 '%s,%d\n'", WIDTH), (r"sf check --width 20 '%s%d\n'", ALONE)),
     # values
@@ -105,6 +108,8 @@ HELPED = (
     ("a text that takes the comma", (r"printf 'a,1\n' | sf scan -l '%s,%d'", 'a text that ends before the next byte of the format is "%[^,]"')),
     ("a byte order mark", (r"printf '\357\273\2771\n' | sf scan -l %d", "a byte order mark stands there"),
      (r"printf '\377\3761\000' | sf scan -l %d", "the input seems to be UTF-16")),
+    ("a blank before a column", (r"printf 'ATOM     12 N\n' | sf scan -lp3 'ATOM  %=5d'", "white space in the format takes the blanks of the column after it, too")),
+    ("a column that holds something else", (r"printf '1 2  |\n' | sf scan -lp3 '%=5d|'", 'the column has "1 2  "')),
     ("a carriage return", (r"printf '1\r\n' | sf scan -lw %d", "a space at the format's end takes it")),
     ("a format that takes nothing", ("sf scan '' < ab", "the format took no byte"), ("sf scan '' gone", "No such file or directory")),
 )
@@ -166,7 +171,7 @@ class Typed(unittest.TestCase):
 
     def test_at_most_eight_are_not_helped(self):
         names = [name for name, *_ in HELPED + SILENT]
-        self.assertEqual(len(set(names)), 78)
+        self.assertEqual(len(set(names)), 83)
         self.assertLessEqual(len(SILENT), 8)
 
 

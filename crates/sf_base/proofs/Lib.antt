@@ -6,3 +6,4 @@ pub mod Lanes
 pub mod Fronts
 pub mod Casts
 pub mod TwoDigits
+pub mod Blanks

@@ -1,5 +1,6 @@
 pub mod stores
 pub mod Bytes
+pub mod Blanks
 pub mod Greatest
 pub mod Sets
 pub mod Kinds

@@ -14,7 +14,7 @@ mod taken;
 mod values;
 
 pub use byte_set::ByteSet;
-pub use bytes::{digit_value, is_space};
+pub use bytes::{digit_value, is_space, trimmed_end};
 pub use integers::ScanInt;
 pub use number::Number;
 pub use pairs::pair_of;

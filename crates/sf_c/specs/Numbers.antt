@@ -75,6 +75,7 @@ format_number format.TooManyDestinations = 16
 format_number format.BadFlag = 17
 format_number format.PrecisionTooLarge = 18
 format_number format.NoMemory = 19
+format_number format.BadMark = 20
 
 -- the number of a pair's fault, as the 6 of Q6
 abbrev pub pair_number : PairWhy → ℕ
@@ -90,3 +91,4 @@ pair_number pair.NotWritten = 9
 pair_number pair.BadFlagHere = 10
 pair_number pair.NoValues = 11
 pair_number pair.MayBeMissing = 13
+pair_number pair.BadMark = 14

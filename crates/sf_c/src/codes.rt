@@ -81,6 +81,7 @@ pub(crate) fn format_number(why: FormatWhy) -> u8
         FormatWhy::BadFlag => 17,
         FormatWhy::PrecisionTooLarge => 18,
         FormatWhy::NoMemory => 19,
+        FormatWhy::BadMark => 20,
     }
 }
 
@@ -101,6 +102,7 @@ pub(crate) fn pair_number(why: PairWhy) -> u8
         PairWhy::BadFlagHere => 10,
         PairWhy::NoValues => 11,
         PairWhy::MayBeMissing => 13,
+        PairWhy::BadMark => 14,
     }
 }
 

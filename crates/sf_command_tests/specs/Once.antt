@@ -31,7 +31,8 @@ module _ {S K E : Type 0} (contents : K → Option (List ℕ)) (write_faults : K
     pub mid : K
     pub between : E
     pub scans : ScansLines to_come read_faults contents write_faults said unsaid (file_name order) (is_headed order.file)
-        (grammar_of order.profile) (form_of order.output) order.tag (names_text order) (option_map string_bytes order.print) options
+        order.strict (grammar_of order.profile) (form_of order.output) order.tag (names_text order)
+        (option_map string_bytes order.print) options
         explain order.limit (map string_bytes order.ignored.items) (map string_bytes order.texts.items) from from' out mid err between
         answer
     pub notes : List ℕ

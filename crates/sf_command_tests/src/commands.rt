@@ -5,7 +5,7 @@ use sf_read::{Lookahead, ReadStep, ScriptSource, SliceSource};
 use std::test::Fail;
 
 /// Words of commands that need no input, of formats and calls that are refused, and of help; and the status.
-static UNREAD: [(&str, u8); 55] = [
+static UNREAD: [(&str, u8); 59] = [
     ("show/a %d", 0),
     ("show/\x01\"\\\\\x7f", 0),
     ("show/", 0),
@@ -53,6 +53,10 @@ static UNREAD: [(&str, u8); 55] = [
     ("scan/--output/csv/--names/a/%d%d", 2),
     ("scan/--output/csv/--names/a,a/%d%d", 2),
     ("scan/--lines/--output/csv/--names/a,/%d%d", 2),
+    ("scan/--strict/%!d", 2),
+    ("scan/-Sp3/%!n", 2),
+    ("show/-p3/%*?!5lf%n", 0),
+    ("show/-S/%d", 2),
     ("", 2),
     ("show", 2),
     ("show/%d/%d", 2),
@@ -87,7 +91,7 @@ type Reading = (
     u8,
 );
 
-static READINGS: [Reading; 8] = [
+static READINGS: [Reading; 10] = [
     (
         "scan/--explain/%d",
         ["1\n", "2\n\n", " x"],
@@ -156,6 +160,22 @@ static READINGS: [Reading; 8] = [
         "1\n",
         "sf: line 2: matching failure at 1, used 0, assigned 0\nsf: line 3: read fault\n",
         3,
+    ),
+    (
+        "scan/--strict/ %d",
+        ["1\n", " 2\n+", "3"],
+        false,
+        "1\n2\n",
+        "sf: record 3: matching failure at 2, used 1, assigned 0\n",
+        1,
+    ),
+    (
+        "scan/--lines/--strict/--keep-going/--ignore/%x/%d",
+        ["-1\n1\n 2", "\n-3 \n-4\n", ""],
+        false,
+        "-1\n-4\n",
+        "sf: line 3: matching failure at 1, used 0, assigned 0\nsf: line 4: left over at 2\n",
+        1,
     ),
 ];
 

@@ -7,5 +7,5 @@ mod reached;
 mod scan;
 
 pub use decimal::{Decimal, numeral_within};
-pub use reached::{Radix, Reached};
+pub use reached::{Forms, Radix, Reached};
 pub use scan::{FloatScan, is_float};

@@ -13,6 +13,6 @@ mod values;
 #[cfg(test)]
 mod written;
 
-pub use items::{is_in_parts, pattern_of, taken_of};
+pub use items::{decimal_pattern_of, is_in_parts, pattern_of, taken_of};
 pub use printed::{general_of, hexadecimal_of, only_text, plain_of, scientific_of};
 pub use short::{share_text, short_f32, short_f64, shortest_of};

@@ -1,7 +1,8 @@
 //! Values of matching sequences, as glibc's strtod and strtof read them, and input items.
 use sf_base::Value;
 use sf_float_read::{
-    FloatScan, decimal_value_f32, decimal_value_f64, is_float, numeral_within, value_f32, value_f64,
+    FloatScan, Forms, decimal_value_f32, decimal_value_f64, is_float, numeral_within, value_f32,
+    value_f64,
 };
 use std::test::Fail;
 
@@ -178,10 +179,33 @@ static ITEMS: [Item; 20] = [
     (b"x", 0, false),
 ];
 
-#[test]
-fn items_are_the_longest_fronts() -> Result<(), Fail> {
-    for row in &ITEMS {
-        let mut scan = FloatScan::start();
+/// Items of decimal floats: a minus or none, and a decimal number.
+static DECIMAL_ITEMS: [Item; 20] = [
+    (b"-1.5", 4, true),
+    (b"+1", 0, false),
+    (b"0x1p4", 1, true),
+    (b"-0X1", 2, true),
+    (b"1e", 2, false),
+    (b"1e+x", 3, false),
+    (b"1p4", 1, true),
+    (b"inf", 0, false),
+    (b"-inf", 1, false),
+    (b"nan", 0, false),
+    (b"-NaN", 1, false),
+    (b".5", 2, true),
+    (b"5.", 2, true),
+    (b".", 1, false),
+    (b"-.", 2, false),
+    (b"-", 1, false),
+    (b"--1", 1, false),
+    (b" 1", 0, false),
+    (b"00.5e+05e", 8, true),
+    (b"1.5.2", 3, true),
+];
+
+fn are_items(forms: Forms, rows: &[Item]) -> Result<(), Fail> {
+    for row in rows {
+        let mut scan = FloatScan::start(forms);
         let mut taken = 0usize;
         for b in row.0 {
             if !scan.step(*b) {
@@ -194,6 +218,12 @@ fn items_are_the_longest_fronts() -> Result<(), Fail> {
         }
     }
     Ok(())
+}
+
+#[test]
+fn items_are_the_longest_fronts() -> Result<(), Fail> {
+    are_items(Forms::All, &ITEMS)?;
+    are_items(Forms::Decimal, &DECIMAL_ITEMS)
 }
 
 /// A piece that begins with a decimal numeral, how many bytes that has, and its patterns, as strtod and strtof read it.

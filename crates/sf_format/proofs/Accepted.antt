@@ -1,6 +1,7 @@
 -- What holds of the directives of each spelled scan format, and of the units of each print format.
 use Rattle.std.proofs.Common.{◌≡◌, ◌≢◌, ℕ, ◌<◌, Bool, true, false, List, [], ◌∷◌, None, refl, lit<, arith, Some, ◌≤◌, sym, ◌∙◌}
 use Rattle.std.proofs.lemmas.Bool.Decides.{nat_tests}
+use Rattle.std.specs.Prelude.{IsSome}
 use Rattle.std.specs.List.{AllByRecursion}
 use Rattle.sf_format.specs.Scanlist.{Scanlist, IsScanlist, is_listed, is_chosen, is_member, backward_range}
 use Rattle.sf_base.specs.declared.values.Kind.{Kind}
@@ -9,13 +10,14 @@ use Rattle.sf_format.specs.declared.directive.Shape.{Shape}
 use Rattle.sf_format.specs.declared.directive.Directive.{Directive}
 use Rattle.sf_format.specs.Language.{Scan, Print}
 use Rattle.sf_format.specs.declared.letter.Letter.{Letter}
+use Rattle.sf_format.specs.declared.letter.Letter.TheVariants.{Signed, Unsigned, Chars, Text, Set, Count, Float}
 use Rattle.sf_format.specs.declared.letter.Length.{Length}
 use Rattle.sf_format.specs.Letters.{kind_of}
-use Rattle.sf_format.specs.Digits.{IsOptionalNumber}
+use Rattle.sf_format.specs.Digits.{IsOptionalNumber, optional_number}
 use Rattle.sf_format.specs.Pieces.{Opening, Piece, Ordinary, Plain, Bracket, Percents}
-use Rattle.sf_format.specs.Grammar.{IsScanPiece, shape_of, width_of, Means, Spells, SpellsPrint}
+use Rattle.sf_format.specs.Grammar.{IsScanPiece, SuitsColumn, shape_of, width_of, Means, Spells, SpellsPrint}
 use Rattle.sf_format.specs.Proper.{HasItsKind, IsKinded, HasItsWidth, IsSized, IsProperShape, IsProperWidth, IsProper, AreProper, AreSized}
-use Rattle.sf_format.specs.Proper.{AreKinded, IsAccepted}
+use Rattle.sf_format.specs.Proper.{AreKinded, TakesColumn, IsColumned, AreColumned, IsAccepted}
 use Rattle.sf_format.proofs.Suits.{text_kinded, float_kinded}
 use Rattle.sf_format.proofs.Meanings.{scan_slots, mean_each, print_slots}
 use Rattle.sf_format.proofs.PartSlots.{all_short, format_few, slots_good, slots_count}
@@ -49,29 +51,50 @@ some_member list is byte =
 
 -- ---- each directive
 
-plain_good : (letter : Letter) (s : Shape) (ds : List ℕ) (size : Length) (k : Kind) → shape_of letter s → kind_of letter size ≡ Some k
-    → IsOptionalNumber 65535 ds → let width = width_of letter ds in
+plain_good : (letter : Letter) (strict : Bool) (s : Shape) (ds : List ℕ) (size : Length) (k : Kind) → shape_of letter strict s
+    → kind_of letter size ≡ Some k → IsOptionalNumber 65535 ds → let width = width_of letter ds in
     IsProperShape s × IsProperWidth width × HasItsWidth s width × HasItsKind s k
-plain_good letter s ds size k h is number = grind (arith, text_kinded size k, float_kinded size k)
+plain_good letter strict s ds size k h is number = grind (arith, text_kinded size k, float_kinded size k)
+
+some_number : (ds : List ℕ) → ds ≢ [] → IsSome (optional_number ds)
+some_number [] h = absurd (h refl)
+some_number (d ∷ ds) h = refl
+
+column_good : (letter : Letter) (o : Opening) (s : Shape) → SuitsColumn letter o → shape_of letter o.strict s → o.column ≡ true
+    → IsSome (width_of letter o.width) × TakesColumn s
+column_good (Signed base) o s suits takes e = (some_number o.width (suits e), rw takes tt)
+column_good (Unsigned base) o s suits takes e = (some_number o.width (suits e), rw takes tt)
+column_good Chars o s suits takes e = absurd (let f = sym suits ∙ e in cc)
+column_good Text o s suits takes e = (some_number o.width (suits e), rw takes tt)
+column_good Count o s suits takes e = absurd (let f = sym suits ∙ e in cc)
+column_good Float o s suits takes e = (some_number o.width (suits e), rw takes tt)
+column_good Set o s suits takes e = absurd takes
 
 abbrev IsGoodDirective : Directive → Type 0
-IsGoodDirective d = IsProper d × IsSized d × IsKinded d
+IsGoodDirective d = IsProper d × IsSized d × IsKinded d × IsColumned d
 
 good_one : (profile : Profile) (place : ℕ) (piece : Piece) (d : Directive) → IsScanPiece profile piece → Means profile place piece d
     → IsGoodDirective d
-good_one profile place (Ordinary b) d is h = rw h (is.0, tt, tt)
+good_one profile place (Ordinary b) d is h = rw h (is.0, tt, tt, tt)
 good_one profile place (Plain o b) d is h =
-    let good = plain_good h.0 h.1.shape o.width o.size h.1.kind h.4 h.3.kind is.1.2.width in
-    rw (h.5, h.3.width) ((good.0, good.1), good.2, good.3)
+    let same : is.1.0 ≡ h.0 = let e = sym is.1.1 ∙ h.2 in cc in
+    let placed = rw same at is.1.2.placed in
+    let good = plain_good h.0 o.strict h.1.shape o.width o.size h.1.kind h.4 h.3.kind is.1.2.width in
+    rw (h.5, h.3.width)
+    ((good.0, good.1), good.2, good.3, λ e. column_good h.0 o h.1.shape placed h.4 (sym h.3.column ∙ e))
 good_one profile place (Bracket o list) d is h =
     let m = some_member list is.1 is.1.bytes.0 in
-    rw (h.5, h.2.width, h.4)
-    (((m.0, m.1, rw (h.3.1 m.0 m.1) m.2), grind (arith, is.0.width)), tt, text_kinded o.size h.0.kind h.2.kind)
-good_one profile place _ d is h = rw h (tt, tt, tt)
+    rw (h.5, h.2.width, h.4) (
+      ((m.0, m.1, rw (h.3.1 m.0 m.1) m.2), grind (arith, is.0.width)),
+      tt,
+      text_kinded o.size h.0.kind h.2.kind,
+      λ e. (some_number o.width (is.0.placed (sym h.2.column ∙ e)), tt),
+    )
+good_one profile place _ d is h = rw h (tt, tt, tt, tt)
 
-all_good : (ds : List Directive) → AllByRecursion IsGoodDirective ds → AreProper ds × AreSized ds × AreKinded ds
-all_good [] h = (tt, tt, tt)
-all_good (d ∷ ds) h = let rest = all_good ds h.1 in ((h.0.0, rest.0), (h.0.1, rest.1), (h.0.2, rest.2))
+all_good : (ds : List Directive) → AllByRecursion IsGoodDirective ds → AreProper ds × AreSized ds × AreKinded ds × AreColumned ds
+all_good [] h = (tt, tt, tt, tt)
+all_good (d ∷ ds) h = let rest = all_good ds h.1 in ((h.0.0, rest.0), (h.0.1, rest.1), (h.0.2, rest.2), (h.0.3, rest.3))
 
 pub proper : (profile : Profile) (text : List ℕ) (ds : List Directive) → Spells profile text ds → IsAccepted ds
 proper profile text ds (pieces, is, e, means) =
@@ -80,6 +103,7 @@ proper profile text ds (pieces, is, e, means) =
       proper = good.0;
       sized = good.1;
       kinded = good.2;
+      columns = good.3;
       short = omega (arith, all_short (Scan profile) (Means profile) 1 pieces ds is.each means, is.short);
       few = omega (arith, slots_count (scan_slots profile) pieces ds means, format_few (Scan profile) pieces is);
       slots = slots_good (scan_slots profile) pieces ds is means;

@@ -11,8 +11,8 @@ use Rattle.sf_format.specs.Letters.{has_doubles, length_text}
 use Rattle.sf_format.specs.declared.directive.Profile.{Profile}
 use Rattle.sf_format.specs.PrintLetters.{is_flag}
 use Rattle.sf_format.specs.Language.{Language, Scan, Print}
-use Rattle.sf_format.specs.Pieces.{Opening, number_text, star_text, optional_text, opening_text, precision_text}
-use Rattle.sf_format.specs.Cut.{number_before, number_at, first_length, length_at, cut, precision_behind, precision_at, optional_at}
+use Rattle.sf_format.specs.Pieces.{Opening, number_text, star_text, optional_text, column_text, strict_text, opening_text, precision_text}
+use Rattle.sf_format.specs.Cut.{number_before, number_at, first_length, length_at, cut, precision_behind, precision_at, mark_of_three}
 use Rattle.sf_format.proofs.Prefixes.{Stops, AllPass, front_behind, front_passes, front_of, behind_of, behind_stops}
 use Rattle.sf_format.proofs.Rules.{all_map, all_append}
 use Rattle.sf_format.specs.PrintGrammar.{StartsAboveZero}
@@ -29,11 +29,17 @@ pub mark_joined : (text : Bool → List ℕ) (mark : ℕ) (x : List ℕ) → tex
 mark_joined text mark [] there none = rw none
 mark_joined text mark (b ∷ x) there none = grind (arith, nat_tests)
 
+-- the mark, or none, before what begins with no such byte
+mark_is : (text : Bool → List ℕ) (mark : ℕ) (v : Bool) (x : List ℕ) → text true ≡ mark ∷ [] → text false ≡ []
+    → Stops (λ b. nat_eq b mark) x → mark_at mark (text v ++ x) ≡ (v, x)
+mark_is text mark true x there none stops = grind (arith, nat_tests, there)
+mark_is text mark false x there none stops = rw none (mark_none mark x stops)
+
 -- ---- bytes that parts begin with
 
--- a byte of a star, of a ?, of flags or of a width
+-- a byte of a star, of a ?, of a =, of a !, of flags or of a width
 abbrev pub is_inside : ℕ → Bool
-is_inside b = is_decimal b || is_flag b || is_any_of (codes "*?") b
+is_inside b = is_decimal b || is_flag b || is_any_of (codes "*?=!") b
 
 -- one that a part before the precision begins with, or %
 abbrev pub is_head : ℕ → Bool
@@ -55,7 +61,12 @@ pub head_stops : (x : List ℕ) → Stops is_part x → Stops is_head x
 head_stops x stops = stops_less is_head is_part (λ b e. grind arith) x stops
 
 pub digit_stops : (x : List ℕ) → Stops is_head x → Stops is_decimal x
-digit_stops x stops = stops_less is_decimal is_head (λ b e. grind arith) x stops
+digit_stops x stops =
+    stops_less is_decimal is_head
+    (λ b e. no_digit (is_decimal b) (is_flag b) (is_any_of (codes "*?=!") b) (is_any_of (codes "$%") b) e) x stops
+  where
+    no_digit : (digit flag mark other : Bool) → ((digit || flag || mark) || other) ≡ false → digit ≡ false
+    no_digit digit flag mark other e = grind arith
 
 -- ---- the number
 
@@ -138,8 +149,8 @@ sized_stops _ letter x last = refl
 
 -- what stands after the % of an opening
 abbrev pub inside : Opening → List ℕ → List ℕ
-inside o y = number_text o.number ++ (star_text o.star ++ (optional_text o.optional ++ (o.flags ++
-    (o.width ++ (precision_text o.precision ++ (length_text o.size ++ y))))))
+inside o y = number_text o.number ++ (star_text o.star ++ (optional_text o.optional ++ (column_text o.column ++ (strict_text o.strict ++
+    (o.flags ++ (o.width ++ (precision_text o.precision ++ (length_text o.size ++ y))))))))
 
 -- its parts have these bytes
 pub record HasParts (o : Opening) : Type 0 where
@@ -148,9 +159,18 @@ pub record HasParts (o : Opening) : Type 0 where
   pub width : AllPass is_decimal o.width
   pub precision : IfSome o.precision (AllPass is_decimal)
 
-parts_inside : (star optional : Bool) (flags width : List ℕ) → AllPass is_flag flags → AllPass is_decimal width
-    → AllPass is_inside (star_text star ++ (optional_text optional ++ (flags ++ width)))
-parts_inside star optional flags width h k = by_star star (by_mark optional)
+-- a mark before such bytes is one of them
+mark_inside : (text : Bool → List ℕ) (mark : ℕ) (v : Bool) (x : List ℕ) → text true ≡ mark ∷ [] → text false ≡ []
+    → is_inside mark ≡ true → AllPass is_inside x → AllPass is_inside (text v ++ x)
+mark_inside text mark true x there none inside h = rw there (inside, h)
+mark_inside text mark false x there none inside h = rw none h
+
+parts_inside : (star optional column strict : Bool) (flags width : List ℕ) → AllPass is_flag flags → AllPass is_decimal width
+    → AllPass is_inside (star_text star ++ (optional_text optional ++ (column_text column ++ (strict_text strict ++ (flags ++ width)))))
+parts_inside star optional column strict flags width h k =
+    mark_inside star_text 42 star _ refl refl refl
+    (mark_inside optional_text 63 optional _ refl refl refl
+    (mark_inside column_text 61 column _ refl refl refl (mark_inside strict_text 33 strict _ refl refl refl inside)))
   where
     inside : AllPass is_inside (flags ++ width)
     inside =
@@ -158,42 +178,43 @@ parts_inside star optional flags width h k = by_star star (by_mark optional)
         (λ b e. grind arith) flags h)
         (all_map (λ b. is_decimal b ≡ true) (λ b. is_inside b ≡ true) (λ b e. rw e) width k)
 
-    by_mark : (v : Bool) → AllPass is_inside (optional_text v ++ (flags ++ width))
-    by_mark true = (refl, inside)
-    by_mark false = inside
-
-    by_star : (v : Bool) → AllPass is_inside (optional_text optional ++ (flags ++ width))
-        → AllPass is_inside (star_text v ++ (optional_text optional ++ (flags ++ width)))
-    by_star true rest = (refl, rest)
-    by_star false rest = rest
-
--- neither a * nor a ? begins a width or what follows it
+-- neither a *, a ?, a = nor a ! begins a width or what follows it
 no_mark : (mark : ℕ) → is_decimal mark ≡ false → is_head mark ≡ true → (width z : List ℕ) → AllPass is_decimal width → Stops is_head z
     → Stops (λ b. nat_eq b mark) (width ++ z)
 no_mark mark other head [] z digits stops = stops_less (λ b. nat_eq b mark) is_head (λ b e. grind (arith, nat_tests, head)) z stops
 no_mark mark other head (d ∷ ds) z digits stops = grind (arith, nat_tests)
 
-no_star : (optional : Bool) (width z : List ℕ) → AllPass is_decimal width → Stops is_head z
-    → Stops (λ b. nat_eq b 42) (optional_text optional ++ (width ++ z))
-no_star true width z digits stops = refl
-no_star false width z digits stops = no_mark 42 refl refl width z digits stops
+-- no = begins what follows one
+no_column : (strict : Bool) (width z : List ℕ) → AllPass is_decimal width → Stops is_head z
+    → Stops (λ b. nat_eq b 61) (strict_text strict ++ (width ++ z))
+no_column true width z digits stops = refl
+no_column false width z digits stops = no_mark 61 refl refl width z digits stops
 
-star_of : (star optional : Bool) (width z : List ℕ) → AllPass is_decimal width → Stops is_head z
-    → mark_at 42 (star_text star ++ (optional_text optional ++ (width ++ z))) ≡ (star, optional_text optional ++ (width ++ z))
-star_of true optional width z digits stops = refl
-star_of false optional width z digits stops = mark_none 42 (optional_text optional ++ (width ++ z)) (no_star optional width z digits stops)
+-- no ? begins what follows one
+no_optional : (column strict : Bool) (width z : List ℕ) → AllPass is_decimal width → Stops is_head z
+    → Stops (λ b. nat_eq b 63) (column_text column ++ (strict_text strict ++ (width ++ z)))
+no_optional true strict width z digits stops = refl
+no_optional false true width z digits stops = refl
+no_optional false false width z digits stops = no_mark 63 refl refl width z digits stops
 
--- the ? of a profile that has it
-optional_of : (profile : Profile) (optional : Bool) (width z : List ℕ) → (optional ≡ true → has_doubles profile ≡ true)
-    → AllPass is_decimal width → Stops is_head z → optional_at profile (optional_text optional ++ (width ++ z)) ≡ (optional, width ++ z)
-optional_of profile optional width z has digits stops = by_profile (has_doubles profile) optional refl has
+-- no * begins what follows one
+no_star : (optional column strict : Bool) (width z : List ℕ) → AllPass is_decimal width → Stops is_head z
+    → Stops (λ b. nat_eq b 42) (optional_text optional ++ (column_text column ++ (strict_text strict ++ (width ++ z))))
+no_star true column strict width z digits stops = refl
+no_star false true strict width z digits stops = refl
+no_star false false true width z digits stops = refl
+no_star false false false width z digits stops = no_mark 42 refl refl width z digits stops
+
+-- the mark of a profile that has it
+mark_of : (profile : Profile) (text : Bool → List ℕ) (mark : ℕ) (v : Bool) (x : List ℕ) → text true ≡ mark ∷ [] → text false ≡ []
+    → (v ≡ true → has_doubles profile ≡ true) → Stops (λ b. nat_eq b mark) x → mark_of_three profile mark (text v ++ x) ≡ (v, x)
+mark_of profile text mark v x there none has stops = by_profile (has_doubles profile) v refl has
   where
-    by_profile : (v w : Bool) → has_doubles profile ≡ v → (w ≡ true → v ≡ true)
-        → optional_at profile (optional_text w ++ (width ++ z)) ≡ (w, width ++ z)
-    by_profile true true e h = rw e refl
-    by_profile true false e h = rw e (mark_none 63 (width ++ z) (no_mark 63 refl refl width z digits stops))
+    by_profile : (has w : Bool) → has_doubles profile ≡ has → (w ≡ true → has ≡ true)
+        → mark_of_three profile mark (text w ++ x) ≡ (w, x)
+    by_profile true w e h = rw e (mark_is text mark w x there none stops)
     by_profile false true e h = absurd (let f = h refl in cc)
-    by_profile false false e h = rw e refl
+    by_profile false false e h = rw (e, none) refl
 
 width_stops : (width z : List ℕ) → AllPass is_decimal width → StartsAboveZero width → Stops is_head z → Stops is_flag (width ++ z)
 width_stops [] z digits first stops = stops_less is_flag is_head (λ b e. grind arith) z stops
@@ -214,8 +235,8 @@ cut_behind : (language : Language) (o : Opening) (letter : ℕ) (x : List ℕ) �
     → number_at (inside o (letter ∷ x))
     ≡ (
       o.number,
-      star_text o.star ++ (optional_text o.optional ++ (o.flags ++ (o.width ++ (precision_text o.precision
-          ++ (length_text o.size ++ letter ∷ x))))),
+      star_text o.star ++ (optional_text o.optional ++ (column_text o.column ++ (strict_text o.strict ++ (o.flags ++ (o.width
+          ++ (precision_text o.precision ++ (length_text o.size ++ letter ∷ x))))))),
     )
     → cut language (inside o (letter ∷ x)) ≡ record { opening = o; rest = letter ∷ x }
 cut_behind (Scan profile) o letter x parts is last number =
@@ -226,8 +247,10 @@ cut_behind (Scan profile) o letter x parts is last number =
       number,
       is.0,
       is.1,
-      star_of o.star o.optional o.width z parts.width head,
-      optional_of profile o.optional o.width z is.2 parts.width head,
+      mark_is star_text 42 o.star _ refl refl (no_star o.optional o.column o.strict o.width z parts.width head),
+      mark_of profile optional_text 63 o.optional _ refl refl is.2 (no_optional o.column o.strict o.width z parts.width head),
+      mark_of profile column_text 61 o.column _ refl refl is.3 (no_column o.strict o.width z parts.width head),
+      mark_of profile strict_text 33 o.strict (o.width ++ z) refl refl is.4 (no_mark 33 refl refl o.width z parts.width head),
       front_of is_decimal o.width z parts.width stops,
       behind_of is_decimal o.width z parts.width stops,
       length_of o.size letter x last,
@@ -238,12 +261,14 @@ cut_behind (Print profile) o letter x parts is last number =
     let z = precision_text o.precision ++ sized in
     let part = sized_stops o.size letter x last in
     let head = precision_stops o.precision sized part in
-    let wide = width_stops o.width z parts.width is.2 head in
+    let wide = width_stops o.width z parts.width is.4 head in
     let stops = digit_stops z head in
     rw (
       number,
       is.0,
       is.1,
+      is.2,
+      is.3,
       front_of is_flag o.flags (o.width ++ z) parts.flags wide,
       behind_of is_flag o.flags (o.width ++ z) parts.flags wide,
       front_of is_decimal o.width z parts.width stops,
@@ -261,9 +286,10 @@ cut_of language o letter x parts is last =
     let sized = length_text o.size ++ letter ∷ x in
     let z = precision_text o.precision ++ sized in
     let head = precision_stops o.precision sized (sized_stops o.size letter x last) in
-    let u = star_text o.star ++ (optional_text o.optional ++ (o.flags ++ o.width)) in
-    let inner = parts_inside o.star o.optional o.flags o.width parts.flags parts.width in
-    let whole : star_text o.star ++ (optional_text o.optional ++ (o.flags ++ (o.width ++ z))) ≡ u ++ z = simp append_assoc in (
+    let u = star_text o.star ++ (optional_text o.optional ++ (column_text o.column ++ (strict_text o.strict ++ (o.flags ++ o.width)))) in
+    let inner = parts_inside o.star o.optional o.column o.strict o.flags o.width parts.flags parts.width in
+    let whole : star_text o.star ++ (optional_text o.optional ++ (column_text o.column ++ (strict_text o.strict ++ (o.flags
+    ++ (o.width ++ z))))) ≡ u ++ z = simp append_assoc in (
       rw whole (percent_none o.number u z parts.number inner head),
       cut_behind language o letter x parts is last (rw whole (number_of o.number u z parts.number inner head)),
     )
@@ -279,16 +305,17 @@ precision_joined : (point : Bool) (x : List ℕ)
 precision_joined true x = rw (front_behind is_decimal x)
 precision_joined false x = refl
 
-optional_joined : (profile : Profile) (x : List ℕ) → optional_text (optional_at profile x).0 ++ (optional_at profile x).1 ≡ x
-optional_joined profile x = by_profile (has_doubles profile) refl
+three_joined : (profile : Profile) (text : Bool → List ℕ) (mark : ℕ) (x : List ℕ) → text true ≡ mark ∷ [] → text false ≡ []
+    → text (mark_of_three profile mark x).0 ++ (mark_of_three profile mark x).1 ≡ x
+three_joined profile text mark x there none = by_profile (has_doubles profile) refl
   where
-    by_profile : (v : Bool) → has_doubles profile ≡ v → optional_text (optional_at profile x).0 ++ (optional_at profile x).1 ≡ x
-    by_profile true e = rw e (mark_joined optional_text 63 x refl refl)
-    by_profile false e = rw e refl
+    by_profile : (v : Bool) → has_doubles profile ≡ v → text (mark_of_three profile mark x).0 ++ (mark_of_three profile mark x).1 ≡ x
+    by_profile true e = rw e (mark_joined text mark x there none)
+    by_profile false e = rw (e, none) refl
 
--- where a ? is cut off, the profile has it
-optional_had : (profile : Profile) (x : List ℕ) → (optional_at profile x).0 ≡ true → has_doubles profile ≡ true
-optional_had profile x found = by_profile (has_doubles profile) refl
+-- where such a mark is cut off, the profile has it
+three_had : (profile : Profile) (mark : ℕ) (x : List ℕ) → (mark_of_three profile mark x).0 ≡ true → has_doubles profile ≡ true
+three_had profile mark x found = by_profile (has_doubles profile) refl
   where
     by_profile : (v : Bool) → has_doubles profile ≡ v → v ≡ true
     by_profile true e = refl
@@ -298,11 +325,15 @@ pub cut_joined : (language : Language) (x : List ℕ) → inside (cut language x
 cut_joined (Scan profile) x =
     let number = number_at x in
     let star = mark_at 42 number.1 in
-    let mark = optional_at profile star.1 in
+    let optional = mark_of_three profile 63 star.1 in
+    let column = mark_of_three profile 61 optional.1 in
+    let strict = mark_of_three profile 33 column.1 in
     rw (
-      length_whole (behind is_decimal mark.1),
-      front_behind is_decimal mark.1,
-      optional_joined profile star.1,
+      length_whole (behind is_decimal strict.1),
+      front_behind is_decimal strict.1,
+      three_joined profile strict_text 33 column.1 refl refl,
+      three_joined profile column_text 61 optional.1 refl refl,
+      three_joined profile optional_text 63 star.1 refl refl,
       mark_joined star_text 42 number.1 refl refl,
     )
     (number_whole x)
@@ -330,12 +361,14 @@ above_zero [] stops = tt
 above_zero (b ∷ x) stops = grind (arith, nat_tests)
 
 pub cut_parts : (language : Language) (x : List ℕ) → HasParts (cut language x).opening
-cut_parts (Scan profile) x = record {
-  number = number_passing x;
-  flags = tt;
-  width = front_passes is_decimal (optional_at profile (mark_at 42 (number_at x).1).1).1;
-  precision = tt;
-}
+cut_parts (Scan profile) x =
+    let optional = mark_of_three profile 63 (mark_at 42 (number_at x).1).1 in
+    let column = mark_of_three profile 61 optional.1 in record {
+      number = number_passing x;
+      flags = tt;
+      width = front_passes is_decimal (mark_of_three profile 33 column.1).1;
+      precision = tt;
+    }
 cut_parts (Print profile) x =
     let number = number_at x in
     let wide = behind is_flag number.1 in
@@ -347,8 +380,13 @@ cut_parts (Print profile) x =
     }
 
 pub cut_in : (language : Language) (x : List ℕ) → IsIn language (cut language x).opening
-cut_in (Scan profile) x = (refl, refl, optional_had profile (mark_at 42 (number_at x).1).1)
-cut_in (Print profile) x = let number = number_at x in (refl, refl, above_zero (behind is_flag number.1) (behind_stops is_flag number.1))
+cut_in (Scan profile) x =
+    let star = mark_at 42 (number_at x).1 in
+    let optional = mark_of_three profile 63 star.1 in
+    let column = mark_of_three profile 61 optional.1 in
+    (refl, refl, three_had profile 63 star.1, three_had profile 61 optional.1, three_had profile 33 column.1)
+cut_in (Print profile) x =
+    let number = number_at x in (refl, refl, refl, refl, above_zero (behind is_flag number.1) (behind_stops is_flag number.1))
 
 pub opening_regroup : (o : Opening) (y : List ℕ) → opening_text o ++ y ≡ 37 ∷ inside o y
 opening_regroup o y = simp append_assoc
@@ -375,9 +413,14 @@ parts_shorter language x =
     omega (
       arith,
       ap length (cut_joined language x),
-      length-append (number_text o.number) (star_text o.star ++ (optional_text o.optional ++ (o.flags ++ (o.width ++ sized)))),
-      length-append (star_text o.star) (optional_text o.optional ++ (o.flags ++ (o.width ++ sized))),
-      length-append (optional_text o.optional) (o.flags ++ (o.width ++ sized)),
+      length-append (number_text o.number)
+          (star_text o.star ++ (optional_text o.optional ++ (column_text o.column ++ (strict_text o.strict ++ (o.flags ++ (o.width
+          ++ sized)))))),
+      length-append (star_text o.star)
+          (optional_text o.optional ++ (column_text o.column ++ (strict_text o.strict ++ (o.flags ++ (o.width ++ sized))))),
+      length-append (optional_text o.optional) (column_text o.column ++ (strict_text o.strict ++ (o.flags ++ (o.width ++ sized)))),
+      length-append (column_text o.column) (strict_text o.strict ++ (o.flags ++ (o.width ++ sized))),
+      length-append (strict_text o.strict) (o.flags ++ (o.width ++ sized)),
       length-append o.flags (o.width ++ sized),
       length-append o.width sized,
       number_text_longer o.number,

@@ -23,3 +23,5 @@ pub mod SpanTexts
 pub mod Rows
 pub mod RowsOfThree
 pub mod Layouts
+pub mod Strict
+pub mod Marks

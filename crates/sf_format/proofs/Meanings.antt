@@ -21,6 +21,7 @@ use Rattle.sf_format.specs.declared.directive.Directive.{Directive}
 use Rattle.sf_format.specs.declared.directive.Directive.TheVariants as directive
 use Rattle.sf_format.specs.declared.letter.Letter.{Letter}
 use Rattle.sf_format.specs.declared.letter.Letter.TheVariants.{Signed, Unsigned, Chars, Text, Set, Count, Float}
+use Rattle.sf_format.specs.Leads.{lead_of_signed, lead_of_others}
 use Rattle.sf_format.specs.Letters.{letter_of, kind_of}
 use Rattle.sf_format.specs.Scanlist.{Scanlist, is_member, IsSetOf}
 use Rattle.sf_format.specs.Proper.{destination_of}
@@ -101,16 +102,16 @@ set_same list a b h k =
 
 -- ---- conversions
 
-abbrev made : Shape → Kind → Option ℕ → Option ℕ → Bool → Conversion
-made s k w n m = record { shape = s; kind = k; width = w; slot = n; optional = m }
+abbrev made : Shape → Kind → Option ℕ → Option ℕ → Bool → Bool → Conversion
+made s k w n m t = record { shape = s; kind = k; width = w; slot = n; optional = m; column = t }
 
 conversion_same : (place : ℕ) (o : Opening) (letter : Letter) (c d : Conversion) → IsConversion place o letter c
     → IsConversion place o letter d
     → c.shape ≡ d.shape → c ≡ d
 conversion_same place o letter c d h k same =
     let kinds : c.kind ≡ d.kind = let e = sym h.kind ∙ k.kind in cc in
-    let all : made c.shape c.kind c.width c.slot c.optional ≡ made d.shape d.kind d.width d.slot d.optional =
-    rw (same, kinds, h.width, k.width, h.slot, k.slot, h.optional, k.optional) in
+    let all : made c.shape c.kind c.width c.slot c.optional c.column ≡ made d.shape d.kind d.width d.slot d.optional d.column =
+    rw (same, kinds, h.width, k.width, h.slot, k.slot, h.optional, k.optional, h.column, k.column) in
     all
 
 means_one : (profile : Profile) (place : ℕ) (piece : Piece) (d e : Directive) → Means profile place piece d → Means profile place piece e
@@ -126,14 +127,15 @@ means_one profile place _ d e h k = h ∙ sym k
 
 -- ---- each part means a directive
 
-some_shape : (profile : Profile) (b : ℕ) (letter : Letter) → b ≢ 91 → letter_of profile b ≡ Some letter → (s : Shape) × shape_of letter s
-some_shape profile b (Signed base) other e = (shape.Int base, refl)
-some_shape profile b (Unsigned base) other e = (shape.Int base, refl)
-some_shape profile b Chars other e = (shape.Chars, refl)
-some_shape profile b Text other e = (shape.Text, refl)
-some_shape profile b Count other e = (shape.Count, refl)
-some_shape profile b Float other e = (shape.Float, refl)
-some_shape profile b Set other e = absurd (other (same_byte b 91 (sym (bracket_is profile b Set e))))
+some_shape : (profile : Profile) (b : ℕ) (letter : Letter) (strict : Bool) → b ≢ 91 → letter_of profile b ≡ Some letter
+    → (s : Shape) × shape_of letter strict s
+some_shape profile b (Signed base) strict other e = (shape.Int (record { base = base; lead = lead_of_signed strict }), refl)
+some_shape profile b (Unsigned base) strict other e = (shape.Int (record { base = base; lead = lead_of_others strict }), refl)
+some_shape profile b Chars strict other e = (shape.Chars, refl)
+some_shape profile b Text strict other e = (shape.Text (lead_of_others strict), refl)
+some_shape profile b Count strict other e = (shape.Count, refl)
+some_shape profile b Float strict other e = (shape.Float (lead_of_signed strict), refl)
+some_shape profile b Set strict other e = absurd (other (same_byte b 91 (sym (bracket_is profile b Set e))))
 
 some_meaning : (profile : Profile) (place : ℕ) (piece : Piece) → IsScanPiece profile piece → (d : Directive) × Means profile place piece d
 some_meaning profile place (WhiteSpace bs) is = (directive.Space, refl)
@@ -141,14 +143,15 @@ some_meaning profile place (Ordinary b) is = (directive.Byte b, refl)
 some_meaning profile place Percents is = (directive.Percent, refl)
 some_meaning profile place (Plain o b) is =
     let letter = is.1.0 in
-    let s = some_shape profile b letter is.0 is.1.1 in
+    let s = some_shape profile b letter o.strict is.0 is.1.1 in
     let k = some_of (kind_of letter o.size) is.1.2.size in
-    let c = made s.0 k.0 (width_of letter o.width) (slot_of place o) o.optional in
-    (directive.Conv c, (letter, c, is.1.1, record { kind = k.1; width = refl; slot = refl; optional = refl }, s.1, refl))
+    let c = made s.0 k.0 (width_of letter o.width) (slot_of place o) o.optional o.column in
+    (directive.Conv c, (letter, c, is.1.1, record { kind = k.1; width = refl; slot = refl; optional = refl; column = refl }, s.1, refl))
 some_meaning profile place (Bracket o list) is =
     let k = some_of (kind_of Set o.size) is.0.size in
-    let c = made (shape.Set (set_of list)) k.0 (width_of Set o.width) (slot_of place o) o.optional in
-    (directive.Conv c, (c, set_of list, record { kind = k.1; width = refl; slot = refl; optional = refl }, set_is list, refl, refl))
+    let c = made (shape.Set (set_of list)) k.0 (width_of Set o.width) (slot_of place o) o.optional o.column in
+    let same : IsConversion place o Set c = record { kind = k.1; width = refl; slot = refl; optional = refl; column = refl } in
+    (directive.Conv c, (c, set_of list, same, set_is list, refl, refl))
 
 pub scan_meaning : (profile : Profile) → IsMeaning Directive (Scan profile) (Means profile)
 scan_meaning profile = record { one = means_one profile; some = some_meaning profile }

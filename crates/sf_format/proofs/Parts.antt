@@ -233,14 +233,16 @@ part_of (Scan profile) earlier p (Plain o b) rest is stops alike =
     let (letter, found, suits) = is.1 in
     let other = byte_differs b 91 is.0 in
     let all = specification_is (Scan profile) earlier p o b rest (suits_parts profile letter o suits)
-    (suits.flags, suits.precision, suits.optional) (letter_is profile b letter found).last (opening_quiet profile letter o p suits)
+    (suits.flags, suits.precision, suits.optional, suits.column, suits.strict) (letter_is profile b letter found).last
+    (opening_quiet profile letter o p suits)
     (λ q. quiet_join (letter_rules profile o b q) (scanlist_rules b q rest) (letter_quiet profile letter o b q found suits) (rw other tt))
     alike in
     subst (IsPartOf (Scan profile) earlier p (Plain o b) rest) (sym (plain_text o b rest)) (all.0, all.1 ∙ rw other)
 part_of (Scan profile) earlier p (Bracket o list) rest is stops alike =
     let y = scanlist_text list ++ rest in
     let all = specification_is (Scan profile) earlier p o 91 y (suits_parts profile Set o is.0)
-    (is.0.flags, is.0.precision, is.0.optional) (letter_is profile 91 Set refl).last (opening_quiet profile Set o p is.0)
+    (is.0.flags, is.0.precision, is.0.optional, is.0.column, is.0.strict) (letter_is profile 91 Set refl).last
+    (opening_quiet profile Set o p is.0)
     (λ q. quiet_join (letter_rules profile o 91 q) (scanlist_rules 91 q y) (letter_quiet profile Set o 91 q refl is.0)
     (rw (marked list rest is.1) (quiet_list q _ list rest is.1))) alike in
     subst (IsPartOf (Scan profile) earlier p (Bracket o list) rest) (sym (bracket_text o list rest))
@@ -252,7 +254,7 @@ part_of (Print profile) earlier p Percents rest is stops alike = ((refl, tt), re
 part_of (Print profile) earlier p (Plain o b) rest (letter, found, suits) stops alike =
     let known = print_letter_is profile b letter found in
     let all = specification_is (Print profile) earlier p o b rest (suits_print_parts letter o suits)
-    (suits.star, suits.optional, suits.first) known.last (print_opening_quiet profile letter o p suits)
+    (suits.star, suits.optional, suits.column, suits.strict, suits.first) known.last (print_opening_quiet profile letter o p suits)
     (λ q. quiet_join (print_letter_rules profile o b q) (flag_rules p o (print_letter_of profile b))
     (print_letter_quiet profile letter o b q found suits) (rw found (flags_quiet letter o p suits))) alike in
     subst (IsPartOf (Print profile) earlier p (Plain o b) rest) (sym (plain_text o b rest)) (all.0, all.1 ∙ rw known.plain)

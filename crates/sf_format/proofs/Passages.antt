@@ -70,7 +70,8 @@ listed_forward false q x listed e none is = absurd (cc)
 -- a conversion by a letter that is a bracket or isn't, and by the scanlist that was read after it
 made_by : (v : Bool) (profile : Profile) (place q b : ℕ) (x : List ℕ) (o : Opening) (letter : Letter) (listed : Listed) (c : Conversion)
     → is_set letter ≡ v → nat_eq b 91 ≡ v → letter_of profile b ≡ Some letter → first_of (bracket_rules v q x) ≡ None → IsListed v x listed
-    → IsConversion place o letter c → ShapeBy v letter listed c.shape → Means profile place (letter_at o (b ∷ x)).piece (directive.Conv c)
+    → IsConversion place o letter c → ShapeBy v letter o.strict listed c.shape
+    → Means profile place (letter_at o (b ∷ x)).piece (directive.Conv c)
 made_by true profile place q b x o letter listed c set same found none is conversion (members, by, shape) =
     let chosen = list_set q _ (mark_at 94 x).0 (mark_at 94 x).1 listed.members.now members is.1 none (rw is.0 at by) in
     rw same (c, members, rw (only_set letter set) at conversion, chosen, shape, refl)
@@ -86,11 +87,11 @@ pub made_means : (profile : Profile) (place q b : ℕ) (x : List ℕ) (o : Openi
     (listed : Listed)
     (d : Directive) → letter_of profile b ≡ Some letter → kind_of letter o.size ≡ Some kind
     → first_of (bracket_rules (is_set letter) q x) ≡ None
-    → IsListed (is_set letter) x listed → slot ≡ slot_of place o → IsMade letter kind o.width slot o.optional listed d
+    → IsListed (is_set letter) x listed → slot ≡ slot_of place o → IsMade letter kind o slot listed d
     → Means profile place (letter_at o (b ∷ x)).piece d
 made_means profile place q b x o letter kind slot listed (directive.Conv c) found known none is placed h =
     made_by (is_set letter) profile place q b x o letter listed c refl (sym (bracket_is profile b letter found)) found none is
-    (record { kind = known ∙ ap Some (sym h.0); width = h.1; slot = h.2 ∙ placed; optional = h.3 }) h.4
+    (record { kind = known ∙ ap Some (sym h.0); width = h.1; slot = h.2 ∙ placed; optional = h.3; column = h.4 }) h.5
 made_means profile place q b x o letter kind slot listed _ found known none is placed h = absurd h
 
 pub number_low : (ds : List ℕ) → (is_written ds && (nat_eq (magnitude 10 ds) 0 || nat_lt 32 (magnitude 10 ds))) ≡ false

@@ -1,4 +1,4 @@
--- The profiles spell the same formats, but for base 2, floats and what may be missing.
+-- The profiles spell the same formats, but for base 2, floats, what may be missing, columns, and what is strict.
 use Rattle.std.proofs.Common.{◌≡◌, ℕ, ◌+◌, Bool, true, false, refl, List, [], ◌∷◌, length, map, Some, sym, ap, ◌∙◌, subst, arith}
 use Rattle.std.proofs.lemmas.List.{map-id}
 use Rattle.std.specs.List.{AllByRecursion}
@@ -18,11 +18,12 @@ use Rattle.sf_format.specs.declared.unit.PrintLetter.TheVariants.{Binary, Float}
 use Rattle.sf_format.specs.declared.unit.Unit.{Unit as PrintUnit}
 use Rattle.sf_format.specs.declared.directive.Shape.{Shape}
 use Rattle.sf_format.specs.declared.directive.Directive.TheVariants.{Conv}
+use Rattle.sf_format.specs.Leads.{is_strict}
 use Rattle.sf_format.specs.Letters.{has_doubles, letters, letter_of}
 use Rattle.sf_format.specs.PrintLetters.{print_letters, print_letter_of}
 use Rattle.sf_format.specs.Pieces.{Opening, Piece, Ordinary, Percents, Plain, Bracket}
 use Rattle.sf_format.specs.PrintGrammar.{IsPrintPiece, Prints}
-use Rattle.sf_format.specs.Grammar.{Suits, IsScanPiece, IsPiece, IsConversion, shape_of, destinations, Means, MeanAll, SpellsAs}
+use Rattle.sf_format.specs.Grammar.{SuitsMark, Suits, IsScanPiece, IsPiece, IsConversion, shape_of, destinations, Means, MeanAll, SpellsAs}
 use Rattle.sf_format.specs.Profiles.{shape_with, directive_with, base_in_two, base_in_one, DirectiveHas, IsNotBin, IsOfOne, IsNoFloat}
 use Rattle.sf_format.specs.Profiles.{IsOfTwo, IsNotBinary, IsNotFloat, UnitHas}
 use Rattle.sf_format.specs.Laws.{TwoSpellsOne, OneSpellsTwo, OneHasOldBases, TwoPrintsOne, OnePrintsTwo, ThreeSpellsTwo, TwoSpellsThree}
@@ -64,20 +65,32 @@ LetterHas P (scan.Signed base) = P base
 LetterHas P (scan.Unsigned base) = P base
 LetterHas P _ = Unit {0}
 
--- the ? of an opening in a profile has its place in another
+-- a ?, a = or a ! of an opening in a profile has its place in another
 abbrev MayMark : Profile → Profile → Bool → Type 0
-MayMark p q optional = (optional ≡ true → has_doubles p ≡ true) → optional ≡ true → has_doubles q ≡ true
+MayMark p q mark = (mark ≡ true → has_doubles p ≡ true) → mark ≡ true → has_doubles q ≡ true
 
-suits_in : (p q : Profile) (letter : Letter) (o : Opening) → MayMark p q o.optional → Suits p letter o → Suits q letter o
+-- all of them
+abbrev MarksMay : Profile → Profile → Opening → Type 0
+MarksMay p q o = MayMark p q o.optional × MayMark p q o.column × MayMark p q o.strict
+
+-- the same of a conversion
+abbrev MarksOf : Profile → Profile → Conversion → Type 0
+MarksOf p q c = MayMark p q c.optional × MayMark p q c.column × MayMark p q (is_strict c.shape)
+
+suits_in : (p q : Profile) (letter : Letter) (o : Opening) → MarksMay p q o → Suits p letter o → Suits q letter o
 suits_in p q letter o marks s = record {
   number = s.number;
   suppressed = s.suppressed;
-  optional = marks s.optional;
+  optional = marks.0 s.optional;
+  column = marks.1 s.column;
+  strict = marks.2 s.strict;
   flags = s.flags;
   width = s.width;
   precision = s.precision;
   size = s.size;
   count = s.count;
+  placed = s.placed;
+  mark = s.mark;
 }
 
 suits_with : (p : Profile) (other : Base → Base) (letter : Letter) (o : Opening) → Suits p letter o → Suits p (letter_with other letter) o
@@ -90,19 +103,26 @@ conversion_with other c = record c { shape = shape_with other c.shape }
 
 is_with : (other : Base → Base) (place : ℕ) (o : Opening) (letter : Letter) (c : Conversion) → IsConversion place o letter c
     → IsConversion place o (letter_with other letter) (conversion_with other c)
-is_with other place o (scan.Signed base) c h = record { kind = h.kind; width = h.width; slot = h.slot; optional = h.optional }
-is_with other place o _ c h = record { kind = h.kind; width = h.width; slot = h.slot; optional = h.optional }
+is_with other place o (scan.Signed base) c h = record {
+  kind = h.kind;
+  width = h.width;
+  slot = h.slot;
+  optional = h.optional;
+  column = h.column;
+}
+is_with other place o _ c h = record { kind = h.kind; width = h.width; slot = h.slot; optional = h.optional; column = h.column }
 
 -- a part in another profile, which has such letters too
-scan_part : (p q : Profile) (other : Base → Base) (P : Base → Type 0) → ((optional : Bool) → MayMark p q optional)
+scan_part : (p q : Profile) (other : Base → Base) (P : Base → Type 0) → ((mark : Bool) → MayMark p q mark)
     → ((b : ℕ) (letter : Letter) → letter_of p b ≡ Some letter → LetterHas P letter → letter_of q b ≡ Some (letter_with other letter))
     → (place : ℕ) (piece : Piece) (d : Directive) → IsScanPiece p piece → Means p place piece d → DirectiveHas P d
     → IsScanPiece q piece × Means q place piece (directive_with other d)
 scan_part p q other P marks in_other place (Plain o b) d (plain, (l, known, suits)) (letter, c, e, is, takes, told) has =
     let same : l ≡ letter = let both = sym known ∙ e in cc in
     let base = rw told at has in
-    let there = in_other b letter e (grind (arith, takes, base)) in (
-      (plain, (letter_with other letter, there, suits_with q other letter o (suits_in p q letter o (marks o.optional) (rw same at suits)))),
+    let there = in_other b letter e (grind (arith, takes, base)) in
+    let suit = suits_in p q letter o (marks o.optional, marks o.column, marks o.strict) (rw same at suits) in (
+      (plain, (letter_with other letter, there, suits_with q other letter o suit)),
       (
         letter_with other letter,
         conversion_with other c,
@@ -113,7 +133,7 @@ scan_part p q other P marks in_other place (Plain o b) d (plain, (l, known, suit
       ),
     )
 scan_part p q other P marks in_other place (Bracket o list) d piece (c, members, is, set, takes, told) has = (
-  (suits_in p q scan.Set o (marks o.optional) piece.0, piece.1),
+  (suits_in p q scan.Set o (marks o.optional, marks o.column, marks o.strict) piece.0, piece.1),
   (
     conversion_with other c,
     members,
@@ -140,8 +160,8 @@ two_spells_one text ds h =
     spells_through (Scan One) (Scan Two) (Means One) (Means Two) (directive_with base_in_two) (DirectiveHas IsOfOne)
     (scan_part One Two base_in_two IsOfOne marks in_two) text ds h (one_has_old_bases text ds h)
   where
-    marks : (optional : Bool) → MayMark One Two optional
-    marks optional h e = h e
+    marks : (mark : Bool) → MayMark One Two mark
+    marks mark h e = h e
 
     in_two : (b : ℕ) (letter : Letter) → letter_of One b ≡ Some letter → LetterHas IsOfOne letter
         → letter_of Two b ≡ Some (letter_with base_in_two letter)
@@ -153,8 +173,8 @@ one_spells_two =
     spells_through (Scan Two) (Scan One) (Means Two) (Means One) (directive_with base_in_one) (DirectiveHas IsNotBin)
     (scan_part Two One base_in_one IsNotBin marks in_one)
   where
-    marks : (optional : Bool) → MayMark Two One optional
-    marks optional h e = h e
+    marks : (mark : Bool) → MayMark Two One mark
+    marks mark h e = h e
 
     no_bin : IsNotBin Bin → letter_of One 98 ≡ Some (letter_with base_in_one (scan.Unsigned Bin))
     no_bin h = absurd h
@@ -167,28 +187,43 @@ one_spells_two =
 
 -- ---- what is of profile 3 alone
 
--- a part in another profile, which has its letter and its ?
+-- the shape of a letter is strict where its opening has the !
+strict_shape : (letter : Letter) (o : Opening) (s : Shape) → SuitsMark letter o → shape_of letter o.strict s → is_strict s ≡ o.strict
+strict_shape letter o s suits takes = grind (arith, suits, takes)
+
+-- a part in another profile, which has its letter, its ?, its = and its !
 part_in : (p q : Profile) (P : Directive → Type 0)
-    → ((b : ℕ) (letter : Letter) (c : Conversion) → letter_of p b ≡ Some letter → shape_of letter c.shape → P (Conv c)
-    → letter_of q b ≡ Some letter)
-    → ((c : Conversion) → P (Conv c) → MayMark p q c.optional)
+    → ((b : ℕ) (letter : Letter) (c : Conversion) (strict : Bool) → letter_of p b ≡ Some letter → shape_of letter strict c.shape
+    → P (Conv c) → letter_of q b ≡ Some letter)
+    → ((c : Conversion) → P (Conv c) → MarksOf p q c)
     → (place : ℕ) (piece : Piece) (d : Directive) → IsScanPiece p piece → Means p place piece d → P d
     → IsScanPiece q piece × Means q place piece d
 part_in p q P in_other marks place (Plain o b) d (plain, (l, known, suits)) (letter, c, e, is, takes, told) has =
     let same : l ≡ letter = let both = sym known ∙ e in cc in
     let of_c = rw told at has in
-    let there = in_other b letter c e takes of_c in
-    let mark = subst (MayMark p q) is.optional (marks c of_c) in
-    ((plain, (letter, there, suits_in p q letter o mark (rw same at suits))), (letter, c, there, is, takes, told))
+    let there = in_other b letter c o.strict e takes of_c in
+    let suit = rw same at suits in
+    let mark : MarksMay p q o = (
+      subst (MayMark p q) is.optional (marks c of_c).0,
+      subst (MayMark p q) is.column (marks c of_c).1,
+      subst (MayMark p q) (strict_shape letter o c.shape suit.mark takes) (marks c of_c).2,
+    ) in
+    ((plain, (letter, there, suits_in p q letter o mark suit)), (letter, c, there, is, takes, told))
 part_in p q P in_other marks place (Bracket o list) d (suits, is_list) (c, members, is, set, takes, told) has =
-    let mark = subst (MayMark p q) is.optional (marks c (rw told at has)) in
+    let of_c = rw told at has in
+    let strict : is_strict c.shape ≡ o.strict = rw (takes, suits.mark) refl in
+    let mark : MarksMay p q o = (
+      subst (MayMark p q) is.optional (marks c of_c).0,
+      subst (MayMark p q) is.column (marks c of_c).1,
+      subst (MayMark p q) strict (marks c of_c).2,
+    ) in
     ((suits_in p q scan.Set o mark suits, is_list), (c, members, is, set, takes, told))
 part_in p q P in_other marks place _ d is h has = (is, h)
 
 spells_in : (p q : Profile) (P : Directive → Type 0)
-    → ((b : ℕ) (letter : Letter) (c : Conversion) → letter_of p b ≡ Some letter → shape_of letter c.shape → P (Conv c)
-    → letter_of q b ≡ Some letter)
-    → ((c : Conversion) → P (Conv c) → MayMark p q c.optional)
+    → ((b : ℕ) (letter : Letter) (c : Conversion) (strict : Bool) → letter_of p b ≡ Some letter → shape_of letter strict c.shape
+    → P (Conv c) → letter_of q b ≡ Some letter)
+    → ((c : Conversion) → P (Conv c) → MarksOf p q c)
     → (text : List ℕ) (ds : List Directive) → SpellsAs (Scan p) (Means p) text ds → AllByRecursion P ds
     → SpellsAs (Scan q) (Means q) text ds
 spells_in p q P in_other marks text ds h has =
@@ -198,54 +233,65 @@ abbrev IsNoFloatLetter : Letter → Type 0
 IsNoFloatLetter scan.Float = ⊥
 IsNoFloatLetter l = Unit {0}
 
-no_float_shape : (letter : Letter) (s : Shape) → shape_of letter s → IsNoFloatLetter letter → IsNoFloat s
-no_float_shape (scan.Signed base) s h is = rw h tt
-no_float_shape (scan.Unsigned base) s h is = rw h tt
-no_float_shape scan.Chars s h is = rw h tt
-no_float_shape scan.Text s h is = rw h tt
-no_float_shape scan.Count s h is = rw h tt
-no_float_shape scan.Float s h is = absurd is
-no_float_shape scan.Set s h is = absurd h
+no_float_shape : (letter : Letter) (strict : Bool) (s : Shape) → shape_of letter strict s → IsNoFloatLetter letter → IsNoFloat s
+no_float_shape (scan.Signed base) strict s h is = rw h tt
+no_float_shape (scan.Unsigned base) strict s h is = rw h tt
+no_float_shape scan.Chars strict s h is = rw h tt
+no_float_shape scan.Text strict s h is = rw h tt
+no_float_shape scan.Count strict s h is = rw h tt
+no_float_shape scan.Float strict s h is = absurd is
+no_float_shape scan.Set strict s h is = absurd h
 
-no_float_letter : (letter : Letter) (s : Shape) → shape_of letter s → IsNoFloat s → IsNoFloatLetter letter
-no_float_letter scan.Float s h is = rw h at is
-no_float_letter _ s h is = tt
+no_float_letter : (letter : Letter) (strict : Bool) (s : Shape) → shape_of letter strict s → IsNoFloat s → IsNoFloatLetter letter
+no_float_letter scan.Float strict s h is = rw h at is
+no_float_letter _ strict s h is = tt
 
--- no ? without the profile that has it
-unmarked : (optional : Bool) → (optional ≡ true → has_doubles Two ≡ true) → optional ≡ false
+-- no ?, no = and no ! without the profile that has them
+unmarked : (mark : Bool) → (mark ≡ true → has_doubles Two ≡ true) → mark ≡ false
 unmarked true h = sym (h refl)
 unmarked false h = refl
 
 means_of_two : (place : ℕ) (piece : Piece) (d : Directive) → IsScanPiece Two piece → Means Two place piece d → IsOfTwo d
 means_of_two place (Plain o b) d (plain, (l, known, suits)) (letter, c, e, is, takes, told) =
+    let same : l ≡ letter = let both = sym known ∙ e in cc in
     let no_float = found (λ b l. IsNoFloatLetter l) (letters Two) (assumption) b letter e in
-    rw told (no_float_shape letter c.shape takes no_float, is.optional ∙ unmarked o.optional suits.optional)
+    let strict = strict_shape letter o c.shape (rw same at suits.mark) takes in
+    rw told (
+      no_float_shape letter o.strict c.shape takes no_float,
+      is.optional ∙ unmarked o.optional suits.optional,
+      is.column ∙ unmarked o.column suits.column,
+      strict ∙ unmarked o.strict suits.strict,
+    )
 means_of_two place (Bracket o list) d (suits, is_list) (c, members, is, set, takes, told) =
-    rw (told, takes) (tt, is.optional ∙ unmarked o.optional suits.optional)
+    rw (told, takes) (tt, is.optional ∙ unmarked o.optional suits.optional, is.column ∙ unmarked o.column suits.column, refl)
 means_of_two place _ d piece h = rw h tt
 
 pub three_spells_two : ThreeSpellsTwo
 three_spells_two text ds h =
     let (pieces, is, e, mean) = h in
     let old = mean_each IsOfTwo means_of_two 1 pieces ds is.each mean in
-    (spells_in Two Three IsOfTwo in_three (λ c has h f. refl) text ds h old, old)
+    (spells_in Two Three IsOfTwo in_three (λ c has. (λ h f. refl, λ h f. refl, λ h f. refl)) text ds h old, old)
   where
-    in_three : (b : ℕ) (letter : Letter) (c : Conversion) → letter_of Two b ≡ Some letter → shape_of letter c.shape → IsOfTwo (Conv c)
-        → letter_of Three b ≡ Some letter
-    in_three b letter c e takes has = found (λ b l. letter_of Three b ≡ Some l) (letters Two) (assumption) b letter e
+    in_three : (b : ℕ) (letter : Letter) (c : Conversion) (strict : Bool) → letter_of Two b ≡ Some letter
+        → shape_of letter strict c.shape → IsOfTwo (Conv c) → letter_of Three b ≡ Some letter
+    in_three b letter c strict e takes has = found (λ b l. letter_of Three b ≡ Some l) (letters Two) (assumption) b letter e
 
 pub two_spells_three : TwoSpellsThree
-two_spells_three = spells_in Three Two IsOfTwo in_two (λ c has h f. let g = sym has.1 ∙ f in cc)
+two_spells_three =
+    spells_in Three Two IsOfTwo in_two (λ c has. (none c.optional has.1, none c.column has.2, none (is_strict c.shape) has.3))
   where
+    none : (mark : Bool) → mark ≡ false → MayMark Three Two mark
+    none mark e h f = let g = sym e ∙ f in cc
+
     no_float : (b : ℕ) → IsNoFloatLetter scan.Float → letter_of Two b ≡ Some scan.Float
     no_float b h = absurd h
 
-    in_two : (b : ℕ) (letter : Letter) (c : Conversion) → letter_of Three b ≡ Some letter → shape_of letter c.shape → IsOfTwo (Conv c)
-        → letter_of Two b ≡ Some letter
-    in_two b letter c e takes has =
+    in_two : (b : ℕ) (letter : Letter) (c : Conversion) (strict : Bool) → letter_of Three b ≡ Some letter
+        → shape_of letter strict c.shape → IsOfTwo (Conv c) → letter_of Two b ≡ Some letter
+    in_two b letter c strict e takes has =
         found (λ b l. IsNoFloatLetter l → letter_of Two b ≡ Some l) (letters Three)
         (assumption (no_float 97, no_float 65, no_float 101, no_float 69, no_float 102, no_float 70, no_float 103, no_float 71)) b letter e
-        (no_float_letter letter c.shape takes has.0)
+        (no_float_letter letter strict c.shape takes has.0)
 
 -- ---- print formats
 

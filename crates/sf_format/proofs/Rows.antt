@@ -6,6 +6,7 @@ use Rattle.sf_base.specs.declared.values.Kind.TheVariants.{I32}
 use Rattle.sf_format.specs.declared.directive.Profile.TheVariants.{One, Two}
 use Rattle.sf_format.specs.Language.{Language, Scan, Print}
 use Rattle.sf_format.specs.declared.directive.Base.TheVariants.{Dec}
+use Rattle.sf_format.specs.declared.directive.Lead.TheVariants.{Any}
 use Rattle.sf_format.specs.declared.directive.Shape.TheVariants.{Int}
 use Rattle.sf_format.specs.declared.directive.Conversion.{Conversion}
 use Rattle.sf_format.specs.declared.directive.Directive.TheVariants.{Conv}
@@ -36,7 +37,17 @@ AreJudged language rows = map (λ row. judged language row.0) rows ≡ map (λ r
 
 abbrev pub opened : List ℕ → List ℕ → List ℕ → Option (List ℕ) → Length → Opening
 opened number flags width precision size =
-    record { number = number; star = false; optional = false; flags = flags; width = width; precision = precision; size = size }
+    record {
+      number = number;
+      star = false;
+      optional = false;
+      column = false;
+      strict = false;
+      flags = flags;
+      width = width;
+      precision = precision;
+      size = size;
+    }
 
 -- a specification that opens with a width and a length alone
 abbrev pub sized : List ℕ → Length → Opening
@@ -99,6 +110,7 @@ faults : AreJudged (Scan One) (
     ∷ (codes "%[a" ++ 0 ∷ codes "b]", at Nul 3)
     ∷ (codes "%[a" ++ 0 ∷ [], at Nul 3)
     ∷ (codes "%hhb", at UnknownLetter 3)
+    ∷ (codes "%!d", at UnknownLetter 1)
     ∷ (integers 33, at TooManyDestinations 64)
     ∷ [])
 faults = refl
@@ -205,7 +217,14 @@ sizes = refl
 -- ---- by the definitions themselves
 
 abbrev integer : Conversion
-integer = record { shape = Int Dec; kind = I32; width = None; slot = Some 1; optional = false }
+integer = record {
+  shape = Int (record { base = Dec; lead = Any });
+  kind = I32;
+  width = None;
+  slot = Some 1;
+  optional = false;
+  column = false;
+}
 
 spelled : Spells One (codes "%d") (Conv integer ∷ [])
 spelled = (
@@ -222,11 +241,15 @@ spelled = (
             number = tt;
             suppressed = λ e. absurd (cc);
             optional = λ e. absurd (cc);
+            column = λ e. absurd (cc);
+            strict = λ e. absurd (cc);
             flags = refl;
             width = tt;
             precision = refl;
             size = refl;
             count = tt;
+            placed = λ e. absurd (cc);
+            mark = tt;
           },
         ),
       ),
@@ -236,7 +259,7 @@ spelled = (
     slots = inl ((refl, tt), lit≤ tt);
   },
   refl,
-  ((Signed Dec, integer, refl, record { kind = refl; width = refl; slot = refl; optional = refl }, refl, refl), tt),
+  ((Signed Dec, integer, refl, record { kind = refl; width = refl; slot = refl; optional = refl; column = refl }, refl, refl), tt),
 )
   where
     differs : ◌≢◌ {A = ℕ} 100 91

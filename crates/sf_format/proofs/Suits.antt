@@ -1,5 +1,5 @@
 -- An opening and a letter that no rule refuses suit each other, in scan formats and in print formats.
-use Rattle.std.proofs.Common.{◌≡◌, ℕ, ◌<◌, Bool, true, false, ◌&&◌, ◌||◌, nat_eq, nat_lt, List, [], ◌∷◌, Some, is_some, is_none, refl}
+use Rattle.std.proofs.Common.{◌≡◌, ℕ, ◌<◌, Bool, true, false, not, ◌&&◌, ◌||◌, nat_eq, nat_lt, List, [], ◌∷◌, Some, is_some, is_none, refl}
 use Rattle.std.proofs.Common.{arith, ◌≢◌, zero, suc, ◌+◌, ◌^◌, length, Option, find, inl, inr}
 use Rattle.std.specs.Prelude.{IsSome, IfSome}
 use Rattle.std.proofs.lemmas.Bool.Decides.{nat_tests}
@@ -9,7 +9,7 @@ use Rattle.sf_format.specs.Digits.{is_decimal, IsOptionalNumber}
 use Rattle.sf_format.specs.Lists.{is_any_of, is_written}
 use Rattle.sf_format.specs.Letters.{added_letters, letters, find_letter, letter_of, kind_of, text_kind, double_kind, float_kind}
 use Rattle.sf_format.specs.Pieces.{Opening}
-use Rattle.sf_format.specs.Grammar.{SuitsCount, Suits}
+use Rattle.sf_format.specs.Grammar.{SuitsCount, SuitsColumn, SuitsMark, Suits}
 use Rattle.sf_format.specs.Rules.{has_length, is_l}
 use Rattle.sf_format.specs.Language.{Scan, Print}
 use Rattle.sf_format.specs.Faults.{opening_rules, letter_rules}
@@ -42,8 +42,10 @@ use Rattle.sf_format.specs.PrintRules.{is_other_length, flags_place, precision_n
 -- what is known of a letter's byte
 pub record IsLetterOf (profile : Profile) (b : ℕ) (letter : Letter) : Type 0 where
   pub last : IsLast b
-  pub allowed : (o : Opening) (q : ℕ) → Quiet (letter_rules profile o b q) → IsSome (kind_of letter o.size) × SuitsCount letter o
-  pub quiet : (o : Opening) (q : ℕ) → IsSome (kind_of letter o.size) → SuitsCount letter o → Quiet (letter_rules profile o b q)
+  pub allowed : (o : Opening) (q : ℕ) → Quiet (letter_rules profile o b q)
+      → IsSome (kind_of letter o.size) × SuitsCount letter o × SuitsColumn letter o × SuitsMark letter o
+  pub quiet : (o : Opening) (q : ℕ) → IsSome (kind_of letter o.size) → SuitsCount letter o → SuitsColumn letter o → SuitsMark letter o
+      → Quiet (letter_rules profile o b q)
 
 pub text_allowed : (size : Length) → has_length size ≡ false → IsSome (text_kind size)
 text_allowed size e = grind arith
@@ -81,36 +83,130 @@ float_kinded _ k h = absurd (cc)
 abbrev pub ForRows : {L : Type 0} → (ℕ → L → Type 0) → List (List ℕ × L) → Type 0
 ForRows P rows = AllByRecursion (λ row. AllByRecursion (λ b. P b row.1) row.0) rows
 
+and_false : (v : Bool) → (v && false) ≡ false
+and_false v = grind arith
+
+-- has a column a width, where there is a column
+abbrev HasRoom : Bool → List ℕ → Type 0
+HasRoom column width = column ≡ true → width ≢ []
+
+-- the rule of the marks, of a letter that has columns, and of one that has none
+abbrev with_columns : Bool → Bool → Bool → List ℕ → Bool
+with_columns marked column strict width = (column && (not (is_written width) || false)) || (strict && marked)
+
+abbrev without_columns : Bool → Bool → List ℕ → Bool
+without_columns column strict width = (column && (not (is_written width) || true)) || (strict && true)
+
+room_from : (marked column strict : Bool) (width : List ℕ) → with_columns marked column strict width ≡ false → HasRoom column width
+room_from marked true strict [] e f none = absurd (cc)
+room_from marked true strict (d ∷ ds) e f none = absurd (cc)
+room_from marked false strict width e f none = absurd (cc)
+
+room_quiet : (marked column strict : Bool) (width : List ℕ) → HasRoom column width → (strict && marked) ≡ false
+    → with_columns marked column strict width ≡ false
+room_quiet marked true strict [] h e = absurd (h refl refl)
+room_quiet marked true strict (d ∷ ds) h e = e
+room_quiet marked false strict width h e = e
+
+mark_from : (column strict : Bool) (width : List ℕ) → with_columns true column strict width ≡ false → strict ≡ false
+mark_from column strict width e = grind arith
+
+none_from : (column strict : Bool) (width : List ℕ) → without_columns column strict width ≡ false → (column ≡ false) × (strict ≡ false)
+none_from column strict width e = grind arith
+
+-- the letters of integers, each by the rules of d
+of_integer : (o : Opening) (q : ℕ) → Quiet (letter_rules profiles.One o 100 q)
+    → (true ≡ true) × Unit {0} × HasRoom o.column o.width × Unit {0}
+of_integer o q h = (refl, tt, room_from false o.column o.strict o.width h.1.1.1.1.1.1.0, tt)
+
+quiet_integer : (o : Opening) (q : ℕ) → true ≡ true → Unit {0} → HasRoom o.column o.width → Unit {0}
+    → Quiet (letter_rules profiles.One o 100 q)
+quiet_integer o q s c r m =
+    (refl, (refl, (refl, (refl, (refl, (refl, (room_quiet false o.column o.strict o.width r (and_false o.strict), tt)))))))
+
 each_added : (profile : Profile) → ForRows (IsLetterOf profile) (added_letters profile)
 each_added profiles.One = tt
-each_added profiles.Two = assumption
-each_added profiles.Three = assumption (of_float, quiet_float)
+each_added profiles.Two = assumption (of_integer, quiet_integer)
+each_added profiles.Three = assumption (of_integer, quiet_integer, of_float, quiet_float)
   where
-    of_float : (o : Opening) (q : ℕ) → Quiet (letter_rules profiles.Three o 102 q) → IsSome (float_kind o.size) × Unit {0}
-    of_float o q h = (float_allowed o.size h.1.1.1.1.0, tt)
+    of_float : (o : Opening) (q : ℕ) → Quiet (letter_rules profiles.Three o 102 q)
+        → IsSome (float_kind o.size) × Unit {0} × HasRoom o.column o.width × Unit {0}
+    of_float o q h = (float_allowed o.size h.1.1.1.1.0, tt, room_from false o.column o.strict o.width h.1.1.1.1.1.1.0, tt)
 
-    quiet_float : (o : Opening) (q : ℕ) → IsSome (float_kind o.size) → Unit {0} → Quiet (letter_rules profiles.Three o 102 q)
-    quiet_float o q s c = (refl, (refl, (refl, (refl, (float_quiet o.size s, (refl, tt))))))
+    quiet_float : (o : Opening) (q : ℕ) → IsSome (float_kind o.size) → Unit {0} → HasRoom o.column o.width → Unit {0}
+        → Quiet (letter_rules profiles.Three o 102 q)
+    quiet_float o q s c r m =
+        let marks = room_quiet false o.column o.strict o.width r (and_false o.strict) in
+        (refl, (refl, (refl, (refl, (float_quiet o.size s, (refl, (marks, tt)))))))
 
 each_letter : (profile : Profile) → ForRows (IsLetterOf profile) (letters profile)
-each_letter profile = assumption (of_text, quiet_text, of_count, quiet_count, each_added profile)
+each_letter profile =
+    assumption (
+      of_integer,
+      quiet_integer,
+      of_text,
+      quiet_text,
+      of_set,
+      quiet_set,
+      of_chars,
+      quiet_chars,
+      of_count,
+      quiet_count,
+      each_added profile,
+    )
   where
-    of_text : (o : Opening) (q : ℕ) → Quiet (letter_rules profile o 115 q) → IsSome (text_kind o.size) × Unit {0}
-    of_text o q h = (text_fits o.size h.1.1.1.1.0, tt)
+    of_text : (o : Opening) (q : ℕ) → Quiet (letter_rules profile o 115 q)
+        → IsSome (text_kind o.size) × Unit {0} × HasRoom o.column o.width × Unit {0}
+    of_text o q h = (text_fits o.size h.1.1.1.1.0, tt, room_from false o.column o.strict o.width h.1.1.1.1.1.1.0, tt)
 
-    quiet_text : (o : Opening) (q : ℕ) → IsSome (text_kind o.size) → Unit {0} → Quiet (letter_rules profile o 115 q)
-    quiet_text o q s c = let t = text_quiet o.size s in (refl, (refl, (refl, (t.0, (rw t.1 refl, (refl, tt))))))
+    quiet_text : (o : Opening) (q : ℕ) → IsSome (text_kind o.size) → Unit {0} → HasRoom o.column o.width → Unit {0}
+        → Quiet (letter_rules profile o 115 q)
+    quiet_text o q s c r m =
+        let t = text_quiet o.size s in
+        let marks = room_quiet false o.column o.strict o.width r (and_false o.strict) in
+        (refl, (refl, (refl, (t.0, (rw t.1 refl, (refl, (marks, tt)))))))
 
-    of_count : (o : Opening) (q : ℕ) → Quiet (letter_rules profile o 110 q) → IsSome (kind_of Count o.size) × SuitsCount Count o
-    of_count o q h = (refl, count o.star o.width o.optional h.1.1.1.1.1.0)
+    of_set : (o : Opening) (q : ℕ) → Quiet (letter_rules profile o 91 q)
+        → IsSome (text_kind o.size) × Unit {0} × HasRoom o.column o.width × (o.strict ≡ false)
+    of_set o q h =
+        let marks = h.1.1.1.1.1.1.0 in (
+          text_fits o.size h.1.1.1.1.0,
+          tt,
+          room_from true o.column o.strict o.width marks,
+          mark_from o.column o.strict o.width marks,
+        )
+
+    quiet_set : (o : Opening) (q : ℕ) → IsSome (text_kind o.size) → Unit {0} → HasRoom o.column o.width → o.strict ≡ false
+        → Quiet (letter_rules profile o 91 q)
+    quiet_set o q s c r m =
+        let t = text_quiet o.size s in
+        let marks = room_quiet true o.column o.strict o.width r (rw m refl) in
+        (refl, (refl, (refl, (t.0, (rw t.1 refl, (refl, (marks, tt)))))))
+
+    of_chars : (o : Opening) (q : ℕ) → Quiet (letter_rules profile o 99 q)
+        → IsSome (text_kind o.size) × Unit {0} × (o.column ≡ false) × (o.strict ≡ false)
+    of_chars o q h =
+        let none = none_from o.column o.strict o.width h.1.1.1.1.1.1.0 in (text_fits o.size h.1.1.1.1.0, tt, none.0, none.1)
+
+    quiet_chars : (o : Opening) (q : ℕ) → IsSome (text_kind o.size) → Unit {0} → o.column ≡ false → o.strict ≡ false
+        → Quiet (letter_rules profile o 99 q)
+    quiet_chars o q s c r m =
+        let t = text_quiet o.size s in (refl, (refl, (refl, (t.0, (rw t.1 refl, (refl, (rw (r, m) refl, tt)))))))
+
+    of_count : (o : Opening) (q : ℕ) → Quiet (letter_rules profile o 110 q)
+        → IsSome (kind_of Count o.size) × SuitsCount Count o × SuitsColumn Count o × SuitsMark Count o
+    of_count o q h =
+        let none = none_from o.column o.strict o.width h.1.1.1.1.1.1.0 in
+        (refl, count o.star o.width o.optional h.1.1.1.1.1.0, none.0, none.1)
       where
         count : (star : Bool) (width : List ℕ) (optional : Bool) → (star || is_written width || optional) ≡ false
             → (star ≡ false) × (width ≡ []) × (optional ≡ false)
         count star [] optional e = (grind arith, refl, grind arith)
         count star (d ∷ ds) optional e = absurd (grind arith)
 
-    quiet_count : (o : Opening) (q : ℕ) → IsSome (kind_of Count o.size) → SuitsCount Count o → Quiet (letter_rules profile o 110 q)
-    quiet_count o q s c = rw (c.0, c.1, c.2) (refl, (refl, (refl, (refl, (refl, (refl, tt))))))
+    quiet_count : (o : Opening) (q : ℕ) → IsSome (kind_of Count o.size) → SuitsCount Count o → SuitsColumn Count o → SuitsMark Count o
+        → Quiet (letter_rules profile o 110 q)
+    quiet_count o q s c r m = rw (c.0, c.1, c.2, r, m) (refl, (refl, (refl, (refl, (refl, (refl, (refl, tt)))))))
 
 pub any_of : (P : ℕ → Type 0) (bytes : List ℕ) (b : ℕ) → AllByRecursion P bytes → is_any_of bytes b ≡ true → P b
 any_of P [] b all e = absurd (cc)
@@ -174,11 +270,15 @@ suits_from profile letter o b p q e parts own opening rules =
       number = slot_from o.number parts.number opening.0;
       suppressed = unnumbered o.number o.star opening.1.0;
       optional = own.2;
+      column = own.3;
+      strict = own.4;
       flags = own.0;
       width = number_from 65535 o.width parts.width opening.1.1.0 opening.1.1.1.0;
       precision = own.1;
       size = h.0;
       count = h.1;
+      placed = h.2;
+      mark = h.3;
     }
   where
     unnumbered : (ds : List ℕ) (star : Bool) → (is_written ds && star) ≡ false → star ≡ true → ds ≡ []
@@ -197,7 +297,7 @@ opening_quiet profile letter o p suits =
 
 pub letter_quiet : (profile : Profile) (letter : Letter) (o : Opening) (b q : ℕ) → letter_of profile b ≡ Some letter
     → Suits profile letter o → Quiet (letter_rules profile o b q)
-letter_quiet profile letter o b q e suits = (letter_is profile b letter e).quiet o q suits.size suits.count
+letter_quiet profile letter o b q e suits = (letter_is profile b letter e).quiet o q suits.size suits.count suits.placed suits.mark
 
 pub suits_parts : (profile : Profile) (letter : Letter) (o : Opening) → Suits profile letter o → HasParts o
 suits_parts profile letter o suits = record {
@@ -292,10 +392,12 @@ suits_print_from p letter o b place q e parts own opening rules flags = record {
   number = slot_from o.number parts.number opening.0;
   star = own.0;
   optional = own.1;
+  column = own.2;
+  strict = own.3;
   flags = parts.flags;
   had = none_foreign letter (flags_place place o) o.flags flags.0;
-  width = number_from 65535 o.width parts.width (width_low o.width parts.width own.2) opening.1.0;
-  first = own.2;
+  width = number_from 65535 o.width parts.width (width_low o.width parts.width own.4) opening.1.0;
+  first = own.4;
   precision = grind (arith, nat_tests, parts.precision, opening.1.1.0);
   one = grind (arith, flags.1.0);
   size = (print_letter_is p b letter e).allowed o q rules;

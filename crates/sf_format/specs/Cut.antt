@@ -40,9 +40,17 @@ precision_behind point = if point.0 then (Some (front is_decimal point.1), behin
 abbrev pub precision_at : List ℕ → Option (List ℕ) × List ℕ
 precision_at x = precision_behind (mark_at (code ".") x)
 
--- whether a ? stands there that the profile has, and what follows it
-abbrev pub optional_at : Profile → List ℕ → Bool × List ℕ
-optional_at profile x = if has_doubles profile then mark_at (code "?") x else (false, x)
+-- whether the mark, ? or = or !, stands there and the profile has it, and what follows it
+abbrev pub mark_of_three : Profile → ℕ → List ℕ → Bool × List ℕ
+mark_of_three profile b x = if has_doubles profile then mark_at b x else (false, x)
+
+-- the marks ?, = and !, and what follows them
+abbrev pub marks_of_three : Profile → List ℕ → Bool × Bool × Bool × List ℕ
+marks_of_three profile x =
+    let optional = mark_of_three profile (code "?") x in
+    let column = mark_of_three profile (code "=") optional.1 in
+    let strict = mark_of_three profile (code "!") column.1 in
+    (optional.0, column.0, strict.0, strict.1)
 
 -- the parts of a specification up to where its letter is due, and the rest
 pub record Cut : Type 0 where
@@ -50,12 +58,14 @@ pub record Cut : Type 0 where
   pub rest : List ℕ
 
 -- what follows the precision, with the parts before it
-abbrev pub cut_length : List ℕ → Bool → Bool → List ℕ → List ℕ → Option (List ℕ) × List ℕ → Cut
-cut_length number star optional flags width precision = record {
+abbrev pub cut_length : List ℕ → Bool → Bool → Bool → Bool → List ℕ → List ℕ → Option (List ℕ) × List ℕ → Cut
+cut_length number star optional column strict flags width precision = record {
   opening = record {
     number = number;
     star = star;
     optional = optional;
+    column = column;
+    strict = strict;
     flags = flags;
     width = width;
     precision = precision.0;
@@ -64,17 +74,20 @@ cut_length number star optional flags width precision = record {
   rest = drop (length (length_text (length_at precision.1))) precision.1;
 }
 
--- what follows a %: scan formats have no flags and no precision, print formats no star and no ?; a 0 that begins no number is a flag
+-- what follows a %: scan formats have no flags and no precision, print formats no star and no ?, = and !;
+-- a 0 that begins no number is a flag
 abbrev pub cut : Language → List ℕ → Cut
 cut (Scan profile) x =
     let number = number_at x in
     let star = mark_at (code "*") number.1 in
-    let mark = optional_at profile star.1 in
-    cut_length number.0 star.0 mark.0 [] (front is_decimal mark.1) (None, behind is_decimal mark.1)
+    let optional = mark_of_three profile (code "?") star.1 in
+    let column = mark_of_three profile (code "=") optional.1 in
+    let strict = mark_of_three profile (code "!") column.1 in
+    cut_length number.0 star.0 optional.0 column.0 strict.0 [] (front is_decimal strict.1) (None, behind is_decimal strict.1)
 cut (Print profile) x =
     let number = number_at x in
     let wide = behind is_flag number.1 in
-    cut_length number.0 false false (front is_flag number.1) (front is_decimal wide) (precision_at (behind is_decimal wide))
+    cut_length number.0 false false false false (front is_flag number.1) (front is_decimal wide) (precision_at (behind is_decimal wide))
 
 -- ---- a scanlist
 

@@ -10,13 +10,14 @@ use Rattle.sf_format.specs.declared.fault.FormatFault.{FormatFault}
 use Rattle.sf_format.specs.declared.fault.FormatWhy.{FormatWhy}
 use Rattle.sf_format.specs.declared.fault.FormatWhy.TheVariants.{Truncated, ZeroWidth, TooWide, UnknownLetter, LeftOut, BadLength, OpenSet}
 use Rattle.sf_format.specs.declared.fault.FormatWhy.TheVariants.{BackwardRange, BadCount, BadNumber, NumberTwice, NumberGap, Nul}
-use Rattle.sf_format.specs.declared.fault.FormatWhy.TheVariants.{FormatTooLong, NoMemory}
+use Rattle.sf_format.specs.declared.fault.FormatWhy.TheVariants.{FormatTooLong, NoMemory, BadMark}
 use Rattle.sf_format.specs.Letters.{has_doubles, letter_of}
 use Rattle.sf_format.specs.PrintLetters.{print_letter_of}
 use Rattle.sf_format.specs.Scanlist.{backward_range, caret_text}
 use Rattle.sf_format.specs.Lists.{is_any_of, begins, mark_at, is_written}
 use Rattle.sf_format.specs.Cut.{cut, members_at, close_at}
-use Rattle.sf_format.specs.Pieces.{Opening, Piece, number_text, star_text, optional_text, opening_text, piece_text, text_of}
+use Rattle.sf_format.specs.Pieces.{Opening, Piece, number_text, star_text, optional_text, column_text, strict_text, opening_text}
+use Rattle.sf_format.specs.Pieces.{piece_text, text_of}
 use Rattle.sf_format.specs.PrintGrammar.{Prints}
 use Rattle.sf_format.specs.Grammar.{IsPiece, RunsApart, AreAlike, destinations, Means, SpellsAs}
 use Rattle.sf_format.specs.Rules.{Rule, first_of, takes_text, takes_double, has_length, is_l, place_of, or_zero, slot_rules}
@@ -32,7 +33,8 @@ is_left_out profile b = is_any_of (codes "mLpCS") b || (takes_double b && not (h
 abbrev pub opening_rules : Language → ℕ → Opening → List Rule
 opening_rules (Scan profile) p o =
     let star_at = p + 1 + length (number_text o.number) in
-    let width_at = star_at + length (star_text o.star) + length (optional_text o.optional) in
+    let width_at = star_at + length (star_text o.star) + length (optional_text o.optional) + length (column_text o.column)
+    + length (strict_text o.strict) in
     let number = magnitude 10 o.number in
     let width = magnitude 10 o.width in
     record { why = BadNumber; applies = is_written o.number && (nat_eq number 0 || nat_lt 32 number); at = p + 1 }
@@ -41,6 +43,10 @@ opening_rules (Scan profile) p o =
     ∷ record { why = TooWide; applies = nat_lt 65535 width; at = width_at }
     ∷ []
 opening_rules (Print profile) p o = print_opening_rules p o
+
+-- a column has a width, and isn't of c or n
+abbrev pub bad_column : Opening → ℕ → Bool
+bad_column o letter = o.column && (not (is_written o.width) || is_any_of (codes "cn") letter)
 
 -- the letter, at q
 abbrev pub letter_rules : Profile → Opening → ℕ → ℕ → List Rule
@@ -55,6 +61,7 @@ letter_rules profile o letter q =
       at = q;
     }
     ∷ record { why = BadCount; applies = nat_eq letter (code "n") && (o.star || is_written o.width || o.optional); at = q }
+    ∷ record { why = BadMark; applies = bad_column o letter || (o.strict && is_any_of (codes "c[n") letter); at = q }
     ∷ []
 
 -- the members of a scanlist; q is the place of the [, m that of the first member

@@ -13,6 +13,7 @@ use Rattle.sf_format.specs.declared.directive.Directive.{Directive}
 use Rattle.sf_format.specs.declared.directive.Directive.TheVariants as directive
 use Rattle.sf_format.specs.declared.letter.Letter.{Letter}
 use Rattle.sf_format.specs.declared.letter.Letter.TheVariants.{Signed, Unsigned, Chars, Text, Set, Count, Float}
+use Rattle.sf_format.specs.Leads.{lead_of_signed, lead_of_others}
 use Rattle.sf_format.specs.Letters.{has_doubles, letter_of, kind_of}
 use Rattle.sf_format.specs.Scanlist.{IsScanlist, IsSetOf}
 use Rattle.sf_format.specs.Slots.{AreDistinct, slot_of}
@@ -26,16 +27,33 @@ abbrev pub SuitsCount : Letter → Opening → Type 0
 SuitsCount Count o = (o.star ≡ false) × (o.width ≡ []) × (o.optional ≡ false)
 SuitsCount _ o = Unit {0}
 
+-- = is had by the letters of numbers, by s and by [, with a width
+abbrev pub SuitsColumn : Letter → Opening → Type 0
+SuitsColumn Chars o = o.column ≡ false
+SuitsColumn Count o = o.column ≡ false
+SuitsColumn _ o = o.column ≡ true → o.width ≢ []
+
+-- ! is had by the letters of numbers, and by s
+abbrev pub SuitsMark : Letter → Opening → Type 0
+SuitsMark Chars o = o.strict ≡ false
+SuitsMark Set o = o.strict ≡ false
+SuitsMark Count o = o.strict ≡ false
+SuitsMark _ o = Unit {0}
+
 -- the letter may end a conversion specification that opens so
 pub record Suits (profile : Profile) (letter : Letter) (o : Opening) : Type 0 where
   pub number : IsOptionalNumber 32 o.number
   pub suppressed : o.star ≡ true → o.number ≡ []
   pub optional : o.optional ≡ true → has_doubles profile ≡ true
+  pub column : o.column ≡ true → has_doubles profile ≡ true
+  pub strict : o.strict ≡ true → has_doubles profile ≡ true
   pub flags : o.flags ≡ []
   pub width : IsOptionalNumber 65535 o.width
   pub precision : o.precision ≡ None
   pub size : IsSome (kind_of letter o.size)
   pub count : SuitsCount letter o
+  pub placed : SuitsColumn letter o
+  pub mark : SuitsMark letter o
 
 -- a part of a scan format, seen alone
 abbrev pub IsScanPiece : Profile → Piece → Type 0
@@ -91,14 +109,15 @@ abbrev pub width_of : Letter → List ℕ → Option ℕ
 width_of Chars [] = Some 1
 width_of letter ds = optional_number ds
 
-abbrev pub shape_of : Letter → Shape → Type 0
-shape_of (Signed base) s = s ≡ shape.Int base
-shape_of (Unsigned base) s = s ≡ shape.Int base
-shape_of Chars s = s ≡ shape.Chars
-shape_of Text s = s ≡ shape.Text
-shape_of Count s = s ≡ shape.Count
-shape_of Float s = s ≡ shape.Float
-shape_of Set s = ⊥
+-- what a letter other than [ takes, with ! or without
+abbrev pub shape_of : Letter → Bool → Shape → Type 0
+shape_of (Signed base) strict s = s ≡ shape.Int (record { base = base; lead = lead_of_signed strict })
+shape_of (Unsigned base) strict s = s ≡ shape.Int (record { base = base; lead = lead_of_others strict })
+shape_of Chars strict s = s ≡ shape.Chars
+shape_of Text strict s = s ≡ shape.Text (lead_of_others strict)
+shape_of Count strict s = s ≡ shape.Count
+shape_of Float strict s = s ≡ shape.Float (lead_of_signed strict)
+shape_of Set strict s = ⊥
 
 -- what a conversion specification stands for, but for its shape
 pub record IsConversion (place : ℕ) (o : Opening) (letter : Letter) (c : Conversion) : Type 0 where
@@ -106,6 +125,7 @@ pub record IsConversion (place : ℕ) (o : Opening) (letter : Letter) (c : Conve
   pub width : c.width ≡ width_of letter o.width
   pub slot : c.slot ≡ slot_of place o
   pub optional : c.optional ≡ o.optional
+  pub column : c.column ≡ o.column
 
 -- the directive that a part stands for
 abbrev pub Means : Profile → ℕ → Piece → Directive → Type 0
@@ -114,7 +134,7 @@ Means profile place (Ordinary b) d = d ≡ directive.Byte b
 Means profile place Percents d = d ≡ directive.Percent
 Means profile place (Plain o b) d =
     (letter : Letter) × (c : Conversion) × (letter_of profile b ≡ Some letter) × IsConversion place o letter c
-    × shape_of letter c.shape × (d ≡ directive.Conv c)
+    × shape_of letter o.strict c.shape × (d ≡ directive.Conv c)
 Means profile place (Bracket o list) d =
     (c : Conversion) × (members : List Bool) × IsConversion place o Set c × IsSetOf list members × (c.shape ≡ shape.Set members)
     × (d ≡ directive.Conv c)

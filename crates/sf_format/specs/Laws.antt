@@ -87,7 +87,7 @@ TwoPrintsOne = (text : List ℕ) (us : List PrintUnit) → SpellsPrint One text 
 abbrev pub OnePrintsTwo : Type 0
 OnePrintsTwo = (text : List ℕ) (us : List PrintUnit) → SpellsPrint Two text us → AreNotBinary us → SpellsPrint One text us
 
--- profile 3 spells the scan formats of profile 2, and others with a float or a ? alone
+-- profile 3 spells the scan formats of profile 2, and others with a float, a ?, a = or a ! alone
 abbrev pub ThreeSpellsTwo : Type 0
 ThreeSpellsTwo = (text : List ℕ) (ds : List Directive) → Spells Two text ds → Spells Three text ds × AreOfTwo ds
 

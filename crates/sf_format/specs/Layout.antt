@@ -1,5 +1,6 @@
 -- A scan format laid out: a row for each directive, and what its runs count.
 use Rattle.std.specs.Prelude.{ℕ, ◌^◌, ◌-◌, ◌&&◌, Bool, true, false, List, Option, Some, None, is_some, unwrap_or}
+use Rattle.std.specs.Prelude.{if◌then◌else◌}
 use Rattle.std.specs.List.{count_by}
 use Rattle.sf_base.specs.declared.values.Kind.{Kind}
 use Rattle.sf_base.specs.declared.values.Kind.TheVariants as kinds
@@ -7,19 +8,30 @@ use Rattle.sf_base.specs.Kinds.{bounds_of}
 use Rattle.sf_base.specs.Sets.{lone_lack}
 use Rattle.sf_format.specs.declared.directive.Base.{Base}
 use Rattle.sf_format.specs.declared.directive.Base.TheVariants.{Dec, Hex}
+use Rattle.sf_format.specs.declared.directive.Lead.{Lead}
+use Rattle.sf_format.specs.declared.directive.Lead.TheVariants.{Any, Minus, Nothing}
+use Rattle.sf_format.specs.declared.directive.Numeral.{Numeral}
 use Rattle.sf_format.specs.declared.directive.Shape.{Shape}
 use Rattle.sf_format.specs.declared.directive.Shape.TheVariants.{Int, Text, Set, Chars, Float, Count}
 use Rattle.sf_format.specs.declared.directive.Directive.{Directive}
 use Rattle.sf_format.specs.declared.directive.Directive.TheVariants.{Space, Byte, Percent, Conv}
+use Rattle.sf_format.specs.Leads.{is_strict_lead}
 use Rattle.sf_format.specs.declared.layout.Row.{Row}
 use Rattle.sf_format.specs.declared.layout.Way.{Way}
 use Rattle.sf_format.specs.declared.layout.Way.TheVariants as ways
 
--- which way an integer of the base is passed
-abbrev pub way_of_integer : Base → Way
-way_of_integer Dec = ways.Decimal
-way_of_integer Hex = ways.Hexadecimal
-way_of_integer _ = ways.Another
+-- which way an integer of the base is passed that this may lead
+abbrev pub way_led_by : Lead → Base → Way
+way_led_by Any Dec = ways.Decimal
+way_led_by Any Hex = ways.Hexadecimal
+way_led_by Minus Dec = ways.StrictSigned
+way_led_by Nothing Dec = ways.StrictDecimal
+way_led_by Nothing Hex = ways.StrictHexadecimal
+way_led_by _ _ = ways.Another
+
+-- which way an integer so written is passed
+abbrev pub way_of_integer : Numeral → Way
+way_of_integer numeral = way_led_by numeral.lead numeral.base
 
 -- which way an item by a set is passed, by the byte that alone is no member, if there is one
 abbrev pub way_of_set : Option ℕ → Way
@@ -28,13 +40,18 @@ way_of_set (Some stop) = ways.Until
 
 -- which way a conversion is passed, whose kind holds numbers or not
 abbrev pub way_of : Shape → Bool → Way
-way_of (Int base) true = way_of_integer base
-way_of (Int base) false = ways.Another
-way_of Text numeric = ways.Text
+way_of (Int numeral) true = way_of_integer numeral
+way_of (Int numeral) false = ways.Another
+way_of (Text lead) numeric = if is_strict_lead lead then ways.StrictText else ways.Text
 way_of (Set members) numeric = way_of_set (lone_lack members)
 way_of Chars numeric = ways.Characters
-way_of Float numeric = ways.Another
+way_of (Float lead) numeric = ways.Another
 way_of Count numeric = ways.Another
+
+-- which way a conversion is passed, which takes a column or an item: no row reads a column
+abbrev pub way_placed : Bool → Shape → Bool → Way
+way_placed true shape numeric = ways.Another
+way_placed false shape numeric = way_of shape numeric
 
 -- the byte before which an item of the shape ends, where it goes on to that alone
 abbrev pub stop_of : Shape → ℕ
@@ -64,7 +81,7 @@ row_of Space = plain_row ways.Space 0
 row_of (Byte due) = plain_row ways.Byte due
 row_of Percent = plain_row ways.Another 0
 row_of (Conv c) = record {
-  way = way_of c.shape (is_some (bounds_of c.kind));
+  way = way_placed c.column c.shape (is_some (bounds_of c.kind));
   due = stop_of c.shape;
   signed = signed_in c.kind;
   kind = c.kind;

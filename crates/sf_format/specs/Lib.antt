@@ -1,6 +1,7 @@
 pub mod Digits
 pub mod Language
 pub mod Lists
+pub mod Leads
 pub mod Letters
 pub mod PrintLetters
 pub mod Scanlist
@@ -24,3 +25,4 @@ pub mod Classes
 pub mod Passing
 pub mod Texts
 pub mod Layout
+pub mod Strictness

@@ -45,6 +45,8 @@ opening_of o = record {
   number = o.number.now;
   star = o.star;
   optional = o.optional;
+  column = o.column;
+  strict = o.strict;
   flags = o.flags.now;
   width = o.width.now;
   precision = precision_of o.point o.precision.now;
@@ -66,8 +68,11 @@ row_of rule = record { why = rule.why.why; applies = rule.applies; at = rule.why
 
 -- what the language has of an opening
 abbrev pub IsIn : Language → Opening → Type 0
-IsIn (Scan profile) o = (o.flags ≡ []) × (o.precision ≡ None) × (o.optional ≡ true → has_doubles profile ≡ true)
-IsIn (Print profile) o = (o.star ≡ false) × (o.optional ≡ false) × StartsAboveZero o.width
+IsIn (Scan profile) o =
+    (o.flags ≡ []) × (o.precision ≡ None) × (o.optional ≡ true → has_doubles profile ≡ true)
+    × (o.column ≡ true → has_doubles profile ≡ true)
+    × (o.strict ≡ true → has_doubles profile ≡ true)
+IsIn (Print profile) o = (o.star ≡ false) × (o.optional ≡ false) × (o.column ≡ false) × (o.strict ≡ false) × StartsAboveZero o.width
 
 -- the first fault by the rules, or else the letter that was found, and the kind that it has
 abbrev pub Converts : {L : Type 0} → Option L → (L → Option Kind) → List Rule → Result (L × Kind) FormatFault → Type 0
@@ -95,16 +100,16 @@ ListsBehind bracket q x (Ok listed) =
 ListsBehind bracket q x (Err fault) = first_of (bracket_rules bracket q x) ≡ Some (fault_of fault)
 
 -- what a letter takes, by its members if it is a [
-abbrev pub ShapeBy : Bool → Letter → Listed → Shape → Type 0
-ShapeBy true letter listed s = (set : List Bool) × IsSetBy listed.complemented listed.members.now set × (s ≡ shape.Set set)
-ShapeBy false letter listed s = shape_of letter s
+abbrev pub ShapeBy : Bool → Letter → Bool → Listed → Shape → Type 0
+ShapeBy true letter strict listed s = (set : List Bool) × IsSetBy listed.complemented listed.members.now set × (s ≡ shape.Set set)
+ShapeBy false letter strict listed s = shape_of letter strict s
 
--- the conversion of a letter with this kind, these digits of a width, this slot and this mark
-abbrev pub IsMade : Letter → Kind → List ℕ → Option ℕ → Bool → Listed → Directive → Type 0
-IsMade letter kind width slot optional listed (directive.Conv c) =
-    (c.kind ≡ kind) × (c.width ≡ width_of letter width) × (c.slot ≡ slot) × (c.optional ≡ optional)
-    × ShapeBy (is_set letter) letter listed c.shape
-IsMade letter kind width slot optional listed _ = ⊥
+-- the conversion of a letter with this kind, this opening and this slot
+abbrev pub IsMade : Letter → Kind → Opening → Option ℕ → Listed → Directive → Type 0
+IsMade letter kind o slot listed (directive.Conv c) =
+    (c.kind ≡ kind) × (c.width ≡ width_of letter o.width) × (c.slot ≡ slot) × (c.optional ≡ o.optional) × (c.column ≡ o.column)
+    × ShapeBy (is_set letter) letter o.strict listed c.shape
+IsMade letter kind o slot listed _ = ⊥
 
 -- ---- parts
 

@@ -29,6 +29,8 @@ pub record SuitsPrint (letter : PrintLetter) (o : Opening) : Type 0 where
   pub number : IsOptionalNumber 32 o.number
   pub star : o.star ≡ false
   pub optional : o.optional ≡ false
+  pub column : o.column ≡ false
+  pub strict : o.strict ≡ false
   -- of - + space # 0, and only those that the letter has
   pub flags : AllByRecursion (λ b. is_flag b ≡ true) o.flags
   pub had : AllByRecursion (λ b. has_flag letter b ≡ true) o.flags

@@ -7,6 +7,7 @@ use Rattle.sf_format.specs.declared.directive.Shape.{Shape}
 use Rattle.sf_format.specs.declared.directive.Shape.TheVariants.{Int, Float}
 use Rattle.sf_format.specs.declared.directive.Directive.{Directive}
 use Rattle.sf_format.specs.declared.directive.Directive.TheVariants.{Conv}
+use Rattle.sf_format.specs.Leads.{is_strict}
 use Rattle.sf_format.specs.declared.unit.PrintLetter.{PrintLetter}
 use Rattle.sf_format.specs.declared.unit.PrintLetter.TheVariants as letter
 use Rattle.sf_format.specs.declared.unit.Unit.{Unit as PrintUnit}
@@ -14,7 +15,7 @@ use Rattle.sf_format.specs.declared.unit.Unit.TheVariants as unit
 
 -- another base in its place
 abbrev pub shape_with : (Base → Base) → Shape → Shape
-shape_with other (Int base) = Int (other base)
+shape_with other (Int numeral) = Int (record numeral { base = other numeral.base })
 shape_with other shape = shape
 
 abbrev pub directive_with : (Base → Base) → Directive → Directive
@@ -39,7 +40,7 @@ in_one ds = map (directive_with base_in_one) ds
 -- ---- what is of profile 2 alone
 
 abbrev pub ShapeHas : (Base → Type 0) → Shape → Type 0
-ShapeHas P (Int base) = P base
+ShapeHas P (Int numeral) = P numeral.base
 ShapeHas P shape = Unit {0}
 
 abbrev pub DirectiveHas : (Base → Type 0) → Directive → Type 0
@@ -48,13 +49,13 @@ DirectiveHas P d = Unit {0}
 
 -- ---- what is of profile 3 alone
 
--- no float, and never missing
+-- no float, never missing, no column, and not strict
 abbrev pub IsNoFloat : Shape → Type 0
-IsNoFloat Float = ⊥
+IsNoFloat (Float lead) = ⊥
 IsNoFloat shape = Unit {0}
 
 abbrev pub IsOfTwo : Directive → Type 0
-IsOfTwo (Conv c) = IsNoFloat c.shape × (c.optional ≡ false)
+IsOfTwo (Conv c) = IsNoFloat c.shape × (c.optional ≡ false) × (c.column ≡ false) × (is_strict c.shape ≡ false)
 IsOfTwo d = Unit {0}
 
 abbrev pub AreOfTwo : List Directive → Type 0

@@ -7,6 +7,7 @@ use Rattle.sf_base.specs.Sets.{has_byte}
 use Rattle.sf_format.specs.Slots.{Slotted, kind_with, slots_from, AreSlots}
 use Rattle.sf_format.specs.declared.directive.Shape.{Shape}
 use Rattle.sf_format.specs.declared.directive.Shape.TheVariants.{Int, Text, Set, Chars, Float, Count}
+use Rattle.sf_format.specs.declared.directive.Conversion.{Conversion}
 use Rattle.sf_format.specs.declared.directive.Directive.{Directive}
 use Rattle.sf_format.specs.declared.directive.Directive.TheVariants.{Space, Byte, Percent, Conv}
 
@@ -37,12 +38,12 @@ IsFloatKind kind = (kind ≡ kinds.F32) ⊎ (kind ≡ kinds.F64)
 
 -- a conversion of a text has the kind of texts, one of a float a kind of floats
 abbrev pub HasItsKind : Shape → Kind → Type 0
-HasItsKind (Int base) kind = Unit {0}
+HasItsKind (Int numeral) kind = Unit {0}
 HasItsKind Count kind = Unit {0}
-HasItsKind Text kind = kind ≡ kinds.Text
+HasItsKind (Text lead) kind = kind ≡ kinds.Text
 HasItsKind (Set members) kind = kind ≡ kinds.Text
 HasItsKind Chars kind = kind ≡ kinds.Text
-HasItsKind Float kind = IsFloatKind kind
+HasItsKind (Float lead) kind = IsFloatKind kind
 
 abbrev pub IsKinded : Directive → Type 0
 IsKinded (Conv c) = HasItsKind c.shape c.kind
@@ -50,6 +51,23 @@ IsKinded _ = Unit {0}
 
 abbrev pub AreKinded : List Directive → Type 0
 AreKinded ds = AllByRecursion IsKinded ds
+
+-- the shapes of columns: numbers, texts and sets
+abbrev pub TakesColumn : Shape → Type 0
+TakesColumn Chars = ⊥
+TakesColumn Count = ⊥
+TakesColumn _ = Unit {0}
+
+-- a column has a width, and is of a number, a text or a set
+abbrev pub HasColumn : Conversion → Type 0
+HasColumn c = c.column ≡ true → IsSome c.width × TakesColumn c.shape
+
+abbrev pub IsColumned : Directive → Type 0
+IsColumned (Conv c) = HasColumn c
+IsColumned _ = Unit {0}
+
+abbrev pub AreColumned : List Directive → Type 0
+AreColumned ds = AllByRecursion IsColumned ds
 
 abbrev pub IsProper : Directive → Type 0
 IsProper Space = Unit {0}
@@ -113,6 +131,7 @@ pub record IsAccepted (ds : List Directive) : Type 0 where
   pub proper : AreProper ds
   pub sized : AreSized ds
   pub kinded : AreKinded ds
+  pub columns : AreColumned ds
   pub short : length ds ≤ 4096
   pub few : length (destinations_of ds) ≤ 32
   pub slots : AreSlots (destinations_of ds)

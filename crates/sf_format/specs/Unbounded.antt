@@ -8,17 +8,18 @@ use Rattle.sf_format.specs.declared.directive.Directive.TheVariants.{Conv}
 
 -- an item of the shape, if no width bounds it, can go on after any of its bytes; that of a float can't after `infinity`
 abbrev pub GoesOn : Shape → Type 0
-GoesOn (Int base) = Unit {0}
-GoesOn Text = Unit {0}
+GoesOn (Int numeral) = Unit {0}
+GoesOn (Text lead) = Unit {0}
 GoesOn (Set members) = Unit {0}
 GoesOn Chars = ⊥
-GoesOn Float = ⊥
+GoesOn (Float lead) = ⊥
 GoesOn Count = ⊥
 
--- the last directive is such a conversion, without a width and without a ?
+-- the last directive is such a conversion, without a width, without a ? and without a =
 pub record EndsUnbounded (ds : List Directive) : Type 0 where
   pub conversion : Conversion
   pub last : slice_get ds (length ds - 1) ≡ Some (Conv conversion)
   pub goes_on : GoesOn conversion.shape
   pub no_width : conversion.width ≡ None
   pub needed : conversion.optional ≡ false
+  pub no_column : conversion.column ≡ false

@@ -1,4 +1,7 @@
 //! The directives of a scan format.
+ghost use Rattle.std.specs.Prelude.{◌≡◌};
+ghost use Rattle.sf_format.specs.Leads.{has_minus, has_plus, has_prefix, is_strict, is_strict_lead};
+
 use sf_base::{ByteSet, Kind};
 
 /// Which conversions a format may have.
@@ -8,7 +11,8 @@ pub enum Profile {
     One,
     /// Those, the letter `b` of unsigned binary numbers, and `0b` under `i`.
     Two,
-    /// Those, and the letters of floats, `a A e E f F g G`. Scan formats also have `?`, for what may be missing.
+    /// Those, and the letters of floats, `a A e E f F g G`. Scan formats also have `?`, for what may be missing, `=`,
+    /// for a column, and `!`, for a number and nothing else.
     Three,
 }
 
@@ -26,17 +30,79 @@ pub enum Base {
     AutoBin,
 }
 
+/// What may stand before the digits of a number, or before the bytes of a text.
+#[derive(Clone, Copy, Debug, PartialEq, Eq)]
+pub enum Lead {
+    /// What C allows: white space, which is skipped; before the digits of a number also either sign, and the prefix of
+    /// its base.
+    Any,
+    /// A minus, under `!`. No white space is skipped.
+    Minus,
+    /// Nothing, under `!`.
+    Nothing,
+}
+
+/// How an integer is written.
+#[derive(Clone, Copy, Debug, PartialEq, Eq)]
+pub struct Numeral {
+    pub base: Base,
+    pub lead: Lead,
+}
+
 /// What a conversion takes.
 #[derive(Debug, Drop)]
 pub enum Shape {
-    Int(Base),
-    Text,
+    Int(Numeral),
+    Text(Lead),
     Set(ByteSet),
     Chars,
-    /// A float, as text: `1.5`, `1e-3`, `0x1p4`, `inf` or `nan`. Of profile 3.
-    Float,
+    /// A float, as text: `1.5`, `1e-3`, `0x1p4`, `inf` or `nan`; without `Lead::Any`, a decimal one. Of profile 3.
+    Float(Lead),
     /// The number of bytes consumed so far; takes none.
     Count,
+}
+
+impl Lead {
+    /// Whether a plus may stand there.
+    pub fn has_plus(self) -> bool
+        ensures { result ≡ has_plus self }
+    {
+        matches!(self, Lead::Any)
+    }
+
+    /// Whether a minus may stand there.
+    pub fn has_minus(self) -> bool
+        ensures { result ≡ has_minus self }
+    {
+        !matches!(self, Lead::Nothing)
+    }
+
+    /// Whether the prefix of the base may stand there.
+    pub fn has_prefix(self) -> bool
+        ensures { result ≡ has_prefix self }
+    {
+        !matches!(self, Lead::Nothing)
+    }
+
+    /// Whether it is that of `!`: no white space is skipped.
+    pub fn is_strict(self) -> bool
+        ensures { result ≡ is_strict_lead self }
+    {
+        !matches!(self, Lead::Any)
+    }
+}
+
+impl Shape {
+    /// Whether it is that of a conversion with `!`.
+    pub fn is_strict(&self) -> bool
+        ensures { result ≡ is_strict self.now }
+    {
+        match self {
+            Shape::Int(numeral) => numeral.lead.is_strict(),
+            Shape::Text(lead) | Shape::Float(lead) => lead.is_strict(),
+            Shape::Set(_) | Shape::Chars | Shape::Count => false,
+        }
+    }
 }
 
 /// A conversion. One without a slot is suppressed.
@@ -48,6 +114,9 @@ pub struct Conversion {
     pub slot: Option<u8>,
     /// Whether it has a `?`: where its item is missing it passes, and its slot has no value. Of profile 3.
     pub optional: bool,
+    /// Whether it has a `=`: it takes a column, which is the next `width` bytes, and reads the text in it. Of
+    /// profile 3.
+    pub column: bool,
 }
 
 /// A directive of a scan format (C11 7.21.6.2p3).

@@ -44,6 +44,8 @@ pub enum FormatWhy {
     PrecisionTooLarge,
     /// F19: memory was refused.
     NoMemory,
+    /// F20: `!` with `c`, `[` or `n`, or `=` with `c`, `n` or without a width, in scan formats of profile 3.
+    BadMark,
 }
 
 /// Why a format is refused, and the byte at which that was found, counted from 0.
@@ -111,6 +113,7 @@ impl FormatWhy {
             FormatWhy::BadFlag => "F17 BadFlag",
             FormatWhy::PrecisionTooLarge => "F18 PrecisionTooLarge",
             FormatWhy::NoMemory => "F19 NoMemory",
+            FormatWhy::BadMark => "F20 BadMark",
         }
     }
 }

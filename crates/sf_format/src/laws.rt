@@ -8,6 +8,7 @@ ghost use Rattle.sf_format.specs.Laws.{EachUnnumberedPrintIsInOrder};
 ghost use Rattle.sf_format.specs.Laws.{JustSlotsHaveKinds};
 ghost use Rattle.sf_format.specs.Laws.{TwoSpellsOne, OneSpellsTwo, OneHasOldBases, TwoPrintsOne, OnePrintsTwo};
 ghost use Rattle.sf_format.specs.Laws.{ThreeSpellsTwo, TwoSpellsThree, ThreePrintsTwo, TwoPrintsThree};
+ghost use Rattle.sf_format.specs.Strictness.{MarksMakeStrict};
 
 /// A text spells at most one list of directives, and at most one of units.
 pub fn one_list()
@@ -61,8 +62,13 @@ pub fn profiles()
     ensures print_one { OnePrintsTwo }
 {}
 
-/// Profile 3 spells the scan formats of profile 2, and of those without a float and without a `?` no others. It spells
-/// the print formats of profile 2, and of those without a float no others.
+/// `ScanFormat::strict` makes of a format what its text spells with a `!` in each conversion that can have one.
+pub fn marks_make_strict()
+    ensures { MarksMakeStrict }
+{}
+
+/// Profile 3 spells the scan formats of profile 2, and of those without a float, a `?`, a `=` and a `!` no others. It
+/// spells the print formats of profile 2, and of those without a float no others.
 pub fn profile_three()
     ensures scan_three { ThreeSpellsTwo }
     ensures scan_two { TwoSpellsThree }

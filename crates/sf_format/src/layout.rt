@@ -1,10 +1,10 @@
 //! A scan format laid out: a flat row beside each directive, and what its runs count.
 ghost use Rattle.std.specs.Prelude.{◌≡◌, ◌≤◌, length, map, IfOk};
 ghost use Rattle.sf_format.specs.Layout.{assigns_item, items_assigned, items_taken, plain_row, row_of, takes_item};
-ghost use Rattle.sf_format.specs.Layout.{stop_of, way_of, way_of_integer};
+ghost use Rattle.sf_format.specs.Layout.{stop_of, way_of, way_of_integer, way_placed};
 ghost use Rattle.sf_format.specs.Proper.{destinations_of};
 
-use crate::directive::{Base, Conversion, Directive, Shape};
+use crate::directive::{Base, Conversion, Directive, Lead, Numeral, Shape};
 use sf_base::Kind;
 use std::alloc::{AllocError, Global};
 
@@ -16,6 +16,14 @@ pub enum Way {
     Decimal,
     Hexadecimal,
     Text,
+    /// Decimal digits after a minus or none, with `!`.
+    StrictSigned,
+    /// Decimal digits alone, with `!`.
+    StrictDecimal,
+    /// Hexadecimal digits alone, with `!`.
+    StrictHexadecimal,
+    /// A text of `!s`.
+    StrictText,
     /// An item of any bytes but one.
     Until,
     Members,
@@ -40,14 +48,17 @@ pub struct Row {
     pub greatest: u64,
 }
 
-/// Which way an integer of the base is passed that its kind holds.
-fn way_of_integer(base: Base) -> Way
-    ensures { result ≡ way_of_integer base }
+/// Which way an integer so written is passed that its kind holds.
+fn way_of_integer(numeral: Numeral) -> Way
+    ensures { result ≡ way_of_integer numeral }
 {
-    match base {
-        Base::Dec => Way::Decimal,
-        Base::Hex => Way::Hexadecimal,
-        Base::Oct | Base::Bin | Base::Auto | Base::AutoBin => Way::Another,
+    match (numeral.lead, numeral.base) {
+        (Lead::Any, Base::Dec) => Way::Decimal,
+        (Lead::Any, Base::Hex) => Way::Hexadecimal,
+        (Lead::Minus, Base::Dec) => Way::StrictSigned,
+        (Lead::Nothing, Base::Dec) => Way::StrictDecimal,
+        (Lead::Nothing, Base::Hex) => Way::StrictHexadecimal,
+        _ => Way::Another,
     }
 }
 
@@ -56,13 +67,24 @@ fn way_of(shape: &Shape, is_numeric: bool) -> Way
     ensures { result ≡ way_of shape.now is_numeric }
 {
     match shape {
-        Shape::Int(base) if is_numeric => way_of_integer(*base),
-        Shape::Text => Way::Text,
+        Shape::Int(numeral) if is_numeric => way_of_integer(*numeral),
+        Shape::Text(lead) if lead.is_strict() => Way::StrictText,
+        Shape::Text(_) => Way::Text,
         Shape::Set(members) if members.lone_lack().is_some() => Way::Until,
         Shape::Set(_) => Way::Members,
         Shape::Chars => Way::Characters,
-        Shape::Int(_) | Shape::Float | Shape::Count => Way::Another,
+        Shape::Int(_) | Shape::Float(_) | Shape::Count => Way::Another,
     }
+}
+
+/// The same, where it may take a column: no row reads one.
+fn way_placed(conversion: &Conversion, is_numeric: bool) -> Way
+    ensures { result ≡ way_placed conversion.now.column conversion.now.shape is_numeric }
+{
+    if conversion.column {
+        return Way::Another;
+    }
+    way_of(&conversion.shape, is_numeric)
 }
 
 /// The byte before which an item of the shape ends, where it goes on to that alone.
@@ -103,13 +125,23 @@ fn row_of(directive: &Directive) -> Row
     let bounds = conversion.kind.bounds();
     let (signed, greatest) = bounds.unwrap_or((false, 0));
     Row {
-        way: way_of(&conversion.shape, bounds.is_some()),
+        way: way_placed(conversion, bounds.is_some()),
         due: stop_of(&conversion.shape),
         signed,
         kind: conversion.kind,
         slot: conversion.slot,
         width: conversion.width.map_or(usize::MAX, |width| width as usize),
         greatest,
+    }
+}
+
+/// The row of each directive, laid out again.
+pub(crate) fn lay_out(directives: &[Directive], rows: &mut [Row])
+    requires { length directives.now ≡ length rows.old }
+    ensures { rows.new ≡ map row_of directives.now }
+{
+    for i in 0..rows.len() {
+        rows[i] = row_of(&directives[i]);
     }
 }
 

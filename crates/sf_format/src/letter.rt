@@ -70,7 +70,7 @@ pub fn letter_of(profile: Profile, b: u8) -> Option<Letter>
     }
 }
 
-/// Whether the profile has the letters of floats, and `?` in its scan formats.
+/// Whether the profile has the letters of floats, and `?`, `=` and `!` in its scan formats.
 pub fn has_doubles(profile: Profile) -> bool
     ensures { result ≡ has_doubles profile }
 {

@@ -19,7 +19,7 @@ mod slots;
 mod spans;
 mod unit;
 
-pub use directive::{Base, Conversion, Directive, Profile, Shape};
+pub use directive::{Base, Conversion, Directive, Lead, Numeral, Profile, Shape};
 pub use fault::{FormatFault, FormatWhy};
 pub use layout::{Row, Way};
 pub use part_text::directive_text;

@@ -14,6 +14,8 @@ pub struct Written<'a> {
     pub number: &'a [u8],
     pub star: bool,
     pub optional: bool,
+    pub column: bool,
+    pub strict: bool,
     pub flags: &'a [u8],
     pub width: &'a [u8],
     /// Whether there is a precision.

@@ -1,6 +1,7 @@
 //! Scan formats.
 ghost use Rattle.std.specs.Prelude.{◌≡◌, ◌≤◌, ◌↔◌, IsSome, length, map, IfOk, IfErr, IfSome, IsTrue, unwrap_or};
-ghost use Rattle.sf_format.specs.Layout.{items_assigned, items_taken, row_of};
+ghost use Rattle.sf_format.specs.Layout.{items_assigned, items_taken, row_of, signed_in};
+ghost use Rattle.sf_format.specs.Strictness.{lead_by_sign, strictly};
 ghost use Rattle.sf_format.specs.Slots.{AreSlots};
 ghost use Rattle.sf_format.specs.Proper.{AreKinded, AreProper, AreSized, IsAccepted, destinations_of, has_optional};
 ghost use Rattle.sf_format.specs.Proper.{is_optional, is_optional_for, kind_at, may_miss};
@@ -13,10 +14,10 @@ mod conversion;
 pub mod grammar;
 mod scanlist;
 
-use crate::directive::{Directive, Profile, Shape};
+use crate::directive::{Directive, Lead, Profile, Shape};
 use crate::fault::FormatFault;
 use crate::judgement::parse;
-use crate::layout::{Row, items_assigned, items_taken, rows_of};
+use crate::layout::{Row, items_assigned, items_taken, lay_out, rows_of};
 use crate::scan::grammar::ScanGrammar;
 use sf_base::Kind;
 use std::alloc::Global;
@@ -134,7 +135,7 @@ fn stored_width(directive: &Directive) -> Option<u32>
     }
     match &conversion.shape {
         Shape::Int(_) | Shape::Count => Some(0),
-        Shape::Text | Shape::Set(_) | Shape::Chars | Shape::Float => {
+        Shape::Text(_) | Shape::Set(_) | Shape::Chars | Shape::Float(_) => {
             conversion.width.map(|w| w as u32)
         }
     }
@@ -160,12 +161,47 @@ fn ends_unbounded(directives: &[Directive]) -> bool
         Some(Directive::Conv(conversion)) => {
             conversion.width.is_none()
                 && !conversion.optional
+                && !conversion.column
                 && matches!(
                     conversion.shape,
-                    Shape::Int(_) | Shape::Text | Shape::Set(_)
+                    Shape::Int(_) | Shape::Text(_) | Shape::Set(_)
                 )
         }
         _ => false,
+    }
+}
+
+/// What may stand before the digits of an integer of the kind with `!`.
+fn lead_by_sign(kind: Kind) -> Lead
+    ensures { result ≡ lead_by_sign (signed_in kind) }
+{
+    match kind.bounds() {
+        Some((true, _)) => Lead::Minus,
+        _ => Lead::Nothing,
+    }
+}
+
+/// Makes the conversion as it would be with `!`, if it can have that.
+fn make_strict(directive: &mut Directive)
+    ensures { directive.new ≡ strictly directive.old }
+{
+    let Directive::Conv(conversion) = directive else {
+        return;
+    };
+    match &mut conversion.shape {
+        Shape::Int(numeral) => numeral.lead = lead_by_sign(conversion.kind),
+        Shape::Text(lead) => *lead = Lead::Nothing,
+        Shape::Float(lead) => *lead = Lead::Minus,
+        Shape::Set(_) | Shape::Chars | Shape::Count => {}
+    }
+}
+
+/// Makes each conversion as it would be with `!`, if it can have that.
+fn make_all_strict(directives: &mut [Directive])
+    ensures { directives.new ≡ map strictly directives.old }
+{
+    for directive in directives.iter_mut() {
+        make_strict(directive);
     }
 }
 
@@ -196,6 +232,17 @@ impl ScanFormat {
             reserve,
             unbounded,
         })
+    }
+
+    /// The same format, where each conversion that can have `!` is read as if it had it.
+    pub fn strict(self) -> ScanFormat
+        ensures { result ≡ map strictly self }
+    {
+        let mut format = self;
+        make_all_strict(&mut format.directives);
+        lay_out(&format.directives, &mut format.rows);
+        format.unbounded = ends_unbounded(&format.directives);
+        format
     }
 
     /// The directives, in order.

@@ -8,15 +8,16 @@ use Rattle.std.specs.List.{AllByRecursion, list_all}
 use Rattle.std.proofs.lemmas.Bool.Decides.{nat_tests}
 use Rattle.sf_base.specs.Bytes.{AreBytes, is_white}
 use Rattle.sf_base.specs.Sets.{has_byte}
-use Rattle.sf_format.specs.declared.directive.Base.{Base}
+use Rattle.sf_format.specs.declared.directive.Lead.{Lead}
+use Rattle.sf_format.specs.declared.directive.Numeral.{Numeral}
 use Rattle.sf_format.specs.declared.directive.Shape.{Shape}
 use Rattle.sf_format.specs.declared.directive.Shape.TheVariants.{Int, Text, Set, Chars, Float, Count}
 use Rattle.sf_format.specs.declared.directive.Conversion.{Conversion}
 use Rattle.sf_format.specs.Proper.{IsProperShape}
 use Rattle.sf_float_read.specs.item.Steps.{AllBytes}
-use Rattle.sf_float_read.specs.item.Tests.{begins_float}
+use Rattle.sf_float_read.specs.item.Tests.{begins_float_of}
 use Rattle.sf_float_read.proofs.ItemLemmas.Deciding.{float_decided, begins_decided}
-use Rattle.sf_item.specs.Matching.{IsInteger, ShapeMatches, Matches}
+use Rattle.sf_item.specs.Matching.{IsInteger, ShapeMatches, Matches, forms_of}
 use Rattle.sf_item.specs.Progress.{Progress, Start, IsAfter, advance}
 use Rattle.sf_item.specs.Taking.{CanTake}
 use Rattle.sf_item.specs.Tests.{read, integer_in, integer_at, is_ink, shape_matches, shape_begins, is_within, matches, can_take}
@@ -25,54 +26,55 @@ use Rattle.sf_item.proofs.Integers.{IsAfter-start, IsAfter-advance, stuck, MayHa
 -- ---- integers
 
 -- what is known after the bytes f
-abbrev Known : Base → Option Progress → List ℕ → Type 0
-Known base None f = (t : List ℕ) (negative : Bool) (m : ℕ) → IsInteger base (f ++ t) negative m → ⊥
-Known base (Some p) f = IsAfter base p f
+abbrev Known : Numeral → Option Progress → List ℕ → Type 0
+Known numeral None f = (t : List ℕ) (negative : Bool) (m : ℕ) → IsInteger numeral (f ++ t) negative m → ⊥
+Known numeral (Some p) f = IsAfter numeral p f
 
-known_none : (base : Base) (f g : List ℕ) → Known base None f → Known base None (f ++ g)
-known_none base f g h = λ t negative m i. h (g ++ t) negative m (subst (λ s. IsInteger base s negative m) (append_assoc f g t) i)
+known_none : (numeral : Numeral) (f g : List ℕ) → Known numeral None f → Known numeral None (f ++ g)
+known_none numeral f g h = λ t negative m i. h (g ++ t) negative m (subst (λ s. IsInteger numeral s negative m) (append_assoc f g t) i)
 
-known_next : (base : Base) (p : Progress) (f : List ℕ) (b : ℕ) → IsAfter base p f → Known base (advance base p b) (f ++ b ∷ [])
-known_next base p f b h = by_case (advance base p b) refl
+known_next : (numeral : Numeral) (p : Progress) (f : List ℕ) (b : ℕ) → IsAfter numeral p f
+    → Known numeral (advance numeral p b) (f ++ b ∷ [])
+known_next numeral p f b h = by_case (advance numeral p b) refl
   where
-    by_case : (o : Option Progress) → advance base p b ≡ o → Known base o (f ++ b ∷ [])
-    by_case None e = stuck base p f b h e
-    by_case (Some q) e = IsAfter-advance base p q f b h e
+    by_case : (o : Option Progress) → advance numeral p b ≡ o → Known numeral o (f ++ b ∷ [])
+    by_case None e = stuck numeral p f b h e
+    by_case (Some q) e = IsAfter-advance numeral p q f b h e
 
-known_all : (base : Base) (o : Option Progress) (f g : List ℕ) → Known base o f → Known base (read base o g) (f ++ g)
-known_all base None f g h = known_none base f g h
-known_all base (Some p) f [] h = subst (IsAfter base p) (sym (append-nil f)) h
-known_all base (Some p) f (b ∷ g) h =
-    subst (Known base (read base (advance base p b) g)) (append_assoc f (b ∷ []) g)
-    (known_all base (advance base p b) (f ++ b ∷ []) g (known_next base p f b h))
+known_all : (numeral : Numeral) (o : Option Progress) (f g : List ℕ) → Known numeral o f → Known numeral (read numeral o g) (f ++ g)
+known_all numeral None f g h = known_none numeral f g h
+known_all numeral (Some p) f [] h = subst (IsAfter numeral p) (sym (append-nil f)) h
+known_all numeral (Some p) f (b ∷ g) h =
+    subst (Known numeral (read numeral (advance numeral p b) g)) (append_assoc f (b ∷ []) g)
+    (known_all numeral (advance numeral p b) (f ++ b ∷ []) g (known_next numeral p f b h))
 
-pub read_radix : (base : Base) (o : Option Progress) (f : List ℕ) → MayHaveRadix o → MayHaveRadix (read base o f)
-read_radix base None f h = tt
-read_radix base (Some p) [] h = h
-read_radix base (Some p) (b ∷ f) h = read_radix base (advance base p b) f (next_radix base p b)
+pub read_radix : (numeral : Numeral) (o : Option Progress) (f : List ℕ) → MayHaveRadix o → MayHaveRadix (read numeral o f)
+read_radix numeral None f h = tt
+read_radix numeral (Some p) [] h = h
+read_radix numeral (Some p) (b ∷ f) h = read_radix numeral (advance numeral p b) f (next_radix numeral p b)
 
-known : (base : Base) (f : List ℕ) → Known base (read base (Some Start) f) f
-known base f = known_all base (Some Start) [] f (IsAfter-start base)
+known : (numeral : Numeral) (f : List ℕ) → Known numeral (read numeral (Some Start) f) f
+known numeral f = known_all numeral (Some Start) [] f (IsAfter-start numeral)
 
-pub integer_at_is : (base : Base) (f : List ℕ) (negative : Bool) (m : ℕ) → IsInteger base f negative m
-    → integer_at base f ≡ Some (negative, m)
-integer_at_is base f negative m i = by_case (read base (Some Start) f) (known base f)
+pub integer_at_is : (numeral : Numeral) (f : List ℕ) (negative : Bool) (m : ℕ) → IsInteger numeral f negative m
+    → integer_at numeral f ≡ Some (negative, m)
+integer_at_is numeral f negative m i = by_case (read numeral (Some Start) f) (known numeral f)
   where
-    whole : IsInteger base (f ++ []) negative m
-    whole = subst (λ s. IsInteger base s negative m) (sym (append-nil f)) i
+    whole : IsInteger numeral (f ++ []) negative m
+    whole = subst (λ s. IsInteger numeral s negative m) (sym (append-nil f)) i
 
-    by_case : (o : Option Progress) → Known base o f → integer_in o ≡ Some (negative, m)
+    by_case : (o : Option Progress) → Known numeral o f → integer_in o ≡ Some (negative, m)
     by_case None h = absurd (h [] negative m whole)
-    by_case (Some p) h = integer_next base p negative m ((h [] negative m).0 whole)
+    by_case (Some p) h = integer_next numeral p negative m ((h [] negative m).0 whole)
 
-pub integer_from_at : (base : Base) (f : List ℕ) (negative : Bool) (m : ℕ) → integer_at base f ≡ Some (negative, m)
-    → IsInteger base f negative m
-integer_from_at base f negative m = by_case (read base (Some Start) f) (known base f)
+pub integer_from_at : (numeral : Numeral) (f : List ℕ) (negative : Bool) (m : ℕ) → integer_at numeral f ≡ Some (negative, m)
+    → IsInteger numeral f negative m
+integer_from_at numeral f negative m = by_case (read numeral (Some Start) f) (known numeral f)
   where
-    by_case : (o : Option Progress) → Known base o f → integer_in o ≡ Some (negative, m) → IsInteger base f negative m
+    by_case : (o : Option Progress) → Known numeral o f → integer_in o ≡ Some (negative, m) → IsInteger numeral f negative m
     by_case None h e = absurd (cc)
     by_case (Some p) h e =
-        subst (λ s. IsInteger base s negative m) (append-nil f) ((h [] negative m).1 (integer_back base p negative m e))
+        subst (λ s. IsInteger numeral s negative m) (append-nil f) ((h [] negative m).1 (integer_back numeral p negative m e))
 
 -- ---- tests of each byte
 
@@ -128,24 +130,26 @@ tests_most m n = record { from = λ e. grind (arith, nat_tests); to = λ e. grin
 
 -- ---- matching sequences
 
-tests_integer : (base : Base) (width : Option ℕ) (s : List ℕ) → Tests (is_some (integer_at base s)) (ShapeMatches (Int base) width s)
-tests_integer base width s = record {
-  from = λ e. by_case (integer_at base s) refl e;
-  to = λ h. ap is_some (integer_at_is base s h.0 h.1 h.2);
+tests_integer : (numeral : Numeral) (width : Option ℕ) (s : List ℕ)
+    → Tests (is_some (integer_at numeral s)) (ShapeMatches (Int numeral) width s)
+tests_integer numeral width s = record {
+  from = λ e. by_case (integer_at numeral s) refl e;
+  to = λ h. ap is_some (integer_at_is numeral s h.0 h.1 h.2);
 }
   where
-    by_case : (o : Option (Bool × ℕ)) → integer_at base s ≡ o → is_some o ≡ true → ShapeMatches (Int base) width s
+    by_case : (o : Option (Bool × ℕ)) → integer_at numeral s ≡ o → is_some o ≡ true → ShapeMatches (Int numeral) width s
     by_case None e some = absurd (true≢false (sym some))
-    by_case (Some i) e some = (i.0, i.1, integer_from_at base s i.0 i.1 e)
+    by_case (Some i) e some = (i.0, i.1, integer_from_at numeral s i.0 i.1 e)
 
-tests_shape : (shape : Shape) (width : Option ℕ) (s : List ℕ) → Tests (shape_matches shape width s) (ShapeMatches shape width s)
-tests_shape (Int base) width s = tests_integer base width s
-tests_shape Text width s = tests_both (tests_less 0 (length s)) (tests_all _ is_ink tests_ink s)
+pub tests_shape : (shape : Shape) (width : Option ℕ) (s : List ℕ) → Tests (shape_matches shape width s) (ShapeMatches shape width s)
+tests_shape (Int numeral) width s = tests_integer numeral width s
+tests_shape (Text lead) width s = tests_both (tests_less 0 (length s)) (tests_all _ is_ink tests_ink s)
 tests_shape (Set members) width s =
     tests_both (tests_less 0 (length s)) (tests_all (λ b. has_byte members b ≡ true) (has_byte members)
     (λ b. tests_itself (has_byte members b)) s)
 tests_shape Chars width s = tests_same (length s) (unwrap_or width 1)
-tests_shape Float width s = record { from = (float_decided s).0; to = (float_decided s).1 }
+tests_shape (Float lead) width s =
+    record { from = (float_decided (forms_of lead) s).0; to = (float_decided (forms_of lead) s).1 }
 tests_shape Count width s = record { from = λ e. absurd (true≢false (sym e)); to = λ h. absurd h }
 
 pub tests_matches : (c : Conversion) (s : List ℕ) → Tests (matches c s) (Matches c s)
@@ -156,16 +160,17 @@ tests_matches c s = tests_shape c.shape c.width s
 abbrev pub ShapeBegins : Shape → Option ℕ → List ℕ → Type 0
 ShapeBegins shape width f = (t : List ℕ) × AreBytes t × ShapeMatches shape width (f ++ t)
 
-integer_begins : (base : Base) (width : Option ℕ) (f : List ℕ) → Tests (is_some (read base (Some Start) f)) (ShapeBegins (Int base) width f)
-integer_begins base width f = by_case (read base (Some Start) f) (known base f) (read_radix base (Some Start) f tt)
+integer_begins : (numeral : Numeral) (width : Option ℕ) (f : List ℕ)
+    → Tests (is_some (read numeral (Some Start) f)) (ShapeBegins (Int numeral) width f)
+integer_begins numeral width f = by_case (read numeral (Some Start) f) (known numeral f) (read_radix numeral (Some Start) f tt)
   where
-    by_case : (o : Option Progress) → Known base o f → MayHaveRadix o → Tests (is_some o) (ShapeBegins (Int base) width f)
+    by_case : (o : Option Progress) → Known numeral o f → MayHaveRadix o → Tests (is_some o) (ShapeBegins (Int numeral) width f)
     by_case None h some = record {
       from = λ e. absurd (true≢false (sym e));
       to = λ b. absurd (h b.0 b.2.0 b.2.1 b.2.2);
     }
     by_case (Some p) h some =
-        let rest = completion base p some in
+        let rest = completion numeral p some in
         record {
           from = λ e. (rest.text, rest.bytes, (rest.negative, rest.magnitude, (h rest.text rest.negative rest.magnitude).1 rest.completes));
           to = λ b. refl;
@@ -213,20 +218,20 @@ are_bytes : (t : List ℕ) → AllBytes t → AreBytes t
 are_bytes [] h = tt
 are_bytes (b ∷ t) h = (h.0, are_bytes t h.1)
 
-float_begins : (width : Option ℕ) (f : List ℕ) → Tests (begins_float f) (ShapeBegins Float width f)
-float_begins width f = record {
-  from = λ e. let rest = (begins_decided f).0 e in (rest.0, are_bytes rest.0 rest.1, rest.2);
-  to = λ h. (begins_decided f).1 (h.0, all_bytes h.0 h.1, h.2);
+float_begins : (lead : Lead) (width : Option ℕ) (f : List ℕ) → Tests (begins_float_of (forms_of lead) f) (ShapeBegins (Float lead) width f)
+float_begins lead width f = record {
+  from = λ e. let rest = (begins_decided (forms_of lead) f).0 e in (rest.0, are_bytes rest.0 rest.1, rest.2);
+  to = λ h. (begins_decided (forms_of lead) f).1 (h.0, all_bytes h.0 h.1, h.2);
 }
 
 pub tests_begins : (shape : Shape) (width : Option ℕ) → IsProperShape shape → (f : List ℕ)
     → Tests (shape_begins shape width f) (ShapeBegins shape width f)
-tests_begins (Int base) width proper f = integer_begins base width f
-tests_begins Text width proper f = each_begins (λ b. is_white b ≡ false) is_ink 65 (lit≤ tt) refl tests_ink f
+tests_begins (Int numeral) width proper f = integer_begins numeral width f
+tests_begins (Text lead) width proper f = each_begins (λ b. is_white b ≡ false) is_ink 65 (lit≤ tt) refl tests_ink f
 tests_begins (Set members) width proper f =
     each_begins (λ b. has_byte members b ≡ true) (has_byte members) proper.0 proper.1 proper.2 (λ b. tests_itself (has_byte members b)) f
 tests_begins Chars width proper f = count_begins f (unwrap_or width 1)
-tests_begins Float width proper f = float_begins width f
+tests_begins (Float lead) width proper f = float_begins lead width f
 tests_begins Count width proper f = record { from = λ e. absurd (true≢false (sym e)); to = λ h. absurd h.2 }
 
 tests_within : (width : Option ℕ) (n : ℕ) → Tests (is_within width n) (IfSome width (λ w. n ≤ w))
@@ -240,8 +245,8 @@ tests_can_take c proper g = tests_both (tests_within c.width (length g)) (tests_
 
 some_begins : (shape : Shape) (width : Option ℕ) (f : List ℕ) (b : ℕ)
     → Tests (shape_begins shape width (f ++ b ∷ [])) (ShapeBegins shape width (f ++ b ∷ []))
-some_begins (Int base) width f b = integer_begins base width (f ++ b ∷ [])
-some_begins Text width f b = tests_begins Text width tt (f ++ b ∷ [])
+some_begins (Int numeral) width f b = integer_begins numeral width (f ++ b ∷ [])
+some_begins (Text lead) width f b = tests_begins (Text lead) width tt (f ++ b ∷ [])
 some_begins (Set members) width f b =
     let g = f ++ b ∷ [] in
     let all = tests_all (λ x. has_byte members x ≡ true) (has_byte members) (λ x. tests_itself (has_byte members x)) g in
@@ -250,7 +255,7 @@ some_begins (Set members) width f b =
       to = λ h. all.to (all_front (λ x. has_byte members x ≡ true) g h.0 h.2.1);
     }
 some_begins Chars width f b = tests_begins Chars width tt (f ++ b ∷ [])
-some_begins Float width f b = float_begins width (f ++ b ∷ [])
+some_begins (Float lead) width f b = float_begins lead width (f ++ b ∷ [])
 some_begins Count width f b = tests_begins Count width tt (f ++ b ∷ [])
 
 pub tests_can_take_more : (c : Conversion) (f : List ℕ) (b : ℕ) → Tests (can_take c (f ++ b ∷ [])) (CanTake c (f ++ b ∷ []))

@@ -103,10 +103,11 @@ module _ (piece : List ℕ) (count i number weight digit : ℕ) (room : 8 ≤ le
         front = i + 1;
         taken = before.taken * 10 + digit;
         least = omega (arith, below);
-        read = λ base sign. decimal_read base sign piece i 0 before.taken digit (omega (arith, at, room)) (omega (arith, value, high, low))
+        read = λ numeral sign. decimal_read numeral sign piece i 0 before.taken digit (omega (arith, at, room))
+            (omega (arith, value, high, low))
             (same ∙ sym value)
-            (subst (λ n. read base (Some (Digits sign 10 0)) (take n piece) ≡ Some (Digits sign 10 before.taken)) front
-            (before.read base sign));
+            (subst (λ n. read numeral (Some (Digits sign 10 0)) (take n piece) ≡ Some (Digits sign 10 before.taken)) front
+            (before.read numeral sign));
         small = ten_more i before.taken digit (subst (λ n. before.taken < 10 ^ n) front before.small) (omega (arith, same, high));
         is = omega (arith, is, product, tenfold);
       }
@@ -170,8 +171,8 @@ weighed_all piece count number most w =
     let front : w.front ≡ count = omega (arith, least, most) in
     let none : count - 8 ≡ 0 = omega (arith, most) in
     let is : number ≡ w.taken = w.is ∙ ap (λ n. w.taken * 10 ^ n) none ∙ omega arith in
-    λ base sign. subst (λ n. read base (Some (Digits sign 10 0)) (take count piece) ≡ Some (Digits sign 10 n)) (sym is)
-    (subst (λ n. read base (Some (Digits sign 10 0)) (take n piece) ≡ Some (Digits sign 10 w.taken)) front (w.read base sign))
+    λ numeral sign. subst (λ n. read numeral (Some (Digits sign 10 0)) (take count piece) ≡ Some (Digits sign 10 n)) (sym is)
+    (subst (λ n. read numeral (Some (Digits sign 10 0)) (take n piece) ≡ Some (Digits sign 10 w.taken)) front (w.read numeral sign))
 
 -- how far a byte is above `0`
 pub value_at : (piece values : List ℕ) (i : ℕ) → 8 ≤ length piece → i < 8 → values ≡ map (λ b. (b + 208) % 256) (chunk 0 8 piece)

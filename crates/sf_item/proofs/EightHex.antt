@@ -185,9 +185,9 @@ module _ (piece : List ℕ) (count i number weight digit : ℕ) (room : 8 ≤ le
           front = i + 1;
           taken = before.taken * 16 + digit;
           least = omega (arith, below);
-          read = λ base sign. hex_read base sign piece i 0 before.taken digit (omega (arith, at, room)) digit_low same
-              (subst (λ n. read base (Some (Digits sign 16 0)) (take n piece) ≡ Some (Digits sign 16 before.taken)) front
-              (before.read base sign));
+          read = λ numeral sign. hex_read numeral sign piece i 0 before.taken digit (omega (arith, at, room)) digit_low same
+              (subst (λ n. read numeral (Some (Digits sign 16 0)) (take n piece) ≡ Some (Digits sign 16 before.taken)) front
+              (before.read numeral sign));
           small = sixteen_more i before.taken digit (subst (λ n. before.taken < 16 ^ n) front before.small)
               (omega (arith, same, digit_low));
           is = omega (arith, is, product, more);
@@ -237,8 +237,8 @@ weighed_all piece count number most w =
     let front : w.front ≡ count = omega (arith, least, most) in
     let none : count - 8 ≡ 0 = omega (arith, most) in
     let is : number ≡ w.taken = w.is ∙ ap (λ n. w.taken * 16 ^ n) none ∙ omega arith in
-    λ base sign. subst (λ n. read base (Some (Digits sign 16 0)) (take count piece) ≡ Some (Digits sign 16 n)) (sym is)
-    (subst (λ n. read base (Some (Digits sign 16 0)) (take n piece) ≡ Some (Digits sign 16 w.taken)) front (w.read base sign))
+    λ numeral sign. subst (λ n. read numeral (Some (Digits sign 16 0)) (take count piece) ≡ Some (Digits sign 16 n)) (sym is)
+    (subst (λ n. read numeral (Some (Digits sign 16 0)) (take n piece) ≡ Some (Digits sign 16 w.taken)) front (w.read numeral sign))
 
 -- after fewer than eight digits stands another byte
 pub digits_end : (d : List ℕ) (count : ℕ) → 8 ≤ length d → count ≡ prefix_len is_hex_digit (take 8 d) → count < 8

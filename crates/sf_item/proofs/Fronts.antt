@@ -6,19 +6,19 @@ use Rattle.std.proofs.lemmas.List.{append_assoc, append-nil}
 use Rattle.std.proofs.lemmas.Grind.{common_steps}
 use Rattle.std.specs.List.{list_all}
 use Rattle.sf_base.specs.Sets.{has_byte}
-use Rattle.sf_format.specs.declared.directive.Base.{Base}
+use Rattle.sf_format.specs.declared.directive.Numeral.{Numeral}
 use Rattle.sf_format.specs.declared.directive.Shape.{Shape}
 use Rattle.sf_format.specs.declared.directive.Shape.TheVariants.{Int, Text, Set, Chars, Float, Count}
 use Rattle.sf_format.specs.declared.directive.Conversion.{Conversion}
 use Rattle.sf_float_read.specs.declared.item.reached.Reached as place
-use Rattle.sf_float_read.specs.declared.item.reached.Reached.TheVariants as places
 use Rattle.sf_float_read.specs.item.Tests as floats
+use Rattle.sf_item.specs.Matching.{forms_of}
 use Rattle.sf_item.specs.Radices.{zero_radix}
 use Rattle.sf_item.specs.Progress.{Progress, Start, Signed, Zero, Prefix, Digits, with_digit, advance}
 use Rattle.sf_item.specs.Taking.{IsInt}
 use Rattle.sf_item.specs.Tests.{read, is_ink, shape_begins, is_within, can_take, has_item}
 use Rattle.sf_item.proofs.Deciding.{Tests, read_radix}
-use Rattle.sf_item.proofs.Integers.{by_lt, HasRadix, MayHaveRadix, some_zero_radix}
+use Rattle.sf_item.proofs.Integers.{by_lt, HasRadix, MayHaveRadix, some_zero_radix, second_zero, zero_first}
 
 -- ---- tests
 
@@ -39,11 +39,11 @@ right_of false b e = absurd (true≢false (sym e))
 pub length_more : (f : List ℕ) (b : ℕ) → length (f ++ b ∷ []) ≡ length f + 1
 length_more f b = grind (arith, common_steps)
 
-read_front : (base : Base) (o : Option Progress) (f : List ℕ) (b : ℕ)
-    → is_some (read base o (f ++ b ∷ [])) ≡ true → is_some (read base o f) ≡ true
-read_front base None f b e = e
-read_front base (Some p) [] b e = refl
-read_front base (Some p) (x ∷ f) b e = read_front base (advance base p x) f b e
+read_front : (numeral : Numeral) (o : Option Progress) (f : List ℕ) (b : ℕ)
+    → is_some (read numeral o (f ++ b ∷ [])) ≡ true → is_some (read numeral o f) ≡ true
+read_front numeral None f b e = e
+read_front numeral (Some p) [] b e = refl
+read_front numeral (Some p) (x ∷ f) b e = read_front numeral (advance numeral p x) f b e
 
 float_front : (o : Option place.Reached) (f : List ℕ) (b : ℕ) → is_some (floats.read o (f ++ b ∷ [])) ≡ true
     → is_some (floats.read o f) ≡ true
@@ -65,11 +65,11 @@ short_front f b n e = less_at_most (length f) n (subst (λ m. nat_le m n ≡ tru
 
 pub shape_front : (shape : Shape) (width : Option ℕ) (f : List ℕ) (b : ℕ)
     → shape_begins shape width (f ++ b ∷ []) ≡ true → shape_begins shape width f ≡ true
-shape_front (Int base) width f b e = read_front base (Some Start) f b e
-shape_front Text width f b e = all_front is_ink f b e
+shape_front (Int numeral) width f b e = read_front numeral (Some Start) f b e
+shape_front (Text lead) width f b e = all_front is_ink f b e
 shape_front (Set members) width f b e = all_front (has_byte members) f b e
 shape_front Chars width f b e = short_front f b (unwrap_or width 1) e
-shape_front Float width f b e = float_front (Some places.Start) f b e
+shape_front (Float lead) width f b e = float_front (Some (floats.start_of (forms_of lead))) f b e
 shape_front Count width f b e = e
 
 within_front : (width : Option ℕ) (f : List ℕ) (b : ℕ)
@@ -99,11 +99,11 @@ HasItem Count = ⊥
 HasItem _ = Unit {0}
 
 nothing_begins : (shape : Shape) (width : Option ℕ) → HasItem shape → shape_begins shape width [] ≡ true
-nothing_begins (Int base) width h = refl
-nothing_begins Text width h = refl
+nothing_begins (Int numeral) width h = refl
+nothing_begins (Text lead) width h = refl
 nothing_begins (Set members) width h = refl
 nothing_begins Chars width h = nothing_fits (unwrap_or width 1)
-nothing_begins Float width h = refl
+nothing_begins (Float lead) width h = refl
 nothing_begins Count width h = absurd h
 
 -- before the first byte
@@ -113,11 +113,11 @@ item_can_take_nothing c h =
 
 -- the test says so
 pub tests_item : (shape : Shape) → Tests (has_item shape) (HasItem shape)
-tests_item (Int base) = record { from = λ e. tt; to = λ h. refl }
-tests_item Text = record { from = λ e. tt; to = λ h. refl }
+tests_item (Int numeral) = record { from = λ e. tt; to = λ h. refl }
+tests_item (Text lead) = record { from = λ e. tt; to = λ h. refl }
 tests_item (Set members) = record { from = λ e. tt; to = λ h. refl }
 tests_item Chars = record { from = λ e. tt; to = λ h. refl }
-tests_item Float = record { from = λ e. tt; to = λ h. refl }
+tests_item (Float lead) = record { from = λ e. tt; to = λ h. refl }
 tests_item Count = record { from = λ e. absurd (true≢false (sym e)); to = λ h. absurd h }
 
 -- ---- one 0 more
@@ -129,33 +129,35 @@ digit_goes_on sign radix value some =
     (λ above. absurd (omega (arith, some)))
 
 -- an integer can always go on with a 0
-goes_on : (base : Base) (p : Progress) → HasRadix p → (q : Progress) × (advance base p 48 ≡ Some q)
-goes_on base Start h = (Zero false, refl)
-goes_on base (Signed sign) h = (Zero sign, refl)
-goes_on base (Zero sign) h = digit_goes_on sign (zero_radix base) 0 (some_zero_radix base)
-goes_on base (Prefix sign radix) h = digit_goes_on sign radix 0 h
-goes_on base (Digits sign radix value) h = digit_goes_on sign radix value h
+goes_on : (numeral : Numeral) (p : Progress) → HasRadix p → (q : Progress) × (advance numeral p 48 ≡ Some q)
+goes_on numeral Start h = (Zero false, zero_first numeral)
+goes_on numeral (Signed sign) h = (Zero sign, refl)
+goes_on numeral (Zero sign) h =
+    subst (λ o. (q : Progress) × (o ≡ Some q)) (sym (second_zero numeral sign))
+    (digit_goes_on sign (zero_radix numeral) 0 (some_zero_radix numeral))
+goes_on numeral (Prefix sign radix) h = digit_goes_on sign radix 0 h
+goes_on numeral (Digits sign radix value) h = digit_goes_on sign radix value h
 
-pub read_more : (base : Base) (o : Option Progress) (f g : List ℕ) → read base o (f ++ g) ≡ read base (read base o f) g
-read_more base None f g = refl
-read_more base (Some p) [] g = refl
-read_more base (Some p) (b ∷ f) g = read_more base (advance base p b) f g
+pub read_more : (numeral : Numeral) (o : Option Progress) (f g : List ℕ) → read numeral o (f ++ g) ≡ read numeral (read numeral o f) g
+read_more numeral None f g = refl
+read_more numeral (Some p) [] g = refl
+read_more numeral (Some p) (b ∷ f) g = read_more numeral (advance numeral p b) f g
 
-zero_read : (base : Base) (o : Option Progress) → MayHaveRadix o → is_some o ≡ true → is_some (read base o (48 ∷ [])) ≡ true
-zero_read base None h some = some
-zero_read base (Some p) h some = let (q, is) = goes_on base p h in ap (λ o. is_some (read base o [])) is
+zero_read : (numeral : Numeral) (o : Option Progress) → MayHaveRadix o → is_some o ≡ true → is_some (read numeral o (48 ∷ [])) ≡ true
+zero_read numeral None h some = some
+zero_read numeral (Some p) h some = let (q, is) = goes_on numeral p h in ap (λ o. is_some (read numeral o [])) is
 
-pub zero_begins : (base : Base) (f : List ℕ) → is_some (read base (Some Start) f) ≡ true
-    → is_some (read base (Some Start) (f ++ 48 ∷ [])) ≡ true
-zero_begins base f some =
-    ap is_some (read_more base (Some Start) f (48 ∷ []))
-    ∙ zero_read base (read base (Some Start) f) (read_radix base (Some Start) f tt) some
+pub zero_begins : (numeral : Numeral) (f : List ℕ) → is_some (read numeral (Some Start) f) ≡ true
+    → is_some (read numeral (Some Start) (f ++ 48 ∷ [])) ≡ true
+zero_begins numeral f some =
+    ap is_some (read_more numeral (Some Start) f (48 ∷ []))
+    ∙ zero_read numeral (read numeral (Some Start) f) (read_radix numeral (Some Start) f tt) some
 
 integer_shape_goes_on : (shape : Shape) (width : Option ℕ) (f : List ℕ) → IsInt shape
     → shape_begins shape width f ≡ true → shape_begins shape width (f ++ 48 ∷ []) ≡ true
 integer_shape_goes_on shape width f int =
-    let (base, is) = int in
-    subst (λ s. shape_begins s width f ≡ true → shape_begins s width (f ++ 48 ∷ []) ≡ true) (sym is) (zero_begins base f)
+    let (numeral, is) = int in
+    subst (λ s. shape_begins s width f ≡ true → shape_begins s width (f ++ 48 ∷ []) ≡ true) (sym is) (zero_begins numeral f)
 
 -- within the width, an integer can go on with a 0
 pub integer_goes_on : (c : Conversion) (f : List ℕ) → IsInt c.shape → can_take c f ≡ true → is_within c.width (length f + 1) ≡ true

@@ -18,7 +18,7 @@ use Rattle.sf_item.proofs.Fronts.{tests_item, shape_front, item_can_take_nothing
 
 -- ---- fronts
 
-front_begins : (shape : Shape) (width : Option ℕ) (f t : List ℕ) → shape_begins shape width (f ++ t) ≡ true
+pub front_begins : (shape : Shape) (width : Option ℕ) (f t : List ℕ) → shape_begins shape width (f ++ t) ≡ true
     → shape_begins shape width f ≡ true
 front_begins shape width f [] h = ap (shape_begins shape width) (sym (append-nil f)) ∙ h
 front_begins shape width f (b ∷ t) h =
@@ -96,11 +96,11 @@ item_stays c proper x z k h inside = record {
 
 -- what begins an item is the same under each width, of characters alone not
 any_width : (shape : Shape) (width other : Option ℕ) (f : List ℕ) → shape ≢ Chars → ShapeBegins shape width f → ShapeBegins shape other f
-any_width (Int base) width other f counted h = h
-any_width Text width other f counted h = h
+any_width (Int numeral) width other f counted h = h
+any_width (Text lead) width other f counted h = h
 any_width (Set members) width other f counted h = h
 any_width Chars width other f counted h = absurd (counted refl)
-any_width Float width other f counted h = h
+any_width (Float lead) width other f counted h = h
 any_width Count width other f counted h = h
 
 module _ (c : Conversion) (proper : IsProperShape c.shape) (counted : c.shape ≢ Chars) (w : ℕ) (is : c.width ≡ Some w) (x : List ℕ) (k : ℕ)

@@ -10,6 +10,10 @@ use Rattle.std.specs.Prelude.{IsTrue}
 use Rattle.std.specs.Char.{digit_value}
 use Rattle.std.specs.List.{list_all, prefix_len}
 use Rattle.sf_base.specs.declared.values.Kind.TheVariants.{I32}
+use Rattle.sf_format.specs.declared.directive.Lead.{Lead}
+use Rattle.sf_format.specs.declared.directive.Lead.TheVariants.{Any}
+use Rattle.sf_format.specs.declared.directive.Numeral.{Numeral}
+use Rattle.sf_format.specs.Leads.{has_plus, has_minus, has_prefix}
 use Rattle.sf_format.specs.declared.directive.Base.{Base}
 use Rattle.sf_format.specs.declared.directive.Base.TheVariants.{Dec, Hex}
 use Rattle.sf_format.specs.declared.directive.Shape.{Shape}
@@ -21,12 +25,12 @@ use Rattle.sf_item.specs.declared.reached.Reached.TheVariants as reached
 use Rattle.sf_item.specs.declared.whole.WholeInteger.{WholeInteger}
 use Rattle.sf_item.specs.Matching.{IsItem, Matches}
 use Rattle.sf_item.specs.Progress.{Progress, Start, Zero, Prefix, Digits, integer_of, advance, with_digit, with_first_digit, after_zero}
-use Rattle.sf_item.specs.Radices.{first_radix}
+use Rattle.sf_item.specs.Radices.{radices, first_radix, radix_of_letter, prefix_radix}
 use Rattle.sf_item.specs.Scan.{FitsLeft, HoldsNumber, Shows, ShowsNext}
 use Rattle.sf_item.specs.Tests.{read, integer_in, integer_at, is_within, shape_begins, shape_matches, can_take, has_item}
 use Rattle.sf_item.specs.Wholes.{EndsWithin, NoneEndsWithin, ItemWithin, NoItemWithin, ReadsIn, DigitsOf, LongDigits, signed_as, SignOf}
-use Rattle.sf_item.specs.Wholes.{HasPrefixAt, HexOpening}
-use Rattle.sf_item.proofs.Integers.{by_lt, by_eq, by_sign, by_prefix, plain_zero}
+use Rattle.sf_item.specs.Wholes.{HasPrefixAt, HexOpening, led_by}
+use Rattle.sf_item.proofs.Integers.{by_lt, by_eq, by_sign, by_prefix, plain_zero, zero_first}
 use Rattle.sf_item.proofs.Deciding.{integer_at_is, integer_from_at, tests_matches}
 use Rattle.sf_item.proofs.Fronts.{read_more, one_more}
 use Rattle.sf_item.proofs.ItemLaws.{item_ends, item_stays, item_whole, same_item}
@@ -35,23 +39,25 @@ use Rattle.sf_item.proofs.Readings.{rest, rest_is, length_rest}
 use Rattle.sf_item.proofs.Scanning.{read_push, read_nothing, shows_none, shows_some}
 
 -- decimal digits were read whose number is m: so it is told, and so it goes on
-pub record IsDecimal (sign : Bool) (m : ℕ) (p : Progress) : Type 0 where
+pub record IsDecimal (lead : Lead) (sign : Bool) (m : ℕ) (p : Progress) : Type 0 where
   pub integer : integer_of p ≡ Some (sign, m)
-  pub goes : (b : ℕ) → advance Dec p b ≡ with_digit sign 10 m b
+  pub goes : (b : ℕ) → advance (led_by lead Dec) p b ≡ with_digit sign 10 m b
 
 -- so far an integer was read, and it is such
-abbrev pub ReadsTo : Bool → ℕ → Option Progress → Type 0
-ReadsTo sign m o = (p : Progress) × (o ≡ Some p) × IsDecimal sign m p
+abbrev pub ReadsTo : Lead → Bool → ℕ → Option Progress → Type 0
+ReadsTo lead sign m o = (p : Progress) × (o ≡ Some p) × IsDecimal lead sign m p
 
 -- ---- the first digit
 
-first_digit : (sign : Bool) (b : ℕ) → digit_value b < 10 → ReadsTo sign (0 * 10 + digit_value b) (with_first_digit Dec sign b)
-first_digit sign b low =
-    by_eq b 48 (λ v. ReadsTo sign (0 * 10 + digit_value b) (cond v (Some (Zero sign)) (with_digit sign 10 0 b)))
-    (λ is. subst (λ c. ReadsTo sign (0 * 10 + digit_value c) (Some (Zero sign))) (sym is)
-    (Zero sign, refl, record { integer = refl; goes = λ c. plain_zero Dec sign c refl refl }))
+first_digit : (lead : Lead) (sign : Bool) (b : ℕ) → digit_value b < 10
+    → ReadsTo lead sign (0 * 10 + digit_value b) (with_first_digit (led_by lead Dec) sign b)
+first_digit lead sign b low =
+    by_eq b 48 (λ v. ReadsTo lead sign (0 * 10 + digit_value b) (cond v (Some (Zero sign)) (with_digit sign 10 0 b)))
+    (λ is. subst (λ c. ReadsTo lead sign (0 * 10 + digit_value c) (Some (Zero sign))) (sym is)
+    (Zero sign, refl, record { integer = refl; goes = λ c. plain_zero (led_by lead Dec) sign c refl refl }))
     (λ other.
-    by_lt (digit_value b) 10 (λ v. ReadsTo sign (0 * 10 + digit_value b) (cond v (Some (Digits sign 10 (0 * 10 + digit_value b))) None))
+    by_lt (digit_value b) 10
+    (λ v. ReadsTo lead sign (0 * 10 + digit_value b) (cond v (Some (Digits sign 10 (0 * 10 + digit_value b))) None))
     (λ below. (Digits sign 10 (0 * 10 + digit_value b), refl, record { integer = refl; goes = λ c. refl }))
     (λ above. absurd (omega (arith, low, above))))
 
@@ -69,10 +75,10 @@ digit_ends sign radix m b high =
     (λ above. refl)
 
 -- what goes on as digits begins with one
-begins_low : (base : Base) (sign : Bool) (radix m n b : ℕ) (t : List ℕ)
-    → read base (Some (Digits sign radix m)) (b ∷ t) ≡ Some (Digits sign radix n) → digit_value b < radix
-begins_low base sign radix m n b t reads =
-    by_lt (digit_value b) radix (λ v. read base (cond v (Some (Digits sign radix (m * radix + digit_value b))) None) t
+begins_low : (numeral : Numeral) (sign : Bool) (radix m n b : ℕ) (t : List ℕ)
+    → read numeral (Some (Digits sign radix m)) (b ∷ t) ≡ Some (Digits sign radix n) → digit_value b < radix
+begins_low numeral sign radix m n b t reads =
+    by_lt (digit_value b) radix (λ v. read numeral (cond v (Some (Digits sign radix (m * radix + digit_value b))) None) t
     ≡ Some (Digits sign radix n) → digit_value b < radix)
     (λ below h. below)
     (λ above h. absurd (nothing h))
@@ -82,12 +88,14 @@ begins_low base sign radix m n b t reads =
     nothing h = cc
 
 -- a first byte that is no sign
-bare_first : (base : Base) (b : ℕ) → b ≢ 43 → b ≢ 45 → advance base Start b ≡ with_first_digit base false b
-bare_first base b no_plus no_minus = by_sign base b (λ o. o ≡ with_first_digit base false b) (λ is. absurd (no_plus is))
-    (λ is. absurd (no_minus is)) (λ _ _. refl)
+bare_first : (numeral : Numeral) (b : ℕ) → (has_plus numeral.lead ≡ true → b ≢ 43) → (has_minus numeral.lead ≡ true → b ≢ 45)
+    → advance numeral Start b ≡ with_first_digit numeral false b
+bare_first numeral b no_plus no_minus =
+    by_sign numeral b (λ o. o ≡ with_first_digit numeral false b) (λ can is. absurd (no_plus can is))
+    (λ can is. absurd (no_minus can is)) (λ _ _. refl)
 
-plain_first : (base : Base) (b : ℕ) → digit_value b < 16 → advance base Start b ≡ with_first_digit base false b
-plain_first base b low = bare_first base b no_plus no_minus
+plain_first : (numeral : Numeral) (b : ℕ) → digit_value b < 16 → advance numeral Start b ≡ with_first_digit numeral false b
+plain_first numeral b low = bare_first numeral b (λ _. no_plus) (λ _. no_minus)
   where
     no_plus : b ≡ 43 → ⊥
     no_plus is = let high : digit_value 43 < 16 = subst (λ c. digit_value c < 16) is low in omega (arith, high)
@@ -96,108 +104,118 @@ plain_first base b low = bare_first base b no_plus no_minus
     no_minus is = let high : digit_value 45 < 16 = subst (λ c. digit_value c < 16) is low in omega (arith, high)
 
 -- a byte that is no digit is no first digit
-first_ends : (base : Base) (sign : Bool) (b : ℕ) → 0 < first_radix base → first_radix base ≤ digit_value b
-    → with_first_digit base sign b ≡ None
-first_ends base sign b some high =
-    by_eq b 48 (λ v. ◌≡◌ {A = Option Progress} (cond v (Some (Zero sign)) (with_digit sign (first_radix base) 0 b)) None)
-    (λ is. absurd (let none : first_radix base ≤ digit_value 48 = subst (λ c. first_radix base ≤ digit_value c) is high in
+first_ends : (numeral : Numeral) (sign : Bool) (b : ℕ) → 0 < first_radix numeral → first_radix numeral ≤ digit_value b
+    → with_first_digit numeral sign b ≡ None
+first_ends numeral sign b some high =
+    by_eq b 48 (λ v. ◌≡◌ {A = Option Progress} (cond v (Some (Zero sign)) (with_digit sign (first_radix numeral) 0 b)) None)
+    (λ is. absurd (let none : first_radix numeral ≤ digit_value 48 = subst (λ c. first_radix numeral ≤ digit_value c) is high in
     omega (arith, none, some)))
-    (λ other. digit_ends sign (first_radix base) 0 b high)
+    (λ other. digit_ends sign (first_radix numeral) 0 b high)
 
 -- nor does it follow a sign
-sign_ends : (base : Base) (count : ℕ) (sign : Bool) (b : ℕ) → 0 < first_radix base → first_radix base ≤ digit_value b
-    → (count ≡ 0 → (b ≢ 43) × (b ≢ 45))
-    → advance base (signed_as count sign) b ≡ None
-sign_ends base zero sign b some high bare = let (no_plus, no_minus) = bare refl in
-    bare_first base b no_plus no_minus ∙ first_ends base false b some high
-sign_ends base (suc k) sign b some high bare = first_ends base sign b some high
+sign_ends : (numeral : Numeral) (count : ℕ) (sign : Bool) (b : ℕ) → 0 < first_radix numeral → first_radix numeral ≤ digit_value b
+    → (count ≡ 0 → (has_plus numeral.lead ≡ true → b ≢ 43) × (has_minus numeral.lead ≡ true → b ≢ 45))
+    → advance numeral (signed_as count sign) b ≡ None
+sign_ends numeral zero sign b some high bare = let (no_plus, no_minus) = bare refl in
+    bare_first numeral b no_plus no_minus ∙ first_ends numeral false b some high
+sign_ends numeral (suc k) sign b some high bare = first_ends numeral sign b some high
 
 -- ---- digits after what was read
 
 same_number : (sign : Bool) (radix m n : ℕ) → ◌≡◌ {A = Option Progress} (Some (Digits sign radix m)) (Some (Digits sign radix n)) → m ≡ n
 same_number sign radix m n h = cc
 
-decimal_goes : (sign : Bool) (m n : ℕ) (p : Progress) (t : List ℕ) → IsDecimal sign m p
-    → read Dec (Some (Digits sign 10 m)) t ≡ Some (Digits sign 10 n)
-    → ReadsTo sign n (read Dec (Some p) t)
-decimal_goes sign m n p [] is reads = (p, refl, subst (λ k. IsDecimal sign k p) (same_number sign 10 m n reads) is)
-decimal_goes sign m n p (b ∷ t) is reads = (
+decimal_goes : (lead : Lead) (sign : Bool) (m n : ℕ) (p : Progress) (t : List ℕ) → IsDecimal lead sign m p
+    → read (led_by lead Dec) (Some (Digits sign 10 m)) t ≡ Some (Digits sign 10 n)
+    → ReadsTo lead sign n (read (led_by lead Dec) (Some p) t)
+decimal_goes lead sign m n p [] is reads = (p, refl, subst (λ k. IsDecimal lead sign k p) (same_number sign 10 m n reads) is)
+decimal_goes lead sign m n p (b ∷ t) is reads = (
   Digits sign 10 n,
-  ap (λ o. read Dec o t) (is.goes b) ∙ reads,
+  ap (λ o. read (led_by lead Dec) o t) (is.goes b) ∙ reads,
   record { integer = refl; goes = λ c. refl },
 )
 
-signed_goes : (sign : Bool) (n b : ℕ) (t : List ℕ) → read Dec (Some (Digits sign 10 0)) (b ∷ t) ≡ Some (Digits sign 10 n)
-    → ReadsTo sign n (read Dec (with_first_digit Dec sign b) t)
-signed_goes sign n b t reads =
-    let low = begins_low Dec sign 10 0 n b t reads in
-    let (p, is, decimal) = first_digit sign b low in
-    let next : read Dec (Some (Digits sign 10 (0 * 10 + digit_value b))) t ≡ Some (Digits sign 10 n) =
-    ap (λ o. read Dec o t) (sym (digit_more sign 0 b low)) ∙ reads in
-    let (q, goes, ends) = decimal_goes sign (0 * 10 + digit_value b) n p t decimal next in
-    (q, ap (λ o. read Dec o t) is ∙ goes, ends)
+signed_goes : (lead : Lead) (sign : Bool) (n b : ℕ) (t : List ℕ)
+    → read (led_by lead Dec) (Some (Digits sign 10 0)) (b ∷ t) ≡ Some (Digits sign 10 n)
+    → ReadsTo lead sign n (read (led_by lead Dec) (with_first_digit (led_by lead Dec) sign b) t)
+signed_goes lead sign n b t reads =
+    let low = begins_low (led_by lead Dec) sign 10 0 n b t reads in
+    let (p, is, decimal) = first_digit lead sign b low in
+    let next : read (led_by lead Dec) (Some (Digits sign 10 (0 * 10 + digit_value b))) t ≡ Some (Digits sign 10 n) =
+    ap (λ o. read (led_by lead Dec) o t) (sym (digit_more sign 0 b low)) ∙ reads in
+    let (q, goes, ends) = decimal_goes lead sign (0 * 10 + digit_value b) n p t decimal next in
+    (q, ap (λ o. read (led_by lead Dec) o t) is ∙ goes, ends)
 
 -- after a sign or none
-digits_go : (start : ℕ) (sign : Bool) (t : List ℕ) (n : ℕ) → (start ≡ 0 → sign ≡ false) → 0 < length t
-    → read Dec (Some (Digits sign 10 0)) t ≡ Some (Digits sign 10 n) → ReadsTo sign n (read Dec (Some (signed_as start sign)) t)
-digits_go start sign [] n plain some reads = absurd (omega (arith, some))
-digits_go zero sign (b ∷ t) n plain some reads =
-    let low = begins_low Dec sign 10 0 n b t reads in
-    let (q, goes, ends) = signed_goes sign n b t reads in (
+digits_go : (lead : Lead) (start : ℕ) (sign : Bool) (t : List ℕ) (n : ℕ) → (start ≡ 0 → sign ≡ false) → 0 < length t
+    → read (led_by lead Dec) (Some (Digits sign 10 0)) t ≡ Some (Digits sign 10 n)
+    → ReadsTo lead sign n (read (led_by lead Dec) (Some (signed_as start sign)) t)
+digits_go lead start sign [] n plain some reads = absurd (omega (arith, some))
+digits_go lead zero sign (b ∷ t) n plain some reads =
+    let low = begins_low (led_by lead Dec) sign 10 0 n b t reads in
+    let (q, goes, ends) = signed_goes lead sign n b t reads in (
       q,
-      ap (λ o. read Dec o t) (plain_first Dec b (omega (arith, low)) ∙ ap (λ s. with_first_digit Dec s b) (sym (plain refl))) ∙ goes,
+      ap (λ o. read (led_by lead Dec) o t) (plain_first (led_by lead Dec) b (omega (arith, low))
+          ∙ ap (λ s. with_first_digit (led_by lead Dec) s b) (sym (plain refl))) ∙ goes,
       ends,
     )
-digits_go (suc k) sign (b ∷ t) n plain some reads = signed_goes sign n b t reads
+digits_go lead (suc k) sign (b ∷ t) n plain some reads = signed_goes lead sign n b t reads
 
 -- ---- the opening
 
 -- digits were read whose number is n, after how far the integer was read
-pub record Goes (base : Base) (radix : ℕ) (front : List ℕ) (state : Progress) (start count n : ℕ) (sign : Bool) : Type 0 where
+pub record Goes (numeral : Numeral) (radix : ℕ) (front : List ℕ) (state : Progress) (start count n : ℕ) (sign : Bool) : Type 0 where
   pub p : Progress
-  pub reads : read base (Some state) (take count (rest front start)) ≡ Some p
+  pub reads : read numeral (Some state) (take count (rest front start)) ≡ Some p
   pub told : integer_of p ≡ Some (sign, n)
   pub ends : start + count < length front → radix ≤ digit_value (get_or front (start + count) 0)
-      → advance base p (get_or front (start + count) 0) ≡ None
+      → advance numeral p (get_or front (start + count) 0) ≡ None
 
 -- so many bytes were read, which are no integer, and what follows them goes on with digits of the radix or not at all
-pub record Opened (base : Base) (radix : ℕ) (front : List ℕ) (start : ℕ) (sign : Bool) : Type 0 where
+pub record Opened (numeral : Numeral) (radix : ℕ) (front : List ℕ) (start : ℕ) (sign : Bool) : Type 0 where
   pub inside : start ≤ length front
   pub state : Progress
-  pub taken : read base (Some Start) (take start front) ≡ Some state
+  pub taken : read numeral (Some Start) (take start front) ≡ Some state
   pub untold : integer_of state ≡ None
-  pub empty : start < length front → radix ≤ digit_value (get_or front start 0) → advance base state (get_or front start 0) ≡ None
+  pub empty : start < length front → radix ≤ digit_value (get_or front start 0) → advance numeral state (get_or front start 0) ≡ None
   pub goes : (count n : ℕ) → 0 < count → count ≤ length (rest front start) → ReadsIn radix 0 (take count (rest front start)) n
-      → Goes base radix front state start count n sign
+      → Goes numeral radix front state start count n sign
 
 sign_untold : (count : ℕ) (sign : Bool) → integer_of (signed_as count sign) ≡ None
 sign_untold zero sign = refl
 sign_untold (suc k) sign = refl
 
 -- a sign or none, before a byte that is no digit
-signed_ends : (base : Base) (front : List ℕ) (start : ℕ) (sign : Bool) → SignOf front start sign → 0 < first_radix base
-    → start < length front → first_radix base ≤ digit_value (get_or front start 0)
-    → advance base (signed_as start sign) (get_or front start 0) ≡ None
-signed_ends base front start sign s some below high = sign_ends base start sign (get_or front start 0) some high bare
+signed_ends : (numeral : Numeral) (front : List ℕ) (start : ℕ) (sign : Bool) → SignOf numeral.lead front start sign
+    → 0 < first_radix numeral
+    → start < length front → first_radix numeral ≤ digit_value (get_or front start 0)
+    → advance numeral (signed_as start sign) (get_or front start 0) ≡ None
+signed_ends numeral front start sign s some below high = sign_ends numeral start sign (get_or front start 0) some high bare
   where
-    bare : start ≡ 0 → (get_or front start 0 ≢ 43) × (get_or front start 0 ≢ 45)
-    bare none = subst (λ n. (get_or front n 0 ≢ 43) × (get_or front n 0 ≢ 45)) (sym none) (s.bare none (omega (arith, below)))
+    bare : start ≡ 0
+        → (has_plus numeral.lead ≡ true → get_or front start 0 ≢ 43) × (has_minus numeral.lead ≡ true → get_or front start 0 ≢ 45)
+    bare none =
+        subst (λ n. (has_plus numeral.lead ≡ true → get_or front n 0 ≢ 43) × (has_minus numeral.lead ≡ true → get_or front n 0 ≢ 45))
+        (sym none)
+        (s.bare none (omega (arith, below)))
 
-pub decimal_opened : (front : List ℕ) (start : ℕ) (sign : Bool) → SignOf front start sign → Opened Dec 10 front start sign
-decimal_opened front start sign s = record {
+pub decimal_opened : (lead : Lead) (front : List ℕ) (start : ℕ) (sign : Bool) → SignOf lead front start sign
+    → Opened (led_by lead Dec) 10 front start sign
+decimal_opened lead front start sign s = record {
   inside = s.within;
   state = signed_as start sign;
   taken = s.read Dec;
   untold = sign_untold start sign;
-  empty = signed_ends Dec front start sign s (omega arith);
+  empty = signed_ends (led_by lead Dec) front start sign s (omega arith);
   goes = goes;
 }
   where
     goes : (count n : ℕ) → 0 < count → count ≤ length (rest front start) → ReadsIn 10 0 (take count (rest front start)) n
-        → Goes Dec 10 front (signed_as start sign) start count n sign
+        → Goes (led_by lead Dec) 10 front (signed_as start sign) start count n sign
     goes count n some most reads =
         let t = take count (rest front start) in
-        let (q, is, decimal) = digits_go start sign t n s.plain (rw (length-take-le count (rest front start) most) some) (reads Dec sign) in
+        let (q, is, decimal) = digits_go lead start sign t n s.plain (rw (length-take-le count (rest front start) most) some)
+        (reads (led_by lead Dec) sign) in
         record {
           p = q;
           reads = is;
@@ -215,7 +233,7 @@ beyond : (width : Option ℕ) (k : ℕ) → width ≡ Some k → is_within width
 beyond width k is = subst (λ v. is_within v (k + 1) ≡ false) (sym is) (grind (arith, nat_tests))
 
 abbrev a_conversion : Shape → Option ℕ → Conversion
-a_conversion shape width = record { shape = shape; kind = I32; width = width; slot = None; optional = false }
+a_conversion shape width = record { shape = shape; kind = I32; width = width; slot = None; optional = false; column = false }
 
 abbrev magnitude_in : Option (Bool × ℕ) → ℕ
 magnitude_in None = 0
@@ -284,35 +302,35 @@ module _ (piece front : List ℕ) (width : Option ℕ) (cut : front ≡ take (le
         same_item c takes proper piece n k (subst (λ x. IsItem c x n) (append-nil piece) (item c refl refl [])) (item_is c refl refl proper)
 
   -- an integer was read up to a byte with which it doesn't go on
-  module _ (base : Base) (k : ℕ) (fits : k ≤ length front) (q : Progress) (taken : read base (Some Start) (take k front) ≡ Some q)
-      (ends : k < length front → advance base q (get_or front k 0) ≡ None) where
-    stops : k < length front → shape_begins (Int base) width (take (k + 1) front) ≡ false
+  module _ (numeral : Numeral) (k : ℕ) (fits : k ≤ length front) (q : Progress) (taken : read numeral (Some Start) (take k front) ≡ Some q)
+      (ends : k < length front → advance numeral q (get_or front k 0) ≡ None) where
+    stops : k < length front → shape_begins (Int numeral) width (take (k + 1) front) ≡ false
     stops below =
-        ap is_some (ap (read base (Some Start)) (sym (one_more [] front k 0 below))
-        ∙ read_push base (take k front) (get_or front k 0) q taken ∙ ends below)
+        ap is_some (ap (read numeral (Some Start)) (sym (one_more [] front k 0 below))
+        ∙ read_push numeral (take k front) (get_or front k 0) q taken ∙ ends below)
 
-    told_is : integer_at base (take k piece) ≡ integer_of q
-    told_is = ap (integer_at base) (sym (same_front k fits)) ∙ ap integer_in taken
+    told_is : integer_at numeral (take k piece) ≡ integer_of q
+    told_is = ap (integer_at numeral) (sym (same_front k fits)) ∙ ap integer_in taken
 
     pub ends_within : (sign : Bool) (m : ℕ) → integer_of q ≡ Some (sign, m) → k < length piece
-        → EndsWithin base width piece (record { bytes = k; negative = sign; magnitude = m })
+        → EndsWithin numeral width piece (record { bytes = k; negative = sign; magnitude = m })
     ends_within sign m told behind = record {
       behind = behind;
-      item = λ c shape same_width. item_within (Int base) k fits (ap is_some taken) stops behind c shape same_width tt;
-      integer = integer_from_at base (take k piece) sign m (told_is ∙ told);
+      item = λ c shape same_width. item_within (Int numeral) k fits (ap is_some taken) stops behind c shape same_width tt;
+      integer = integer_from_at numeral (take k piece) sign m (told_is ∙ told);
     }
 
     -- no other integer ends within the piece
-    pub only_end : (w : WholeInteger) → EndsWithin base width piece w → (w.bytes ≡ k) × (integer_of q ≡ Some (w.negative, w.magnitude))
+    pub only_end : (w : WholeInteger) → EndsWithin numeral width piece w → (w.bytes ≡ k) × (integer_of q ≡ Some (w.negative, w.magnitude))
     only_end w is =
-        let same = only_item (Int base) k fits (ap is_some taken) stops refl tt w.bytes is.item in (
+        let same = only_item (Int numeral) k fits (ap is_some taken) stops refl tt w.bytes is.item in (
           same,
-          sym told_is ∙ ap (λ n. integer_at base (take n piece)) (sym same)
-              ∙ integer_at_is base (take w.bytes piece) w.negative w.magnitude is.integer,
+          sym told_is ∙ ap (λ n. integer_at numeral (take n piece)) (sym same)
+              ∙ integer_at_is numeral (take w.bytes piece) w.negative w.magnitude is.integer,
         )
 
   -- digits after an opening
-  module _ (base : Base) (radix start count number : ℕ) (sign : Bool) (opened : Opened base radix front start sign)
+  module _ (numeral : Numeral) (radix start count number : ℕ) (sign : Bool) (opened : Opened numeral radix front start sign)
       (digits : DigitsOf radix (rest front start) count number) where
     far : start + count ≤ length front
     far = let long = length_rest front start in let most = digits.within in let inside = opened.inside in omega (arith, most, long, inside)
@@ -331,20 +349,20 @@ module _ (piece front : List ℕ) (width : Option ℕ) (cut : front ≡ take (le
     -- how far the integer is read with them
     record IsRead : Type 0 where
       pub q : Progress
-      pub taken : read base (Some Start) (take (start + count) front) ≡ Some q
+      pub taken : read numeral (Some Start) (take (start + count) front) ≡ Some q
       pub told : 0 < count → integer_of q ≡ Some (sign, number)
       pub untold : count ≡ 0 → integer_of q ≡ None
-      pub ends : start + count < length front → advance base q (get_or front (start + count) 0) ≡ None
+      pub ends : start + count < length front → advance numeral q (get_or front (start + count) 0) ≡ None
 
     no_digits : count ≡ 0 → IsRead
     no_digits none =
         let all : start + count ≡ start = omega (arith, none) in
         record {
           q = opened.state;
-          taken = ap (λ n. read base (Some Start) (take n front)) all ∙ opened.taken;
+          taken = ap (λ n. read numeral (Some Start) (take n front)) all ∙ opened.taken;
           told = λ some. absurd (omega (arith, none, some));
           untold = λ _. opened.untold;
-          ends = λ below. subst (λ n. advance base opened.state (get_or front n 0) ≡ None) (sym all)
+          ends = λ below. subst (λ n. advance numeral opened.state (get_or front n 0) ≡ None) (sym all)
               (opened.empty (omega (arith, below, none)) (subst (λ n. radix ≤ digit_value (get_or front n 0)) all (next below)));
         }
 
@@ -353,8 +371,8 @@ module _ (piece front : List ℕ) (width : Option ℕ) (cut : front ≡ take (le
         let g = opened.goes count number some digits.within digits.read in
         record {
           q = g.p;
-          taken = ap (read base (Some Start)) parts ∙ read_more base (Some Start) (take start front) (take count (rest front start))
-              ∙ ap (λ o. read base o (take count (rest front start))) opened.taken ∙ g.reads;
+          taken = ap (read numeral (Some Start)) parts ∙ read_more numeral (Some Start) (take start front) (take count (rest front start))
+              ∙ ap (λ o. read numeral o (take count (rest front start))) opened.taken ∙ g.reads;
           told = λ _. g.told;
           untold = λ none. absurd (omega (arith, none, some));
           ends = λ below. g.ends below (next below);
@@ -363,17 +381,17 @@ module _ (piece front : List ℕ) (width : Option ℕ) (cut : front ≡ take (le
     is_read : IsRead
     is_read = elim (eq-zero-or-pos count) [ inl none ↦ no_digits none | inr some ↦ some_digits some ]
 
-    pub whole_integer : 0 < count → start + count < length piece → EndsWithin base width piece
+    pub whole_integer : 0 < count → start + count < length piece → EndsWithin numeral width piece
         (record { bytes = start + count; negative = sign; magnitude = number })
-    whole_integer some behind = ends_within base (start + count) far is_read.q is_read.taken is_read.ends sign number
+    whole_integer some behind = ends_within numeral (start + count) far is_read.q is_read.taken is_read.ends sign number
         (is_read.told some) behind
 
-    pub only_integer : (w : WholeInteger) → EndsWithin base width piece w
+    pub only_integer : (w : WholeInteger) → EndsWithin numeral width piece w
         → (start + count < length piece) × (0 < count) × (w.magnitude ≡ number)
     only_integer w is = by_count (eq-zero-or-pos count)
       where
         end : (w.bytes ≡ start + count) × (integer_of is_read.q ≡ Some (w.negative, w.magnitude))
-        end = only_end base (start + count) far is_read.q is_read.taken is_read.ends w is
+        end = only_end numeral (start + count) far is_read.q is_read.taken is_read.ends w is
 
         nothing : ◌≡◌ {A = Option (Bool × ℕ)} None (Some (w.negative, w.magnitude)) → ⊥
         nothing h = cc
@@ -386,11 +404,11 @@ module _ (piece front : List ℕ) (width : Option ℕ) (cut : front ≡ take (le
         by_count (inr some) = (subst (λ n. n < length piece) end.0 is.behind, some, same (sym end.1 ∙ is_read.told some))
 
     -- none ends within the piece where it has no digits, or they end with the piece
-    pub no_integer : (0 < count → start + count < length piece → ⊥) → NoneEndsWithin base width piece
+    pub no_integer : (0 < count → start + count < length piece → ⊥) → NoneEndsWithin numeral width piece
     no_integer none w is = let (behind, some, _) = only_integer w is in absurd (none some behind)
 
     -- nor a small one, where their number is large
-    pub large_integer : 2 ^ 64 ≤ number → NoneEndsWithin base width piece
+    pub large_integer : 2 ^ 64 ≤ number → NoneEndsWithin numeral width piece
     large_integer large w is = let (_, _, same) = only_integer w is in omega (arith, large, same)
 
 -- ---- the opening of a hexadecimal integer
@@ -403,59 +421,69 @@ no_letter : (b : ℕ) → digit_value b < 16 → (b ≡ 120) ⊎ (b ≡ 88) → 
 no_letter b low (inl is) = let high : digit_value 120 < 16 = subst (λ c. digit_value c < 16) is low in omega (arith, high)
 no_letter b low (inr is) = let high : digit_value 88 < 16 = subst (λ c. digit_value c < 16) is low in omega (arith, high)
 
-zero_goes : (sign : Bool) (t : List ℕ) (n : ℕ) → read Hex (Some (Digits sign 16 0)) (48 ∷ t) ≡ Some (Digits sign 16 n)
-    → (p : Progress) × (read Hex (Some (Zero sign)) t ≡ Some p) × HexRead sign (48 ∷ t) n p
-zero_goes sign [] n reads = (Zero sign, refl, inr (refl, refl, sym (same_number sign 16 0 n reads)))
-zero_goes sign (b ∷ t) n reads =
-    let low = begins_low Hex sign 16 0 n b t reads in (
+zero_goes : (lead : Lead) (sign : Bool) (t : List ℕ) (n : ℕ)
+    → read (led_by lead Hex) (Some (Digits sign 16 0)) (48 ∷ t) ≡ Some (Digits sign 16 n)
+    → (p : Progress) × (read (led_by lead Hex) (Some (Zero sign)) t ≡ Some p) × HexRead sign (48 ∷ t) n p
+zero_goes lead sign [] n reads = (Zero sign, refl, inr (refl, refl, sym (same_number sign 16 0 n reads)))
+zero_goes lead sign (b ∷ t) n reads =
+    let low = begins_low (led_by lead Hex) sign 16 0 n b t reads in (
       Digits sign 16 n,
-      by_prefix Hex b (λ o. read Hex (after_zero sign 16 b o) t ≡ Some (Digits sign 16 n)) (λ x. absurd (no_letter b low x))
-          (λ other. reads) reads,
+      by_prefix (led_by lead Hex) b (λ o. read (led_by lead Hex) (after_zero sign 16 b o) t ≡ Some (Digits sign 16 n))
+          (λ _ x. absurd (no_letter b low x))
+          (λ _ other. reads) reads,
       inl refl,
     )
 
-first_goes : (sign : Bool) (b : ℕ) (t : List ℕ) (n : ℕ) → read Hex (Some (Digits sign 16 0)) (b ∷ t) ≡ Some (Digits sign 16 n)
-    → (p : Progress) × (read Hex (with_first_digit Hex sign b) t ≡ Some p) × HexRead sign (b ∷ t) n p
-first_goes sign b t n reads =
-    by_eq b 48 (λ v. (p : Progress) × (read Hex (cond v (Some (Zero sign)) (with_digit sign 16 0 b)) t ≡ Some p) × HexRead sign (b ∷ t) n p)
+first_goes : (lead : Lead) (sign : Bool) (b : ℕ) (t : List ℕ) (n : ℕ)
+    → read (led_by lead Hex) (Some (Digits sign 16 0)) (b ∷ t) ≡ Some (Digits sign 16 n)
+    → (p : Progress) × (read (led_by lead Hex) (with_first_digit (led_by lead Hex) sign b) t ≡ Some p) × HexRead sign (b ∷ t) n p
+first_goes lead sign b t n reads =
+    by_eq b 48 (λ v. (p : Progress) × (read (led_by lead Hex) (cond v (Some (Zero sign)) (with_digit sign 16 0 b)) t ≡ Some p)
+    × HexRead sign (b ∷ t) n p)
     (λ is.
-    subst (λ c. (p : Progress) × (read Hex (Some (Zero sign)) t ≡ Some p) × HexRead sign (c ∷ t) n p) (sym is)
-    (zero_goes sign t n (subst (λ c. read Hex (Some (Digits sign 16 0)) (c ∷ t) ≡ Some (Digits sign 16 n)) is reads)))
+    subst (λ c. (p : Progress) × (read (led_by lead Hex) (Some (Zero sign)) t ≡ Some p) × HexRead sign (c ∷ t) n p) (sym is)
+    (zero_goes lead sign t n (subst (λ c. read (led_by lead Hex) (Some (Digits sign 16 0)) (c ∷ t) ≡ Some (Digits sign 16 n)) is reads)))
     (λ other. (Digits sign 16 n, reads, inl refl))
 
 -- after a sign or none
-hex_digits_go : (start : ℕ) (sign : Bool) (t : List ℕ) (n : ℕ) → (start ≡ 0 → sign ≡ false) → 0 < length t
-    → read Hex (Some (Digits sign 16 0)) t ≡ Some (Digits sign 16 n)
-    → (p : Progress) × (read Hex (Some (signed_as start sign)) t ≡ Some p) × HexRead sign t n p
-hex_digits_go start sign [] n plain some reads = absurd (omega (arith, some))
-hex_digits_go zero sign (b ∷ t) n plain some reads =
-    let low = begins_low Hex sign 16 0 n b t reads in
-    let (p, goes, is) = first_goes sign b t n reads in
-    (p, ap (λ o. read Hex o t) (plain_first Hex b low ∙ ap (λ s. with_first_digit Hex s b) (sym (plain refl))) ∙ goes, is)
-hex_digits_go (suc k) sign (b ∷ t) n plain some reads = first_goes sign b t n reads
+hex_digits_go : (lead : Lead) (start : ℕ) (sign : Bool) (t : List ℕ) (n : ℕ) → (start ≡ 0 → sign ≡ false) → 0 < length t
+    → read (led_by lead Hex) (Some (Digits sign 16 0)) t ≡ Some (Digits sign 16 n)
+    → (p : Progress) × (read (led_by lead Hex) (Some (signed_as start sign)) t ≡ Some p) × HexRead sign t n p
+hex_digits_go lead start sign [] n plain some reads = absurd (omega (arith, some))
+hex_digits_go lead zero sign (b ∷ t) n plain some reads =
+    let low = begins_low (led_by lead Hex) sign 16 0 n b t reads in
+    let (p, goes, is) = first_goes lead sign b t n reads in (
+      p,
+      ap (λ o. read (led_by lead Hex) o t)
+          (plain_first (led_by lead Hex) b low ∙ ap (λ s. with_first_digit (led_by lead Hex) s b) (sym (plain refl))) ∙ goes,
+      is,
+    )
+hex_digits_go lead (suc k) sign (b ∷ t) n plain some reads = first_goes lead sign b t n reads
 
 -- what ends them
-hex_read_ends : (sign : Bool) (t : List ℕ) (n : ℕ) (p : Progress) (b : ℕ) → HexRead sign t n p → 16 ≤ digit_value b
-    → (t ≡ 48 ∷ [] → (b ≡ 120) ⊎ (b ≡ 88) → ⊥) → advance Hex p b ≡ None
-hex_read_ends sign t n p b (inl is) high plain = ap (λ q. advance Hex q b) is ∙ digit_ends sign 16 n b high
-hex_read_ends sign t n p b (inr zero_digit) high plain =
-    ap (λ q. advance Hex q b) zero_digit.1
-    ∙ by_prefix Hex b (λ o. after_zero sign 16 b o ≡ None) (λ x. absurd (plain zero_digit.0 x)) (λ other. digit_ends sign 16 0 b high)
+hex_read_ends : (lead : Lead) (sign : Bool) (t : List ℕ) (n : ℕ) (p : Progress) (b : ℕ) → HexRead sign t n p → 16 ≤ digit_value b
+    → (t ≡ 48 ∷ [] → has_prefix lead ≡ true → (b ≡ 120) ⊎ (b ≡ 88) → ⊥) → advance (led_by lead Hex) p b ≡ None
+hex_read_ends lead sign t n p b (inl is) high plain = ap (λ q. advance (led_by lead Hex) q b) is ∙ digit_ends sign 16 n b high
+hex_read_ends lead sign t n p b (inr zero_digit) high plain =
+    ap (λ q. advance (led_by lead Hex) q b) zero_digit.1
+    ∙ by_prefix (led_by lead Hex) b (λ o. after_zero sign 16 b o ≡ None) (λ can x. absurd (plain zero_digit.0 can x))
+    (λ _ other. digit_ends sign 16 0 b high)
     (digit_ends sign 16 0 b high)
 
 hex_told : (sign : Bool) (t : List ℕ) (n : ℕ) (p : Progress) → HexRead sign t n p → integer_of p ≡ Some (sign, n)
 hex_told sign t n p (inl is) = ap integer_of is
 hex_told sign t n p (inr zero_digit) = ap integer_of zero_digit.1 ∙ ap (λ m. Some (sign, m)) (sym zero_digit.2)
 
-module _ (front : List ℕ) (start : ℕ) (sign : Bool) where
+module _ (lead : Lead) (front : List ℕ) (start : ℕ) (sign : Bool) where
   -- no prefix stands after the sign
-  plain_opened : SignOf front start sign → (HasPrefixAt front start → ⊥) → Opened Hex 16 front start sign
+  plain_opened : SignOf lead front start sign → (has_prefix lead ≡ true → HasPrefixAt front start → ⊥)
+      → Opened (led_by lead Hex) 16 front start sign
   plain_opened s plain = record {
     inside = s.within;
     state = signed_as start sign;
     taken = s.read Hex;
     untold = sign_untold start sign;
-    empty = signed_ends Hex front start sign s (omega arith);
+    empty = signed_ends (led_by lead Hex) front start sign s (omega arith);
     goes = goes;
   }
     where
@@ -466,32 +494,33 @@ module _ (front : List ℕ) (start : ℕ) (sign : Bool) where
           ∙ sym (get_or-take count (rest front start) 0 0 some) ∙ ap (λ f. get_or f 0 0) one
 
       goes : (count n : ℕ) → 0 < count → count ≤ length (rest front start) → ReadsIn 16 0 (take count (rest front start)) n
-          → Goes Hex 16 front (signed_as start sign) start count n sign
+          → Goes (led_by lead Hex) 16 front (signed_as start sign) start count n sign
       goes count n some most reads =
           let t = take count (rest front start) in
           let long : length t ≡ count = length-take-le count (rest front start) most in
-          let (p, is, read) = hex_digits_go start sign t n s.plain (rw long some) (reads Hex sign) in
+          let (p, is, read) = hex_digits_go lead start sign t n s.plain (rw long some) (reads (led_by lead Hex) sign) in
           record {
             p = p;
             reads = is;
             told = hex_told sign t n p read;
-            ends = λ below high. hex_read_ends sign t n p (get_or front (start + count) 0) read high
-                (λ one letter.
+            ends = λ below high. hex_read_ends lead sign t n p (get_or front (start + count) 0) read high
+                (λ one can letter.
                 let single : count ≡ 1 = sym long ∙ ap length one in
-                plain (
+                plain can (
                   omega (arith, below, single),
                   zero_at count some one,
                   subst (λ n. (get_or front (start + n) 0 ≡ 120) ⊎ (get_or front (start + n) 0 ≡ 88)) single letter,
                 ));
           }
 
-  behind_prefix : (t : List ℕ) (n : ℕ) → 0 < length t → read Hex (Some (Digits sign 16 0)) t ≡ Some (Digits sign 16 n)
-      → read Hex (Some (Prefix sign 16)) t ≡ Some (Digits sign 16 n)
+  behind_prefix : (t : List ℕ) (n : ℕ) → 0 < length t → read (led_by lead Hex) (Some (Digits sign 16 0)) t ≡ Some (Digits sign 16 n)
+      → read (led_by lead Hex) (Some (Prefix sign 16)) t ≡ Some (Digits sign 16 n)
   behind_prefix [] n some is = absurd (omega (arith, some))
   behind_prefix (b ∷ t) n some is = is
 
   -- a prefix does
-  prefixed_opened : start ≤ length front → read Hex (Some Start) (take start front) ≡ Some (Prefix sign 16) → Opened Hex 16 front start sign
+  prefixed_opened : start ≤ length front → read (led_by lead Hex) (Some Start) (take start front) ≡ Some (Prefix sign 16)
+      → Opened (led_by lead Hex) 16 front start sign
   prefixed_opened inside taken = record {
     inside = inside;
     state = Prefix sign 16;
@@ -500,29 +529,42 @@ module _ (front : List ℕ) (start : ℕ) (sign : Bool) where
     empty = λ below high. digit_ends sign 16 0 (get_or front start 0) high;
     goes = λ count n some most reads. record {
       p = Digits sign 16 n;
-      reads = behind_prefix (take count (rest front start)) n (rw (length-take-le count (rest front start) most) some) (reads Hex sign);
+      reads = behind_prefix (take count (rest front start)) n (rw (length-take-le count (rest front start) most) some)
+          (reads (led_by lead Hex) sign);
       told = refl;
       ends = λ below high. digit_ends sign 16 n (get_or front (start + count) 0) high;
     };
   }
 
-  pub hex_opened : HexOpening front start sign → Opened Hex 16 front start sign
+  pub hex_opened : HexOpening lead front start sign → Opened (led_by lead Hex) 16 front start sign
   hex_opened (inl h) = prefixed_opened h.0 h.1
   hex_opened (inr h) = plain_opened h.0 h.1
 
--- the prefix after a sign or none
-prefix_read : (start letter : ℕ) (sign : Bool) → (start ≡ 0 → sign ≡ false) → (letter ≡ 120) ⊎ (letter ≡ 88)
-    → read Hex (Some (signed_as start sign)) (48 ∷ letter ∷ []) ≡ Some (Prefix sign 16)
-prefix_read zero letter sign plain (inl is) = ap (λ s. read Hex (Some (Zero s)) (letter ∷ [])) (sym (plain refl))
-    ∙ ap (λ b. read Hex (Some (Zero sign)) (b ∷ [])) is
-prefix_read zero letter sign plain (inr is) = ap (λ s. read Hex (Some (Zero s)) (letter ∷ [])) (sym (plain refl))
-    ∙ ap (λ b. read Hex (Some (Zero sign)) (b ∷ [])) is
-prefix_read (suc k) letter sign plain (inl is) = ap (λ b. read Hex (Some (Zero sign)) (b ∷ [])) is
-prefix_read (suc k) letter sign plain (inr is) = ap (λ b. read Hex (Some (Zero sign)) (b ∷ [])) is
+-- the letter of the prefix, where that may stand there
+prefix_letter : (lead : Lead) (letter : ℕ) → has_prefix lead ≡ true → (letter ≡ 120) ⊎ (letter ≡ 88)
+    → prefix_radix (led_by lead Hex) letter ≡ Some 16
+prefix_letter lead letter can is =
+    ap (λ v. cond v (radix_of_letter (radices Hex) letter) None) can ∙ of_letter is
+  where
+    of_letter : (letter ≡ 120) ⊎ (letter ≡ 88) → radix_of_letter (radices Hex) letter ≡ Some 16
+    of_letter (inl is) = ap (radix_of_letter (radices Hex)) is
+    of_letter (inr is) = ap (radix_of_letter (radices Hex)) is
 
-pub opens_prefixed : (bytes : List ℕ) (start : ℕ) (sign : Bool) → SignOf bytes start sign → HasPrefixAt bytes start
-    → HexOpening bytes (start + 2) sign
-opens_prefixed bytes start sign s at =
+-- the prefix after a sign or none
+prefix_read : (lead : Lead) (start letter : ℕ) (sign : Bool) → (start ≡ 0 → sign ≡ false) → has_prefix lead ≡ true
+    → (letter ≡ 120) ⊎ (letter ≡ 88) → read (led_by lead Hex) (Some (signed_as start sign)) (48 ∷ letter ∷ []) ≡ Some (Prefix sign 16)
+prefix_read lead start letter sign plain can is =
+    ap (λ o. read (led_by lead Hex) o (letter ∷ [])) (zero_after start plain)
+    ∙ ap (λ o. read (led_by lead Hex) (after_zero sign 16 letter o) []) (prefix_letter lead letter can is)
+  where
+    zero_after : (start : ℕ) → (start ≡ 0 → sign ≡ false) → advance (led_by lead Hex) (signed_as start sign) 48 ≡ Some (Zero sign)
+    zero_after zero plain = zero_first (led_by lead Hex) ∙ ap (λ s. Some (Zero s)) (sym (plain refl))
+    zero_after (suc k) plain = refl
+
+pub opens_prefixed : (lead : Lead) (bytes : List ℕ) (start : ℕ) (sign : Bool) → has_prefix lead ≡ true → SignOf lead bytes start sign
+    → HasPrefixAt bytes start
+    → HexOpening lead bytes (start + 2) sign
+opens_prefixed lead bytes start sign can s at =
     let below = at.0 in
     let letter = get_or bytes (start + 1) 0 in
     let first : take start bytes ++ get_or bytes start 0 ∷ [] ≡ take (start + 1) bytes = one_more [] bytes start 0 (omega (arith, below)) in
@@ -534,22 +576,22 @@ opens_prefixed bytes start sign s at =
     ∙ ap (λ f. f ++ letter ∷ []) first ∙ second ∙ ap (λ n. take n bytes) (sym two) in
     inl (
       omega (arith, below),
-      ap (read Hex (Some Start)) (sym parts) ∙ read_more Hex (Some Start) (take start bytes) (48 ∷ letter ∷ [])
-          ∙ ap (λ o. read Hex o (48 ∷ letter ∷ [])) (s.read Hex)
-          ∙ prefix_read start letter sign s.plain at.2,
+      ap (read (led_by lead Hex) (Some Start)) (sym parts) ∙ read_more (led_by lead Hex) (Some Start) (take start bytes) (48 ∷ letter ∷ [])
+          ∙ ap (λ o. read (led_by lead Hex) o (48 ∷ letter ∷ [])) (s.read Hex)
+          ∙ prefix_read lead start letter sign s.plain can at.2,
     )
 
 -- with one hexadecimal digit more
-pub hex_read : (base : Base) (sign : Bool) (piece : List ℕ) (i before value digit : ℕ) → i < length piece
+pub hex_read : (numeral : Numeral) (sign : Bool) (piece : List ℕ) (i before value digit : ℕ) → i < length piece
     → digit_value (slice_index_or piece i 0) < 16 → digit ≡ digit_value (slice_index_or piece i 0)
-    → read base (Some (Digits sign 16 before)) (take i piece) ≡ Some (Digits sign 16 value)
-    → read base (Some (Digits sign 16 before)) (take (i + 1) piece) ≡ Some (Digits sign 16 (value * 16 + digit))
-hex_read base sign piece i before value digit below is_digit same is =
+    → read numeral (Some (Digits sign 16 before)) (take i piece) ≡ Some (Digits sign 16 value)
+    → read numeral (Some (Digits sign 16 before)) (take (i + 1) piece) ≡ Some (Digits sign 16 (value * 16 + digit))
+hex_read numeral sign piece i before value digit below is_digit same is =
     let b = slice_index_or piece i 0 in
-    ap (read base (Some (Digits sign 16 before))) (sym (one_more [] piece i 0 below))
-    ∙ read_more base (Some (Digits sign 16 before)) (take i piece) (b ∷ [])
-    ∙ ap (λ o. read base o (b ∷ [])) is
-    ∙ read_nothing base (with_digit sign 16 value b)
+    ap (read numeral (Some (Digits sign 16 before))) (sym (one_more [] piece i 0 below))
+    ∙ read_more numeral (Some (Digits sign 16 before)) (take i piece) (b ∷ [])
+    ∙ ap (λ o. read numeral o (b ∷ [])) is
+    ∙ read_nothing numeral (with_digit sign 16 value b)
     ∙ by_lt (digit_value b) 16 (λ v. cond v (Some (Digits sign 16 (value * 16 + digit_value b))) None
     ≡ Some (Digits sign 16 (value * 16 + digit_value b)))
     (λ _. refl) (λ above. absurd (omega (arith, is_digit, above)))
@@ -646,18 +688,18 @@ no_chars width piece n is none k h =
 
 -- ---- digits, of whichever number
 
-digits_stay : (base : Base) (s : Bool) (radix v : ℕ) (t : List ℕ) (q : Progress) → read base (Some (Digits s radix v)) t ≡ Some q
+digits_stay : (numeral : Numeral) (s : Bool) (radix v : ℕ) (t : List ℕ) (q : Progress) → read numeral (Some (Digits s radix v)) t ≡ Some q
     → (n : ℕ) × (q ≡ Digits s radix n) × ReadsIn radix v t n
-digits_stay base s radix v [] q is = (v, same is, λ b sign. refl)
+digits_stay numeral s radix v [] q is = (v, same is, λ b sign. refl)
   where
     same : ◌≡◌ {A = Option Progress} (Some (Digits s radix v)) (Some q) → q ≡ Digits s radix v
     same h = cc
-digits_stay base s radix v (b ∷ t) q reads =
+digits_stay numeral s radix v (b ∷ t) q reads =
     by_lt (digit_value b) radix
-    (λ o. read base (cond o (Some (Digits s radix (v * radix + digit_value b))) None) t ≡ Some q
-    → (n : ℕ) × (q ≡ Digits s radix n) × ((other : Base) (sign : Bool)
+    (λ o. read numeral (cond o (Some (Digits s radix (v * radix + digit_value b))) None) t ≡ Some q
+    → (n : ℕ) × (q ≡ Digits s radix n) × ((other : Numeral) (sign : Bool)
     → read other (cond o (Some (Digits sign radix (v * radix + digit_value b))) None) t ≡ Some (Digits sign radix n)))
-    (λ below is. digits_stay base s radix (v * radix + digit_value b) t q is)
+    (λ below is. digits_stay numeral s radix (v * radix + digit_value b) t q is)
     (λ above is. absurd (nothing is))
     reads
   where
@@ -676,13 +718,14 @@ digits_stop s radix v b =
 
 -- digits that were read one by one, with a number that may be large
 module _ (bytes : List ℕ) (radix count : ℕ) (after : Taken) (within : count ≤ length bytes)
-    (reads : ShowsNext (Some (reached.Digits after)) (read Dec (Some (Digits false radix 0)) (take count bytes)))
-    (stops : count < length bytes → ShowsNext None (read Dec (Some (Digits false radix 0)) (take (count + 1) bytes))) where
-  shown : (q : Progress) × (read Dec (Some (Digits false radix 0)) (take count bytes) ≡ Some q) × Shows (reached.Digits after) q
-  shown = shows_some (reached.Digits after) (read Dec (Some (Digits false radix 0)) (take count bytes)) reads
+    (reads : ShowsNext (Some (reached.Digits after)) (read (led_by Any Dec) (Some (Digits false radix 0)) (take count bytes)))
+    (stops : count < length bytes → ShowsNext None (read (led_by Any Dec) (Some (Digits false radix 0)) (take (count + 1) bytes))) where
+  shown : (q : Progress) × (read (led_by Any Dec) (Some (Digits false radix 0)) (take count bytes) ≡ Some q)
+      × Shows (reached.Digits after) q
+  shown = shows_some (reached.Digits after) (read (led_by Any Dec) (Some (Digits false radix 0)) (take count bytes)) reads
 
   stayed : (n : ℕ) × (shown.0 ≡ Digits false radix n) × ReadsIn radix 0 (take count bytes) n
-  stayed = digits_stay Dec false radix 0 (take count bytes) shown.0 shown.1
+  stayed = digits_stay (led_by Any Dec) false radix 0 (take count bytes) shown.0 shown.1
 
   number_is : shown.2.0 ≡ stayed.0
   number_is = same (sym shown.2.1 ∙ stayed.1)
@@ -697,10 +740,11 @@ module _ (bytes : List ℕ) (radix count : ℕ) (after : Taken) (within : count 
     stops = λ below.
         let b = get_or bytes count 0 in
         digits_stop false radix stayed.0 b
-        (sym (read_nothing Dec (with_digit false radix stayed.0 b)) ∙ ap (λ o. read Dec o (b ∷ [])) (sym (stayed.2 Dec false))
-        ∙ sym (read_more Dec (Some (Digits false radix 0)) (take count bytes) (b ∷ []))
-        ∙ ap (read Dec (Some (Digits false radix 0))) (one_more [] bytes count 0 below)
-        ∙ shows_none (read Dec (Some (Digits false radix 0)) (take (count + 1) bytes)) (stops below));
+        (sym (read_nothing (led_by Any Dec) (with_digit false radix stayed.0 b))
+        ∙ ap (λ o. read (led_by Any Dec) o (b ∷ [])) (sym (stayed.2 (led_by Any Dec) false))
+        ∙ sym (read_more (led_by Any Dec) (Some (Digits false radix 0)) (take count bytes) (b ∷ []))
+        ∙ ap (read (led_by Any Dec) (Some (Digits false radix 0))) (one_more [] bytes count 0 below)
+        ∙ shows_none (read (led_by Any Dec) (Some (Digits false radix 0)) (take (count + 1) bytes)) (stops below));
   }
 
   holds : HoldsNumber after.magnitude after.overflowed stayed.0
@@ -752,33 +796,34 @@ sixteen_more i n d small low = let one : i + 1 ≡ suc i = omega arith in
 pub unless_so : {A : Type 0} → (A → IsTrue false) → A → ⊥
 unless_so test a = let no = test a in absurd (cc)
 
-module _ (base : Base) (ten : first_radix base ≡ 10) where
-  plain_digit : (sign : Bool) (b : ℕ) → b ≢ 48 → with_first_digit base sign b ≡ with_digit sign 10 0 b
+module _ (base : Base) (ten : first_radix (led_by Any base) ≡ 10) where
+  plain_digit : (sign : Bool) (b : ℕ) → b ≢ 48 → with_first_digit (led_by Any base) sign b ≡ with_digit sign 10 0 b
   plain_digit sign b other =
-      by_eq b 48 (λ v. ◌≡◌ {A = Option Progress} (cond v (Some (Zero sign)) (with_digit sign (first_radix base) 0 b))
+      by_eq b 48 (λ v. ◌≡◌ {A = Option Progress} (cond v (Some (Zero sign)) (with_digit sign (first_radix (led_by Any base)) 0 b))
       (with_digit sign 10 0 b))
       (λ is. absurd (other is))
       (λ _. ap (λ r. with_digit sign r 0 b) ten)
 
   digits_follow : (start : ℕ) (sign : Bool) (t : List ℕ) (n : ℕ) → (start ≡ 0 → sign ≡ false) → 0 < length t → get_or t 0 0 ≢ 48
-      → read base (Some (Digits sign 10 0)) t ≡ Some (Digits sign 10 n)
-      → read base (Some (signed_as start sign)) t ≡ Some (Digits sign 10 n)
+      → read (led_by Any base) (Some (Digits sign 10 0)) t ≡ Some (Digits sign 10 n)
+      → read (led_by Any base) (Some (signed_as start sign)) t ≡ Some (Digits sign 10 n)
   digits_follow start sign [] n plain some other reads = absurd (omega (arith, some))
   digits_follow zero sign (b ∷ t) n plain some other reads =
-      let low = begins_low base sign 10 0 n b t reads in
-      ap (λ o. read base o t) (plain_first base b (omega (arith, low)) ∙ ap (λ s. with_first_digit base s b) (sym (plain refl))
+      let low = begins_low (led_by Any base) sign 10 0 n b t reads in
+      ap (λ o. read (led_by Any base) o t)
+      (plain_first (led_by Any base) b (omega (arith, low)) ∙ ap (λ s. with_first_digit (led_by Any base) s b) (sym (plain refl))
       ∙ plain_digit sign b other)
       ∙ reads
-  digits_follow (suc k) sign (b ∷ t) n plain some other reads = ap (λ o. read base o t) (plain_digit sign b other) ∙ reads
+  digits_follow (suc k) sign (b ∷ t) n plain some other reads = ap (λ o. read (led_by Any base) o t) (plain_digit sign b other) ∙ reads
 
-  pub auto_opened : (front : List ℕ) (start : ℕ) (sign : Bool) → SignOf front start sign
-      → (start < length front → get_or front start 0 ≢ 48) → Opened base 10 front start sign
+  pub auto_opened : (front : List ℕ) (start : ℕ) (sign : Bool) → SignOf Any front start sign
+      → (start < length front → get_or front start 0 ≢ 48) → Opened (led_by Any base) 10 front start sign
   auto_opened front start sign s other = record {
     inside = s.within;
     state = signed_as start sign;
     taken = s.read base;
     untold = sign_untold start sign;
-    empty = λ below high. signed_ends base front start sign s (rw ten (omega arith)) below (rw ten high);
+    empty = λ below high. signed_ends (led_by Any base) front start sign s (rw ten (omega arith)) below (rw ten high);
     goes = goes;
   }
     where
@@ -789,14 +834,14 @@ module _ (base : Base) (ten : first_radix base ≡ 10) where
           ∙ ap (λ n. get_or front n 0) same
 
       goes : (count n : ℕ) → 0 < count → count ≤ length (rest front start) → ReadsIn 10 0 (take count (rest front start)) n
-          → Goes base 10 front (signed_as start sign) start count n sign
+          → Goes (led_by Any base) 10 front (signed_as start sign) start count n sign
       goes count n some most reads =
           let t = take count (rest front start) in
           let below : start < length front = omega (arith, some, most, length_rest front start) in
           record {
             p = Digits sign 10 n;
             reads = digits_follow start sign t n s.plain (rw (length-take-le count (rest front start) most) some)
-                (λ zero_first. other below (sym (first_of count some) ∙ zero_first)) (reads base sign);
+                (λ zero_first. other below (sym (first_of count some) ∙ zero_first)) (reads (led_by Any base) sign);
             told = refl;
             ends = λ inside high. digit_ends sign 10 n (get_or front (start + count) 0) high;
           }

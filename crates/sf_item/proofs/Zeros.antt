@@ -12,11 +12,11 @@ use Rattle.sf_item.proofs.Readings.{length_rest, rest, rest_is}
 
 -- zeros leave a number as it is that is nothing
 pub zeros_read : (bytes : List ℕ) (z : ℕ) → z ≤ length bytes → ((k : ℕ) → k < z → get_or bytes k 0 ≡ 48) → ReadsIn 10 0 (take z bytes) 0
-zeros_read bytes zero le are base sign = refl
-zeros_read [] (suc z) le are base sign = absurd (omega (arith, le))
-zeros_read (b ∷ bytes) (suc z) le are base sign =
-    subst (λ c. read base (with_digit sign 10 0 c) (take z bytes) ≡ Some (Digits sign 10 0)) (sym (are 0 (omega arith)))
-    (zeros_read bytes z (omega (arith, le)) (λ k below. are (suc k) (omega (arith, below))) base sign)
+zeros_read bytes zero le are numeral sign = refl
+zeros_read [] (suc z) le are numeral sign = absurd (omega (arith, le))
+zeros_read (b ∷ bytes) (suc z) le are numeral sign =
+    subst (λ c. read numeral (with_digit sign 10 0 c) (take z bytes) ≡ Some (Digits sign 10 0)) (sym (are 0 (omega arith)))
+    (zeros_read bytes z (omega (arith, le)) (λ k below. are (suc k) (omega (arith, below))) numeral sign)
 
 -- the digits after zeros have their number
 pub behind_zeros : (bytes : List ℕ) (z n number : ℕ) → z ≤ length bytes → ((k : ℕ) → k < z → get_or bytes k 0 ≡ 48)
@@ -26,11 +26,11 @@ behind_zeros bytes z n number le are own =
     let within = own.within in
     record {
       within = omega (arith, left, within);
-      read = λ base sign.
-          ap (read base (Some (Digits sign 10 0))) (take-add z n bytes)
-          ∙ read_more base (Some (Digits sign 10 0)) (take z bytes) (take n (drop z bytes))
-          ∙ ap (λ o. read base o (take n (drop z bytes))) (zeros_read bytes z le are base sign)
-          ∙ own.read base sign;
+      read = λ numeral sign.
+          ap (read numeral (Some (Digits sign 10 0))) (take-add z n bytes)
+          ∙ read_more numeral (Some (Digits sign 10 0)) (take z bytes) (take n (drop z bytes))
+          ∙ ap (λ o. read numeral o (take n (drop z bytes))) (zeros_read bytes z le are numeral sign)
+          ∙ own.read numeral sign;
       stops = λ below. subst (λ d. 10 ≤ digit_value d) (get_or-drop z bytes n 0) (own.stops (omega (arith, left, below)));
     }
 
@@ -42,9 +42,9 @@ front_at digits piece n front below = ap (λ l. get_or l n 0) front ∙ get_or-t
 -- and are read from it
 pub front_read : (radix : ℕ) (digits piece : List ℕ) (n number : ℕ) → digits ≡ take (length digits) piece → n ≤ length digits
     → ReadsIn radix 0 (take n piece) number → ReadsIn radix 0 (take n digits) number
-front_read radix digits piece n number front within reads = λ base sign.
+front_read radix digits piece n number front within reads = λ numeral sign.
     let same : take n digits ≡ take n piece = ap (take n) front ∙ take-take n (length digits) piece within in
-    ap (read base (Some (Digits sign radix 0))) same ∙ reads base sign
+    ap (read numeral (Some (Digits sign radix 0))) same ∙ reads numeral sign
 
 -- with what stands after them
 pub front_digits : (radix : ℕ) (digits piece : List ℕ) (n number : ℕ) → digits ≡ take (length digits) piece → n ≤ length digits

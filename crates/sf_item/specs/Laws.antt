@@ -1,9 +1,12 @@
 -- Laws of items.
-use Rattle.std.specs.Prelude.{◌≡◌, ◌≢◌, ℕ, ◌+◌, ◌<◌, min, true, List, [], ◌∷◌, ◌++◌, length, Option, Some, None}
-use Rattle.sf_format.specs.declared.directive.Base.{Base}
+use Rattle.std.specs.Prelude.{◌≡◌, ◌≢◌, ◌↔◌, ℕ, ◌+◌, ◌<◌, min, true, false, List, [], ◌∷◌, ◌++◌, length, Option, Some, None}
+use Rattle.sf_base.specs.Blanks.{are_white}
+use Rattle.sf_format.specs.declared.directive.Numeral.{Numeral}
 use Rattle.sf_format.specs.declared.directive.Shape.TheVariants.{Int, Chars}
 use Rattle.sf_format.specs.declared.directive.Conversion.{Conversion}
 use Rattle.sf_format.specs.Proper.{IsProperShape}
+use Rattle.sf_item.specs.Columns.{IsTextOf, Fills}
+use Rattle.sf_item.specs.ColumnTests.{column_text, fills}
 use Rattle.sf_item.specs.Matching.{IsItem}
 use Rattle.sf_item.specs.Progress.{Progress}
 use Rattle.sf_item.specs.Tests.{read, is_within, can_take, has_item}
@@ -35,10 +38,20 @@ FrontsCanBeTaken = (c : Conversion) (f t : List ℕ) → can_take c (f ++ t) ≡
 
 -- within the width, an integer can always go on with a 0
 abbrev pub IntegersGoOn : Type 0
-IntegersGoOn = (c : Conversion) (base : Base) (f : List ℕ) → c.shape ≡ Int base → can_take c f ≡ true
+IntegersGoOn = (c : Conversion) (numeral : Numeral) (f : List ℕ) → c.shape ≡ Int numeral → can_take c f ≡ true
     → is_within c.width (length f + 1) ≡ true
     → can_take c (f ++ 48 ∷ []) ≡ true
 
 -- an integer is read one part after the other
 abbrev pub ReadingsGoOn : Type 0
-ReadingsGoOn = (base : Base) (o : Option Progress) (f g : List ℕ) → read base o (f ++ g) ≡ read base (read base o f) g
+ReadingsGoOn = (numeral : Numeral) (o : Option Progress) (f g : List ℕ) → read numeral o (f ++ g) ≡ read numeral (read numeral o f) g
+
+-- ---- columns
+
+-- the test of a column's text says what it is to say
+abbrev pub FillingIsComputed : Type 0
+FillingIsComputed = (c : Conversion) (t : List ℕ) → fills c t ≡ true ↔ Fills c t
+
+-- a column that isn't white space alone has one text, which is computed
+abbrev pub TextsAreComputed : Type 0
+TextsAreComputed = (c : Conversion) (s t : List ℕ) → are_white s ≡ false → IsTextOf c s t ↔ (t ≡ column_text c s)

@@ -5,4 +5,7 @@ pub mod Progress
 pub mod Scan
 pub mod Taking
 pub mod Tests
+pub mod Columns
+pub mod ColumnTests
+pub mod ColumnScans
 pub mod Wholes

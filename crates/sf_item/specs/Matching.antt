@@ -5,23 +5,28 @@ use Rattle.std.specs.Str.Parse.{IsNumeral}
 use Rattle.sf_base.specs.Greatest.{IsGreatest}
 use Rattle.sf_base.specs.Bytes.{AreBytes, is_white, magnitude}
 use Rattle.sf_base.specs.Sets.{has_byte}
-use Rattle.sf_format.specs.declared.directive.Base.{Base}
+use Rattle.sf_format.specs.declared.directive.Numeral.{Numeral}
+use Rattle.sf_format.specs.declared.directive.Lead.{Lead}
+use Rattle.sf_format.specs.declared.directive.Lead.TheVariants.{Any, Minus, Nothing}
+use Rattle.sf_format.specs.Leads.{has_plus, has_minus}
 use Rattle.sf_format.specs.declared.directive.Shape.{Shape}
 use Rattle.sf_format.specs.declared.directive.Shape.TheVariants.{Int, Text, Set, Chars, Float, Count}
 use Rattle.sf_format.specs.declared.directive.Conversion.{Conversion}
-use Rattle.sf_float_read.specs.item.Sequences.{IsFloat}
+use Rattle.sf_float_read.specs.item.Sequences.{IsFloatOf}
+use Rattle.sf_float_read.specs.declared.item.reached.Forms.{Forms}
+use Rattle.sf_float_read.specs.declared.item.reached.Forms.TheVariants.{All, Decimal}
 use Rattle.sf_item.specs.Radices.{first_radix, zero_radix, prefix_radix}
 
 -- one or more digits of the radix, and their number
 abbrev pub IsNumber : ℕ → List ℕ → ℕ → Type 0
 IsNumber radix ds m = IsNumeral radix ds × (m ≡ magnitude radix ds)
 
--- 0, the letter of a prefix that the base has, and a number of its radix
-abbrev pub IsPrefixed : Base → List ℕ → ℕ → Type 0
-IsPrefixed base [] m = ⊥
-IsPrefixed base (zero_digit ∷ []) m = ⊥
-IsPrefixed base (zero_digit ∷ letter ∷ ds) m =
-    (zero_digit ≡ 48) × ((radix : ℕ) × (prefix_radix base letter ≡ Some radix) × IsNumber radix ds m)
+-- 0, the letter of a prefix that the numeral has, and a number of its radix
+abbrev pub IsPrefixed : Numeral → List ℕ → ℕ → Type 0
+IsPrefixed numeral [] m = ⊥
+IsPrefixed numeral (zero_digit ∷ []) m = ⊥
+IsPrefixed numeral (zero_digit ∷ letter ∷ ds) m =
+    (zero_digit ≡ 48) × ((radix : ℕ) × (prefix_radix numeral letter ≡ Some radix) × IsNumber radix ds m)
 
 -- the first digit is 0
 abbrev pub StartsWithZero : List ℕ → Type 0
@@ -29,30 +34,37 @@ StartsWithZero [] = ⊥
 StartsWithZero (b ∷ bs) = b ≡ 48
 
 -- what follows the sign of an integer, and its magnitude
-abbrev pub IsUnsigned : Base → List ℕ → ℕ → Type 0
-IsUnsigned base body m =
-    ((StartsWithZero body → ⊥) × IsNumber (first_radix base) body m)
-    ⊎ (StartsWithZero body × IsNumber (zero_radix base) body m)
-    ⊎ IsPrefixed base body m
+abbrev pub IsUnsigned : Numeral → List ℕ → ℕ → Type 0
+IsUnsigned numeral body m =
+    ((StartsWithZero body → ⊥) × IsNumber (first_radix numeral) body m)
+    ⊎ (StartsWithZero body × IsNumber (zero_radix numeral) body m)
+    ⊎ IsPrefixed numeral body m
 
--- an optional sign; a minus is negative
-abbrev pub IsSign : List ℕ → Bool → Type 0
-IsSign [] negative = negative ≡ false
-IsSign (b ∷ []) negative = (b ≡ 43) × (negative ≡ false) ⊎ (b ≡ 45) × (negative ≡ true)
-IsSign (b ∷ c ∷ bs) negative = ⊥
+-- an optional sign, of those that may stand there; a minus is negative
+abbrev pub IsSign : Lead → List ℕ → Bool → Type 0
+IsSign lead [] negative = negative ≡ false
+IsSign lead (b ∷ []) negative =
+    (has_plus lead ≡ true) × (b ≡ 43) × (negative ≡ false) ⊎ (has_minus lead ≡ true) × (b ≡ 45) × (negative ≡ true)
+IsSign lead (b ∷ c ∷ bs) negative = ⊥
 
--- an integer of the base, with its sign and magnitude
-abbrev pub IsInteger : Base → List ℕ → Bool → ℕ → Type 0
-IsInteger base s negative m =
-    (sign : List ℕ) × (body : List ℕ) × (s ≡ sign ++ body) × IsSign sign negative × IsUnsigned base body m
+-- an integer written so, with its sign and magnitude
+abbrev pub IsInteger : Numeral → List ℕ → Bool → ℕ → Type 0
+IsInteger numeral s negative m =
+    (sign : List ℕ) × (body : List ℕ) × (s ≡ sign ++ body) × IsSign numeral.lead sign negative × IsUnsigned numeral body m
+
+-- the forms of a float, with ! or without
+abbrev pub forms_of : Lead → Forms
+forms_of Any = All
+forms_of Minus = Decimal
+forms_of Nothing = Decimal
 
 -- s is a matching sequence of the shape; the width is the count of bytes that Chars takes, and bounds no other
 abbrev pub ShapeMatches : Shape → Option ℕ → List ℕ → Type 0
-ShapeMatches (Int base) width s = (negative : Bool) × (m : ℕ) × IsInteger base s negative m
-ShapeMatches Text width s = (0 < length s) × AllByRecursion (λ b. is_white b ≡ false) s
+ShapeMatches (Int numeral) width s = (negative : Bool) × (m : ℕ) × IsInteger numeral s negative m
+ShapeMatches (Text lead) width s = (0 < length s) × AllByRecursion (λ b. is_white b ≡ false) s
 ShapeMatches (Set members) width s = (0 < length s) × AllByRecursion (λ b. has_byte members b ≡ true) s
 ShapeMatches Chars width s = length s ≡ unwrap_or width 1
-ShapeMatches Float width s = IsFloat s
+ShapeMatches (Float lead) width s = IsFloatOf (forms_of lead) s
 ShapeMatches Count width s = ⊥
 
 -- s is a matching sequence of the conversion

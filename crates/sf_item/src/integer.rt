@@ -9,7 +9,7 @@ ghost use Rattle.sf_item.specs.Scan.{HoldsNumber, Shows, ShowsNext, HasDigits, R
 use crate::radices::{prefix_radix, radices_of};
 use crate::reached::{Digits, Prefixed, Reached};
 use sf_base::digit_value;
-use sf_format::Base;
+use sf_format::Numeral;
 
 // Below it a number has room for one decimal digit more.
 const QUICK: u64 = u64::MAX / 10;
@@ -37,8 +37,8 @@ fn add_digit(digits: &mut Digits, digit: u8)
 
 // Takes one more byte if it is a digit. Answers whether it did.
 fn add_byte(digits: &mut Digits, b: u8) -> bool
-    ensures next { (base : Base) (p : Progress) → Shows (Reached.Digits digits.old) p
-        → ShowsNext (if result then Some (Reached.Digits digits.new) else None) (advance base p b) }
+    ensures next { (numeral : Numeral) (p : Progress) → Shows (Reached.Digits digits.old) p
+        → ShowsNext (if result then Some (Reached.Digits digits.new) else None) (advance numeral p b) }
     ensures refused { result ≡ false → digits.new ≡ digits.old }
 {
     match digit_value(b, digits.radix) {
@@ -72,53 +72,54 @@ fn begin(negative: bool, radix: u8, b: u8, reached: &mut Reached) -> bool
 }
 
 // Takes the first digit, or the 0 of a prefix.
-fn first_digit(base: Base, negative: bool, b: u8, reached: &mut Reached) -> bool
-    ensures next { ShowsNext (if result then Some reached.new else None) (with_first_digit base negative b) }
+fn first_digit(numeral: Numeral, negative: bool, b: u8, reached: &mut Reached) -> bool
+    ensures next { ShowsNext (if result then Some reached.new else None) (with_first_digit numeral negative b) }
     ensures refused { result ≡ false → reached.new ≡ reached.old }
 {
     if b == b'0' {
         *reached = Reached::Zero(negative);
         return true;
     }
-    begin(negative, radices_of(base).first, b, reached)
+    begin(negative, radices_of(numeral.base).first, b, reached)
 }
 
 // Takes the first byte: a sign or a digit.
-fn first_byte(base: Base, b: u8, reached: &mut Reached) -> bool
-    ensures next { ShowsNext (if result then Some reached.new else None) (advance base Start b) }
+fn first_byte(numeral: Numeral, b: u8, reached: &mut Reached) -> bool
+    ensures next { ShowsNext (if result then Some reached.new else None) (advance numeral Start b) }
     ensures refused { result ≡ false → reached.new ≡ reached.old }
 {
-    if b == b'+' || b == b'-' {
-        *reached = Reached::Signed(b == b'-');
+    let is_minus = b == b'-';
+    if (b == b'+' && numeral.lead.has_plus()) || (is_minus && numeral.lead.has_minus()) {
+        *reached = Reached::Signed(is_minus);
         return true;
     }
-    first_digit(base, false, b, reached)
+    first_digit(numeral, false, b, reached)
 }
 
 // Takes the byte after a first 0: the letter of a prefix or a digit.
-fn second_byte(base: Base, negative: bool, b: u8, reached: &mut Reached) -> bool
-    ensures next { ShowsNext (if result then Some reached.new else None) (advance base (Zero negative) b) }
+fn second_byte(numeral: Numeral, negative: bool, b: u8, reached: &mut Reached) -> bool
+    ensures next { ShowsNext (if result then Some reached.new else None) (advance numeral (Zero negative) b) }
     ensures refused { result ≡ false → reached.new ≡ reached.old }
 {
-    match prefix_radix(base, b) {
+    match prefix_radix(numeral, b) {
         Some(radix) => {
             *reached = Reached::Prefix(Prefixed { negative, radix });
             true
         }
-        None => begin(negative, radices_of(base).zero, b, reached),
+        None => begin(negative, radices_of(numeral.base).zero, b, reached),
     }
 }
 
-// Takes one more byte of an integer of the base if one begins so. Answers whether it did.
-pub fn advance(base: Base, reached: &mut Reached, b: u8) -> bool
+// Takes one more byte of an integer of the numeral if one begins so. Answers whether it did.
+pub fn advance(numeral: Numeral, reached: &mut Reached, b: u8) -> bool
     ensures next { (p : Progress) → Shows reached.old p → ShowsNext (if result then Some reached.new else None)
-        (advance base p b) }
+        (advance numeral p b) }
     ensures refused { result ≡ false → reached.new ≡ reached.old }
 {
     match reached {
-        Reached::Start => first_byte(base, b, reached),
-        Reached::Signed(negative) => first_digit(base, *negative, b, reached),
-        Reached::Zero(negative) => second_byte(base, *negative, b, reached),
+        Reached::Start => first_byte(numeral, b, reached),
+        Reached::Signed(negative) => first_digit(numeral, *negative, b, reached),
+        Reached::Zero(negative) => second_byte(numeral, *negative, b, reached),
         Reached::Prefix(prefixed) => begin(prefixed.negative, prefixed.radix, b, reached),
         Reached::Digits(digits) => add_byte(digits, b),
     }
@@ -149,8 +150,8 @@ pub fn decimal_front(number: &mut u64, piece: &[u8]) -> usize
 // Takes the digits of the piece that can be taken quickly, and answers how many.
 fn quick_front(digits: &mut Digits, piece: &[u8]) -> usize
     ensures within { result ≤ length piece.now }
-    ensures read { (base : Base) (p : Progress) → Shows (Reached.Digits digits.old) p
-        → ShowsNext (Some (Reached.Digits digits.new)) (read base (Some p) (take result piece.now)) }
+    ensures read { (numeral : Numeral) (p : Progress) → Shows (Reached.Digits digits.old) p
+        → ShowsNext (Some (Reached.Digits digits.new)) (read numeral (Some p) (take result piece.now)) }
     ensures nothing { result ≡ 0 → digits.new ≡ digits.old }
 {
     if digits.radix != 10 || digits.overflowed {
@@ -162,10 +163,10 @@ fn quick_front(digits: &mut Digits, piece: &[u8]) -> usize
 // Takes the digits of the piece, one after the other, and answers how many.
 pub fn digit_front(digits: &mut Digits, piece: &[u8]) -> usize
     ensures within { result ≤ length piece.now }
-    ensures read { (base : Base) (p : Progress) → Shows (Reached.Digits digits.old) p
-        → ShowsNext (Some (Reached.Digits digits.new)) (read base (Some p) (take result piece.now)) }
-    ensures stops { result < length piece.now → (base : Base) (p : Progress) → Shows (Reached.Digits digits.old) p
-        → ShowsNext None (read base (Some p) (take (result + 1) piece.now)) }
+    ensures read { (numeral : Numeral) (p : Progress) → Shows (Reached.Digits digits.old) p
+        → ShowsNext (Some (Reached.Digits digits.new)) (read numeral (Some p) (take result piece.now)) }
+    ensures stops { result < length piece.now → (numeral : Numeral) (p : Progress) → Shows (Reached.Digits digits.old) p
+        → ShowsNext None (read numeral (Some p) (take (result + 1) piece.now)) }
     ensures nothing { result ≡ 0 → digits.new ≡ digits.old }
 {
     for i in 0..piece.len() {
@@ -177,36 +178,36 @@ pub fn digit_front(digits: &mut Digits, piece: &[u8]) -> usize
 }
 
 // Reads the bytes of the piece up to the first digit that settles the radix, and answers how many.
-fn opening(base: Base, reached: &mut Reached, piece: &[u8]) -> usize
+fn opening(numeral: Numeral, reached: &mut Reached, piece: &[u8]) -> usize
     ensures within { result ≤ length piece.now }
     ensures read { (p : Progress) → Shows reached.old p → ShowsNext (Some reached.new)
-        (read base (Some p) (take result piece.now)) }
+        (read numeral (Some p) (take result piece.now)) }
     ensures stops { result < length piece.now → HasDigits reached.new ⊎ ((p : Progress) → Shows reached.old p
-        → ShowsNext None (read base (Some p) (take (result + 1) piece.now))) }
+        → ShowsNext None (read numeral (Some p) (take (result + 1) piece.now))) }
     ensures nothing { result ≡ 0 → reached.new ≡ reached.old }
 {
     for i in 0..piece.len() {
         if let Reached::Digits(_) = reached {
             return i;
         }
-        if !advance(base, reached, piece[i]) {
+        if !advance(numeral, reached, piece[i]) {
             return i;
         }
     }
     piece.len()
 }
 
-// Reads the bytes of the piece, one after the other, as long as an integer of the base goes on with them, and answers
-// how many.
-pub fn integer_front(base: Base, reached: &mut Reached, piece: &[u8]) -> usize
+// Reads the bytes of the piece, one after the other, as long as an integer of the numeral goes on with them, and
+// answers how many.
+pub fn integer_front(numeral: Numeral, reached: &mut Reached, piece: &[u8]) -> usize
     ensures within { result ≤ length piece.now }
     ensures read { (p : Progress) → Shows reached.old p → ShowsNext (Some reached.new)
-        (read base (Some p) (take result piece.now)) }
+        (read numeral (Some p) (take result piece.now)) }
     ensures stops { result < length piece.now → (p : Progress) → Shows reached.old p
-        → ShowsNext None (read base (Some p) (take (result + 1) piece.now)) }
+        → ShowsNext None (read numeral (Some p) (take (result + 1) piece.now)) }
     ensures nothing { result ≡ 0 → reached.new ≡ reached.old }
 {
-    let opened = opening(base, reached, piece);
+    let opened = opening(numeral, reached, piece);
     match reached {
         Reached::Digits(digits) => {
             let quick = opened + quick_front(digits, &piece[opened..]);

@@ -129,7 +129,7 @@ fn less(left: Option<u16>, count: usize) -> Option<u16>
 }
 
 // What an integer is that was read so far.
-fn end_of(reached: Reached) -> ItemEnd
+pub fn end_of(reached: Reached) -> ItemEnd
     ensures { (p : Progress) → Shows reached p → EndsAt (integer_of p) result }
 {
     match reached {
@@ -148,7 +148,7 @@ fn end_of(reached: Reached) -> ItemEnd
 }
 
 // What a float is that was read so far.
-fn end_of_float(scan: FloatScan) -> ItemEnd
+pub fn end_of_float(scan: FloatScan) -> ItemEnd
     ensures { result ≡ (if is_whole scan.reached then ItemEnd.Matched else ItemEnd.Unmatched) }
 {
     if scan.is_match() {
@@ -247,10 +247,10 @@ impl<'c> ItemScan<'c> {
         }
         match self.reading {
             Reading::Integer(_, reached) => end_of(reached),
-            Reading::Text | Reading::Set(_) => ItemEnd::Matched,
+            Reading::Text(_) | Reading::Set(_) => ItemEnd::Matched,
             Reading::Chars if is_used_up(self.left) => ItemEnd::Matched,
             Reading::Chars => ItemEnd::Unmatched,
-            Reading::Float(scan) => end_of_float(scan),
+            Reading::Float(_, scan) => end_of_float(scan),
         }
     }
 }

@@ -1,6 +1,6 @@
 //! Laws of the definitions.
 ghost use Rattle.sf_item.specs.Laws.{EachHasOneItem, EndedItemsStay, FrontsCanBeTaken, IntegersGoOn, ReadingsGoOn};
-ghost use Rattle.sf_item.specs.Laws.{WidthsCutItems};
+ghost use Rattle.sf_item.specs.Laws.{WidthsCutItems, FillingIsComputed, TextsAreComputed};
 
 /// Each input has an item of each proper conversion, and no other.
 pub fn one_item()
@@ -23,4 +23,10 @@ pub fn fronts_go_on()
     ensures front { FrontsCanBeTaken }
     ensures zero { IntegersGoOn }
     ensures parts { ReadingsGoOn }
+{}
+
+/// What a column's text is, and whether it is a matching sequence, is computed by tests.
+pub fn columns_are_computed()
+    ensures filling { FillingIsComputed }
+    ensures texts { TextsAreComputed }
 {}

@@ -1,6 +1,7 @@
 //! The input item of one conversion, byte by byte: which bytes it takes, and what they are.
 #![tactic(auto)]
 
+mod column;
 mod digits;
 mod eight;
 mod eight_hex;
@@ -12,6 +13,7 @@ mod reached;
 mod reading;
 mod whole;
 
+pub use column::{ColumnScan, ColumnTaken};
 pub use item::{ItemEnd, ItemScan, Step};
 pub use radices::{Radices, prefix_radix, radices_of};
 pub use whole::{

@@ -2,7 +2,7 @@
 ghost use Rattle.std.specs.Prelude.{◌≡◌, ◌<◌, ◌≤◌, IfSome};
 ghost use Rattle.sf_item.specs.Radices.{radices, prefix_radix};
 
-use sf_format::Base;
+use sf_format::{Base, Numeral};
 
 /// The radices of a base.
 #[derive(Clone, Copy, Debug, PartialEq, Eq)]
@@ -47,14 +47,17 @@ pub fn radices_of(base: Base) -> Radices
     }
 }
 
-/// The radix that the byte makes as the letter of a prefix, after a first 0.
-pub fn prefix_radix(base: Base, letter: u8) -> Option<u8>
-    ensures radix { result ≡ prefix_radix base letter }
+/// The radix that the byte makes as the letter of a prefix, after a first 0, where a prefix may stand there.
+pub fn prefix_radix(numeral: Numeral, letter: u8) -> Option<u8>
+    ensures radix { result ≡ prefix_radix numeral letter }
     ensures range { IfSome result (λ r. (0 < r) × (r ≤ 16)) }
 {
+    if !numeral.lead.has_prefix() {
+        return None;
+    }
     match letter {
-        b'x' | b'X' => radices_of(base).x,
-        b'b' | b'B' => radices_of(base).b,
+        b'x' | b'X' => radices_of(numeral.base).x,
+        b'b' | b'B' => radices_of(numeral.base).b,
         _ => None,
     }
 }

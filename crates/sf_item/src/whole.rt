@@ -5,12 +5,13 @@ ghost use Rattle.std.specs.Char.{digit_value};
 ghost use Rattle.std.specs.List.{prefix_len};
 ghost use Rattle.sf_base.specs.Bytes.{is_ink};
 ghost use Rattle.sf_base.specs.Sets.{lone_lack};
+ghost use Rattle.sf_format.specs.Leads.{as_in_c};
 ghost use Rattle.sf_format.specs.declared.directive.Base.TheVariants.{Dec, Hex};
 ghost use Rattle.sf_format.specs.declared.directive.Shape.TheVariants.{Chars, Set, Text};
 ghost use Rattle.sf_format.specs.Layout.{most_of};
 ghost use Rattle.sf_item.specs.Radices.{first_radix};
 ghost use Rattle.sf_item.specs.Wholes.{DigitsOf, EndsWithin, HasPrefixAt, HexOpening, IsCutBy, ItemWithin, LongDigits};
-ghost use Rattle.sf_item.specs.Wholes.{NoDigits, NoItemWithin, NoneEndsWithin, ReadsIn, SignOf, ZeroFirst};
+ghost use Rattle.sf_item.specs.Wholes.{NoDigits, NoItemWithin, NoneEndsWithin, ReadsIn, SignOf, ZeroFirst, led_by};
 
 use crate::digits::value_of;
 use crate::eight::{LANES, first_digits};
@@ -19,7 +20,7 @@ use crate::integer::digit_front;
 use crate::item::{cut, cut_at};
 use crate::reached::Digits;
 use sf_base::{ByteSet, run_before, text_run};
-use sf_format::Base;
+use sf_format::{Base, Lead};
 
 /// The most decimal digits whose number fits in 64 bits, whichever they are.
 const SURE_DECIMAL: usize = 19;
@@ -44,16 +45,19 @@ pub struct WholeInteger {
     pub magnitude: u64,
 }
 
-/// How many bytes of a sign the bytes begin with, and whether it is a minus. Signs come unforeseen, so that a branch on
-/// them would cost more than both tests.
+/// How many bytes of a sign that may stand there the bytes begin with, and whether it is a minus. Signs come
+/// unforeseen, so that a branch on them would cost more than both tests.
 #[inline(always)]
-fn sign(bytes: &[u8]) -> (usize, bool)
-    ensures { SignOf bytes.now result.0 result.1 }
+fn sign(lead: Lead, bytes: &[u8]) -> (usize, bool)
+    ensures { SignOf lead bytes.now result.0 result.1 }
 {
     match bytes.first() {
         Some(b) => {
-            let negative = *b == b'-';
-            (usize::from(negative | (*b == b'+')), negative)
+            let negative = lead.has_minus() & (*b == b'-');
+            (
+                usize::from(negative | (lead.has_plus() & (*b == b'+'))),
+                negative,
+            )
         }
         None => (0, false),
     }
@@ -79,13 +83,14 @@ fn is_prefix_at(bytes: &[u8], at: usize) -> bool
     at + 1 < bytes.len() && bytes[at] == b'0' && (bytes[at + 1] == b'x' || bytes[at + 1] == b'X')
 }
 
-/// How many bytes of a sign and a prefix the bytes begin with, and whether the sign is a minus.
+/// How many bytes of a sign and a prefix the bytes begin with, of those that may stand there, and whether the sign is a
+/// minus.
 #[inline(always)]
-fn hex_opening(bytes: &[u8]) -> (usize, bool)
-    ensures { HexOpening bytes.now result.0 result.1 }
+fn hex_opening(lead: Lead, bytes: &[u8]) -> (usize, bool)
+    ensures { HexOpening lead bytes.now result.0 result.1 }
 {
-    let (start, negative) = sign(bytes);
-    if is_prefix_at(bytes, start) {
+    let (start, negative) = sign(lead, bytes);
+    if lead.has_prefix() && is_prefix_at(bytes, start) {
         (start + 2, negative)
     } else {
         (start, negative)
@@ -322,12 +327,12 @@ fn hex_number(digits: &[u8], piece: &[u8]) -> Option<(u64, usize)>
 
 /// As `whole_decimal`, of the bytes of the piece that the item may have.
 #[inline(always)]
-fn decimal_in(front: &[u8], piece: &[u8]) -> Option<WholeInteger>
+fn decimal_in(lead: Lead, front: &[u8], piece: &[u8]) -> Option<WholeInteger>
     requires { front.now ≡ take (length front.now) piece.now }
-    ensures { (width : Option ℕ) → IsCutBy width piece.now front.now
-        → MatchOption result (NoneEndsWithin Dec width piece.now) (EndsWithin Dec width piece.now) }
+    ensures { (width : Option ℕ) → IsCutBy width piece.now front.now → MatchOption result
+        (NoneEndsWithin (led_by lead Dec) width piece.now) (EndsWithin (led_by lead Dec) width piece.now) }
 {
-    let (start, negative) = sign(front);
+    let (start, negative) = sign(lead, front);
     let Some((magnitude, count)) = decimal_number(&front[start..], &piece[start..]) else {
         return None;
     };
@@ -342,13 +347,13 @@ fn decimal_in(front: &[u8], piece: &[u8]) -> Option<WholeInteger>
     })
 }
 
-/// As `whole_decimal`, where the most bytes of the integer are known.
+/// As `whole_decimal`, with this before the digits, where the most bytes of the integer are known.
 #[inline(always)]
-pub fn decimal_within(most: usize, piece: &[u8]) -> Option<WholeInteger>
-    ensures { (width : Option ℕ) → most ≡ most_of width
-        → MatchOption result (NoneEndsWithin Dec width piece.now) (EndsWithin Dec width piece.now) }
+pub fn decimal_within(lead: Lead, most: usize, piece: &[u8]) -> Option<WholeInteger>
+    ensures { (width : Option ℕ) → most ≡ most_of width → MatchOption result
+        (NoneEndsWithin (led_by lead Dec) width piece.now) (EndsWithin (led_by lead Dec) width piece.now) }
 {
-    decimal_in(cut_at(piece, most), piece)
+    decimal_in(lead, cut_at(piece, most), piece)
 }
 
 /// The decimal integer that the piece begins with, of so many bytes at most, where it ends before a byte of the piece,
@@ -358,19 +363,20 @@ pub fn decimal_within(most: usize, piece: &[u8]) -> Option<WholeInteger>
 /// isn't below 2^64.
 #[inline(always)]
 pub fn whole_decimal(width: Option<u16>, piece: &[u8]) -> Option<WholeInteger>
-    ensures { MatchOption result (NoneEndsWithin Dec width piece.now) (EndsWithin Dec width piece.now) }
+    ensures { MatchOption result (NoneEndsWithin (as_in_c Dec) width piece.now)
+        (EndsWithin (as_in_c Dec) width piece.now) }
 {
-    decimal_in(cut(piece, width), piece)
+    decimal_in(Lead::Any, cut(piece, width), piece)
 }
 
 /// As `whole_hex`, of the bytes of the piece that the item may have.
 #[inline(always)]
-fn hex_in(front: &[u8], piece: &[u8]) -> Option<WholeInteger>
+fn hex_in(lead: Lead, front: &[u8], piece: &[u8]) -> Option<WholeInteger>
     requires { front.now ≡ take (length front.now) piece.now }
-    ensures { (width : Option ℕ) → IsCutBy width piece.now front.now
-        → MatchOption result (NoneEndsWithin Hex width piece.now) (EndsWithin Hex width piece.now) }
+    ensures { (width : Option ℕ) → IsCutBy width piece.now front.now → MatchOption result
+        (NoneEndsWithin (led_by lead Hex) width piece.now) (EndsWithin (led_by lead Hex) width piece.now) }
 {
-    let (start, negative) = hex_opening(front);
+    let (start, negative) = hex_opening(lead, front);
     let Some((magnitude, count)) = hex_number(&front[start..], &piece[start..]) else {
         return None;
     };
@@ -385,21 +391,22 @@ fn hex_in(front: &[u8], piece: &[u8]) -> Option<WholeInteger>
     })
 }
 
-/// As `whole_hex`, where the most bytes of the integer are known.
+/// As `whole_hex`, with this before the digits, where the most bytes of the integer are known.
 #[inline(always)]
-pub fn hex_within(most: usize, piece: &[u8]) -> Option<WholeInteger>
-    ensures { (width : Option ℕ) → most ≡ most_of width
-        → MatchOption result (NoneEndsWithin Hex width piece.now) (EndsWithin Hex width piece.now) }
+pub fn hex_within(lead: Lead, most: usize, piece: &[u8]) -> Option<WholeInteger>
+    ensures { (width : Option ℕ) → most ≡ most_of width → MatchOption result
+        (NoneEndsWithin (led_by lead Hex) width piece.now) (EndsWithin (led_by lead Hex) width piece.now) }
 {
-    hex_in(cut_at(piece, most), piece)
+    hex_in(lead, cut_at(piece, most), piece)
 }
 
 /// As `whole_decimal`, of a hexadecimal integer, with a prefix or without.
 #[inline(always)]
 pub fn whole_hex(width: Option<u16>, piece: &[u8]) -> Option<WholeInteger>
-    ensures { MatchOption result (NoneEndsWithin Hex width piece.now) (EndsWithin Hex width piece.now) }
+    ensures { MatchOption result (NoneEndsWithin (as_in_c Hex) width piece.now)
+        (EndsWithin (as_in_c Hex) width piece.now) }
 {
-    hex_in(cut(piece, width), piece)
+    hex_in(Lead::Any, cut(piece, width), piece)
 }
 
 /// Whether a zero stands at the place.
@@ -414,12 +421,12 @@ fn is_zero_at(bytes: &[u8], at: usize) -> bool
 /// also where the first digit is a zero.
 #[inline(always)]
 pub fn whole_auto(base: Base, width: Option<u16>, piece: &[u8]) -> Option<WholeInteger>
-    requires { first_radix base ≡ 10 }
-    ensures { MatchOption result (NoneEndsWithin base width piece.now ⊎ ZeroFirst piece.now)
-        (EndsWithin base width piece.now) }
+    requires { first_radix (as_in_c base) ≡ 10 }
+    ensures { MatchOption result (NoneEndsWithin (as_in_c base) width piece.now ⊎ ZeroFirst piece.now)
+        (EndsWithin (as_in_c base) width piece.now) }
 {
     let front = cut(piece, width);
-    let (start, negative) = sign(front);
+    let (start, negative) = sign(Lead::Any, front);
     if is_zero_at(front, start) {
         return None;
     }
@@ -456,8 +463,8 @@ fn text_within(front: &[u8], piece: &[u8]) -> usize
 /// None only where the piece begins with no such item, and where the item may go on after the piece.
 #[inline(always)]
 pub fn text_item(most: usize, piece: &[u8]) -> Option<usize>
-    ensures { (width : Option ℕ) → most ≡ most_of width
-        → MatchOption result (NoItemWithin Text width piece.now) (ItemWithin Text width piece.now) }
+    ensures { (lead : Lead) (width : Option ℕ) → most ≡ most_of width
+        → MatchOption result (NoItemWithin (Text lead) width piece.now) (ItemWithin (Text lead) width piece.now) }
 {
     let count = text_within(cut_at(piece, most), piece);
     if 0 < count && count < piece.len() {

@@ -14,6 +14,7 @@ use Rattle.sf_format.specs.declared.directive.Directive.{Directive}
 use Rattle.sf_format.specs.declared.directive.Directive.TheVariants as directive
 use Rattle.sf_format.specs.declared.letter.Letter.{Letter}
 use Rattle.sf_format.specs.declared.letter.Letter.TheVariants.{Signed, Unsigned, Chars, Text, Set, Count, Float}
+use Rattle.sf_format.specs.Leads.{lead_of_signed, lead_of_others}
 use Rattle.sf_format.specs.Language.{Scan}
 use Rattle.sf_format.specs.Letters.{letter_of, kind_of}
 use Rattle.sf_format.specs.Scanlist.{Scanlist, is_member, IsSetOf}
@@ -52,21 +53,26 @@ set_is list = (
 
 abbrev made : ℕ → Opening → Letter → Shape → Kind → Conversion
 made place o letter s k =
-    record { shape = s; kind = k; width = width_of letter o.width; slot = slot_of place o; optional = o.optional }
+    record { shape = s; kind = k; width = width_of letter o.width; slot = slot_of place o; optional = o.optional; column = o.column }
 
 abbrev by_kind : ℕ → Opening → Letter → Shape → Option Kind → Option Directive
 by_kind place o letter s None = None
 by_kind place o letter s (Some k) = Some (directive.Conv (made place o letter s k))
 
+-- what a letter other than [ takes
+abbrev shape_by : Letter → Bool → Shape
+shape_by (Signed base) strict = shape.Int (record { base = base; lead = lead_of_signed strict })
+shape_by (Unsigned base) strict = shape.Int (record { base = base; lead = lead_of_others strict })
+shape_by Chars strict = shape.Chars
+shape_by Text strict = shape.Text (lead_of_others strict)
+shape_by Count strict = shape.Count
+shape_by Float strict = shape.Float (lead_of_signed strict)
+shape_by Set strict = shape.Count
+
 abbrev by_letter : ℕ → Opening → Option Letter → Option Directive
 by_letter place o None = None
-by_letter place o (Some (Signed base)) = by_kind place o (Signed base) (shape.Int base) (kind_of (Signed base) o.size)
-by_letter place o (Some (Unsigned base)) = by_kind place o (Unsigned base) (shape.Int base) (kind_of (Unsigned base) o.size)
-by_letter place o (Some Chars) = by_kind place o Chars shape.Chars (kind_of Chars o.size)
-by_letter place o (Some Text) = by_kind place o Text shape.Text (kind_of Text o.size)
-by_letter place o (Some Count) = by_kind place o Count shape.Count (kind_of Count o.size)
-by_letter place o (Some Float) = by_kind place o Float shape.Float (kind_of Float o.size)
 by_letter place o (Some Set) = None
+by_letter place o (Some letter) = by_kind place o letter (shape_by letter o.strict) (kind_of letter o.size)
 
 -- the directive that a part stands for
 abbrev directive_of : Profile → ℕ → Piece → Option Directive
@@ -83,14 +89,14 @@ none_some : {A : Type 0} (a : A) → None ≡ Some a → ⊥
 none_some a e = absurd cc
 
 by_kind_is : (profile : Profile) (place : ℕ) (o : Opening) (b : ℕ) (d : Directive) (letter : Letter) (s : Shape)
-    → letter_of profile b ≡ Some letter → shape_of letter s → (k : Option Kind) → kind_of letter o.size ≡ k
+    → letter_of profile b ≡ Some letter → shape_of letter o.strict s → (k : Option Kind) → kind_of letter o.size ≡ k
     → by_kind place o letter s k ≡ Some d → Means profile place (Plain o b) d
 by_kind_is profile place o b d letter s is shaped None h e = absurd (none_some d e)
 by_kind_is profile place o b d letter s is shaped (Some k) h e = (
   letter,
   made place o letter s k,
   is,
-  record { kind = h; width = refl; slot = refl; optional = refl },
+  record { kind = h; width = refl; slot = refl; optional = refl; column = refl },
   shaped,
   same_some (directive.Conv (made place o letter s k)) d e,
 )
@@ -99,17 +105,17 @@ by_letter_is : (profile : Profile) (place : ℕ) (o : Opening) (b : ℕ) (d : Di
     → by_letter place o l ≡ Some d → Means profile place (Plain o b) d
 by_letter_is profile place o b d None is e = absurd (none_some d e)
 by_letter_is profile place o b d (Some (Signed base)) is e =
-    by_kind_is profile place o b d (Signed base) (shape.Int base) is refl (kind_of (Signed base) o.size) refl e
+    by_kind_is profile place o b d (Signed base) (shape_by (Signed base) o.strict) is refl (kind_of (Signed base) o.size) refl e
 by_letter_is profile place o b d (Some (Unsigned base)) is e =
-    by_kind_is profile place o b d (Unsigned base) (shape.Int base) is refl (kind_of (Unsigned base) o.size) refl e
+    by_kind_is profile place o b d (Unsigned base) (shape_by (Unsigned base) o.strict) is refl (kind_of (Unsigned base) o.size) refl e
 by_letter_is profile place o b d (Some Chars) is e =
-    by_kind_is profile place o b d Chars shape.Chars is refl (kind_of Chars o.size) refl e
+    by_kind_is profile place o b d Chars (shape_by Chars o.strict) is refl (kind_of Chars o.size) refl e
 by_letter_is profile place o b d (Some Text) is e =
-    by_kind_is profile place o b d Text shape.Text is refl (kind_of Text o.size) refl e
+    by_kind_is profile place o b d Text (shape_by Text o.strict) is refl (kind_of Text o.size) refl e
 by_letter_is profile place o b d (Some Count) is e =
-    by_kind_is profile place o b d Count shape.Count is refl (kind_of Count o.size) refl e
+    by_kind_is profile place o b d Count (shape_by Count o.strict) is refl (kind_of Count o.size) refl e
 by_letter_is profile place o b d (Some Float) is e =
-    by_kind_is profile place o b d Float shape.Float is refl (kind_of Float o.size) refl e
+    by_kind_is profile place o b d Float (shape_by Float o.strict) is refl (kind_of Float o.size) refl e
 by_letter_is profile place o b d (Some Set) is e = absurd (none_some d e)
 
 by_list_is : (profile : Profile) (place : ℕ) (o : Opening) (list : Scanlist) (d : Directive) (k : Option Kind) → kind_of Set o.size ≡ k
@@ -118,7 +124,7 @@ by_list_is profile place o list d None h e = absurd (none_some d e)
 by_list_is profile place o list d (Some k) h e = (
   made place o Set (shape.Set (set_of list)) k,
   set_of list,
-  record { kind = h; width = refl; slot = refl; optional = refl },
+  record { kind = h; width = refl; slot = refl; optional = refl; column = refl },
   set_is list,
   refl,
   same_some (directive.Conv (made place o Set (shape.Set (set_of list)) k)) d e,

@@ -4,14 +4,15 @@ ghost use Rattle.sf_format.specs.declared.directive.Directive.{Directive};
 ghost use Rattle.sf_format.specs.declared.fault.FormatWhy.{FormatWhy};
 ghost use Rattle.sf_format.specs.declared.fault.FormatWhy.TheVariants as why;
 ghost use Rattle.sf_format.specs.Faults.{Fault};
-ghost use Rattle.sf_format.specs.Grammar.{ArePlaced, Spells, destinations};
+ghost use Rattle.sf_format.specs.Grammar.{ArePlaced, MeanAll, Means, Spells, destinations};
 ghost use Rattle.sf_format.specs.Pieces.{Piece, text_of};
 ghost use Rattle.sf_format.specs.Profiles.{AreOfTwo, HaveBases, IsNotBin, IsOfOne, in_two};
 ghost use Rattle.sf_format.specs.Proper.{AreInOrder, IsAccepted, destinations_of};
+ghost use Rattle.sf_format.specs.Strictness.{marked};
 
 use sf_format::laws::{
-    either, in_order, not_both, one_fault, one_list, profile_three, profiles, proper,
-    slots_have_kinds,
+    either, in_order, marks_make_strict, not_both, one_fault, one_list, profile_three, profiles,
+    proper, slots_have_kinds,
 };
 use sf_format::{FormatFault, PrintFormat, Profile, ScanFormat};
 use std::alloc::Global;
@@ -50,6 +51,19 @@ pub fn print_parsed_twice(
         return None;
     };
     Some((first, second))
+}
+
+/// The format of the text, made strict: its directives are what the parts of the text stand for with a `!` in each that
+/// can have one.
+pub fn strict_format(alloc: Global, profile: Profile, text: &[u8]) -> Option<ScanFormat>
+    ensures { IfSome result (λ format. (pieces : List Piece) × (text.now ≡ text_of pieces)
+        × MeanAll (λ place piece d. Means profile place (marked profile piece) d) 1 pieces format) }
+{
+    marks_make_strict();
+    let Ok(format) = ScanFormat::parse(alloc, profile, text) else {
+        return None;
+    };
+    Some(format.strict())
 }
 
 /// A text that is refused twice is refused twice for the same fault, unless for memory.

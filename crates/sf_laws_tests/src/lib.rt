@@ -22,7 +22,7 @@ pub use formats::{
     both_profiles, faulted_twice, has_slot, in_their_order, one_profile, parsed_again,
     parsed_and_refused, parsed_twice, print_parsed_twice, spelled_or_faulty, third_profile,
 };
-pub use items::word_item;
+pub use items::{column_fills, word_item};
 pub use lines::first_line;
 pub use pairs::{read_again, read_back, refused_pair, written_rows};
 pub use prints::{refused_print, written_number};

@@ -1,6 +1,7 @@
 pub mod shown
 pub mod places
 -- what is said
+pub mod Columns
 pub mod Facing
 pub mod Faults
 pub mod Joined
@@ -10,4 +11,5 @@ pub mod Names
 pub mod Newlines
 pub mod Notes
 pub mod Sentences
+pub mod Strict
 pub mod Texts

@@ -1,5 +1,6 @@
 -- Mistakes that an input and a format show.
-use Rattle.std.specs.Prelude.{ℕ, ◌-◌, ◌&&◌, ◌||◌, nat_eq, Bool, true, false, not, List, [], ◌∷◌, Option, Some, None, is_some, slice_get}
+use Rattle.std.specs.Prelude.{ℕ, ◌+◌, ◌-◌, ◌&&◌, ◌||◌, nat_eq, Bool, true, false, not, List, [], ◌∷◌, Option, Some, None, is_some}
+use Rattle.std.specs.Prelude.{slice_get}
 use Rattle.std.specs.Prelude.{if◌then◌else◌, nat_lt, unwrap_or}
 use Rattle.sf_base.specs.Sets.{has_byte}
 use Rattle.sf_format.specs.declared.directive.Conversion.{Conversion}
@@ -42,10 +43,10 @@ abbrev pub is_class : List Directive → ℕ → Bool
 is_class ds number = are_class (slice_get ds (number - 1)) (slice_get ds number)
 
 abbrev pub is_text_shape : Shape → Bool
-is_text_shape shape.Text = true
+is_text_shape (shape.Text lead) = true
 is_text_shape _ = false
 
--- a conversion that takes a text up to white space, however long
+-- a conversion that takes a text up to white space, however long; one that takes a column has a width
 abbrev pub is_open_text : Conversion → Bool
 is_open_text c = is_text_shape c.shape && not (is_some c.width)
 
@@ -60,21 +61,26 @@ byte_after_text ds number = byte_of_text (slice_get ds (number - 2)) (slice_get 
 
 -- ---- a format between double quotes, of which a shell took `$d`: digits stand before the place, and no letter of a conversion at it
 
--- a letter or `[`; or a byte that stands after a width elsewhere: `'` (39), `*` (42), `.` (46), `?` (63) and `_` (95)
+-- a letter or `[`; or a byte that stands before a width, or after one elsewhere: `!` (33), `'` (39), `*` (42), `.` (46), `?` (63) and
+-- `_` (95)
 abbrev pub goes_on : ℕ → Bool
 goes_on b =
     (nat_lt 64 b && nat_lt b 92)
     || ((nat_lt 96 b && nat_lt b 123)
-    || (nat_eq b 39 || (nat_eq b 42 || (nat_eq b 46 || (nat_eq b 63 || nat_eq b 95)))))
+    || (nat_eq b 33 || (nat_eq b 39 || (nat_eq b 42 || (nat_eq b 46 || (nat_eq b 63 || nat_eq b 95))))))
 
--- this byte stands before the place and that one at it, where the format doesn't end there
-abbrev pub is_cut_by : FormatWhy → ℕ → ℕ → Bool
-is_cut_by Truncated before b = is_digit before
-is_cut_by UnknownLetter before b = is_digit before && not (goes_on b)
-is_cut_by why before b = false
+-- or `=` (61) before such a byte, as a mark in the wrong place: of `%1$s=%2$d` there is `%1=%2` left, where it stands before none
+abbrev pub goes_on_before : ℕ → ℕ → Bool
+goes_on_before b next = goes_on b || (nat_eq b 61 && goes_on next)
+
+-- this byte stands before the place, that one at it, where the format doesn't end there, and the next one after it
+abbrev pub is_cut_by : FormatWhy → ℕ → ℕ → ℕ → Bool
+is_cut_by Truncated before b next = is_digit before
+is_cut_by UnknownLetter before b next = is_digit before && not (goes_on_before b next)
+is_cut_by why before b next = false
 
 abbrev pub byte_at : List ℕ → ℕ → ℕ
 byte_at text at = unwrap_or (slice_get text at) 0
 
 abbrev pub is_cut : List ℕ → FormatFault → Bool
-is_cut text fault = is_cut_by fault.why (byte_at text (fault.at - 1)) (byte_at text fault.at)
+is_cut text fault = is_cut_by fault.why (byte_at text (fault.at - 1)) (byte_at text fault.at) (byte_at text (fault.at + 1))

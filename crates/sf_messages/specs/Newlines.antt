@@ -1,5 +1,5 @@
 -- Where a record and a line don't begin and end together.
-use Rattle.std.specs.Prelude.{ℕ, ◌&&◌, nat_eq, nat_lt, Bool, true, false, List, [], ◌∷◌, Option, Some, None}
+use Rattle.std.specs.Prelude.{ℕ, ◌&&◌, ◌||◌, nat_eq, nat_lt, Bool, true, false, List, [], ◌∷◌, Option, Some, None}
 use Rattle.sf_base.specs.Bytes.{is_white}
 use Rattle.sf_base.specs.Sets.{has_byte}
 use Rattle.sf_format.specs.declared.directive.Directive.{Directive}
@@ -40,9 +40,9 @@ shape_takes_newline (shape.Set members) = has_byte members 10
 shape_takes_newline shape.Chars = true
 shape_takes_newline _ = false
 
--- the first directive does
+-- the first directive does, or takes a column, which has any bytes
 abbrev pub takes_newline : List Directive → Bool
-takes_newline (Conv c ∷ ds) = shape_takes_newline c.shape
+takes_newline (Conv c ∷ ds) = c.column || shape_takes_newline c.shape
 takes_newline _ = false
 
 -- A record after the first, by the place where its run stopped: the column counts the bytes after the last newline from 1, so a

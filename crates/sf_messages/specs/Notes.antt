@@ -3,6 +3,7 @@ use Rattle.std.specs.Prelude.{ℕ, ◌+◌, ◌-◌, ◌&&◌, ◌||◌, Bool, t
 use Rattle.std.specs.Prelude.{[], ◌∷◌, ◌++◌, drop, length, map, min}
 use Rattle.std.specs.Prelude.{take, Option, Some, None, slice_get, unwrap_or, codes}
 use Rattle.std.specs.Fmt.{decimal}
+use Rattle.sf_format.specs.Leads.{is_strict}
 use Rattle.sf_format.specs.declared.fault.FormatFault.{FormatFault}
 use Rattle.sf_format.specs.declared.directive.Directive.{Directive}
 use Rattle.sf_format.specs.declared.directive.Directive.TheVariants.{Conv as Conversion}
@@ -17,12 +18,13 @@ use Rattle.sf_run.specs.outcome.Ending.{Ending}
 use Rattle.sf_run.specs.outcome.Ending.TheVariants.{End}
 use Rattle.sf_run.specs.outcome.Outcome.{Outcome}
 use Rattle.sf_run.specs.outcome.Status.{Status}
-use Rattle.sf_run.specs.outcome.Status.TheVariants.{OutOfRange}
+use Rattle.sf_run.specs.outcome.Status.TheVariants.{MatchingFailure, OutOfRange}
 use Rattle.sf_messages.specs.declared.places.place.Place.{Place}
 use Rattle.sf_records.specs.Quotes.{quoted}
 use Rattle.sf_messages.specs.declared.fault.FormatName.{FormatName}
 use Rattle.sf_messages.specs.declared.fault.FormatName.TheVariants as name
 use Rattle.sf_messages.specs.shown.Cures.{width_cure}
+use Rattle.sf_messages.specs.Columns.{failed_column, is_after_space, space_sentence, whole_text}
 use Rattle.sf_messages.specs.Facing.{faced, unit_text}
 use Rattle.sf_messages.specs.Names.{name_text}
 use Rattle.sf_messages.specs.Newlines.{is_left_white, is_lone_newline, is_newline_taken, is_over_newline, is_white_first}
@@ -43,6 +45,8 @@ use Rattle.sf_messages.specs.Sentences.{escape_sentence, left_white_sentence, lo
 use Rattle.sf_messages.specs.Sentences.{over_newline_sentence, pair_sentence, range_text, typed_escape, typed_text, values_text}
 use Rattle.sf_messages.specs.Sentences.{names_text, one_word_sentence, shell_sentence, stalled_sentence, width_option_text}
 use Rattle.sf_messages.specs.Sentences.{white_first_sentence, why_sentence}
+use Rattle.sf_messages.specs.Strict.{barred_sentence, is_barred_there, is_prefix_left, is_prefix_there, strict_prefix_sentence}
+use Rattle.sf_messages.specs.Strict.{strict_text}
 
 -- a line of its own
 abbrev pub note : List ℕ → List ℕ
@@ -239,18 +243,31 @@ abbrev pub range_note : ℕ → Option Directive → List ℕ
 range_note number (Some (Conversion c)) = wanted_note number (wanted_text c.kind)
 range_note number directive = []
 
-abbrev pub is_out_of_range : Status → Bool
-is_out_of_range OutOfRange = true
-is_out_of_range status = false
+-- what the directive with this number wants
+abbrev pub wants_note : ℕ → List ℕ → List ℕ
+wants_note number what = numbered_note number (codes " wants ") what
 
--- the same of the directive at which a run met a number out of its range
-abbrev pub range_notes : List Directive → Outcome → List ℕ
-range_notes ds outcome = if is_out_of_range outcome.status then range_note outcome.at (slice_get ds (outcome.at - 1)) else []
+-- the same, where it is a conversion with !
+abbrev pub strict_note : ℕ → Option Directive → List ℕ
+strict_note number (Some (Conversion c)) =
+    if is_strict c.shape then wants_note number (strict_text c.shape ++ whole_text c.column) else []
+strict_note number directive = []
 
--- what helps where white space stands in front of a record, or a newline in it
+-- what the directive wants at which a run ended so: which numbers, where it met one out of its range
+abbrev pub wanted_by : Status → ℕ → Option Directive → List ℕ
+wanted_by OutOfRange number directive = range_note number directive
+wanted_by MatchingFailure number directive = strict_note number directive
+wanted_by status number directive = []
+
+abbrev pub wanted_notes : List Directive → Outcome → List ℕ
+wanted_notes ds outcome = wanted_by outcome.status outcome.at (slice_get ds (outcome.at - 1))
+
+-- what helps where white space stands in front of a record, or a newline in it, or what a conversion with ! doesn't take
 abbrev pub white_notes : List Directive → ℕ → Outcome → Option Place → List ℕ → List ℕ
 white_notes ds number outcome place rest =
     if is_left_white number outcome rest then note left_white_sentence
+    else if is_barred_there ds outcome rest then note (barred_sentence rest)
+    else if is_prefix_there ds outcome rest then note strict_prefix_sentence
     else if is_white_first outcome rest then note white_first_sentence
     else if is_lone_newline number outcome place then note lone_newline_sentence
     else if is_newline_taken ds number outcome place then note newline_taken_sentence
@@ -272,12 +289,27 @@ cure_by None ds number outcome place rest =
 abbrev pub cure_notes : List Directive → ℕ → Outcome → Option Place → List ℕ → List ℕ
 cure_notes ds number outcome place rest = cure_by (byte_after_text ds outcome.at) ds number outcome place rest
 
--- a record that is no match of the format with these directives, where the one at which it failed is shown so
-abbrev pub failed_notes : List Directive → List ℕ → ℕ → Outcome → Option Place → List ℕ → List ℕ
-failed_notes ds shown number outcome place rest =
+-- the bytes of the column at which a run failed, where they are known: a column has one at least
+abbrev pub column_notes : List ℕ → List ℕ
+column_notes column = if nat_eq (length column) 0 then [] else note (codes "the column has " ++ quoted column)
+
+-- what helps where the format has white space before that column
+abbrev pub space_notes : List Directive → Outcome → List ℕ
+space_notes ds outcome = if is_after_space ds outcome then note space_sentence else []
+
+-- a run that is no match of the format with these directives, where the one at which it failed is shown so, by the number of its
+-- record and the bytes of that column
+abbrev pub run_notes : List Directive → List ℕ → ℕ → Outcome → List ℕ → Option Place → List ℕ → List ℕ
+run_notes ds shown number outcome column place rest =
     directive_note outcome.at shown
-    ++ (range_notes ds outcome
-    ++ (input_notes place ++ (stood_notes outcome.met rest ++ cure_notes ds number outcome place rest)))
+    ++ (wanted_notes ds outcome
+    ++ (column_notes column
+    ++ (input_notes place
+    ++ (stood_notes outcome.met rest ++ (cure_notes ds number outcome place rest ++ space_notes ds outcome)))))
+
+-- a record that is no match: its bytes are gone
+abbrev pub failed_notes : List Directive → List ℕ → ℕ → Outcome → Option Place → List ℕ → List ℕ
+failed_notes ds shown number outcome place rest = run_notes ds shown number outcome [] place rest
 
 -- ---- lines
 
@@ -285,15 +317,21 @@ failed_notes ds shown number outcome place rest =
 abbrev pub line_rest : List ℕ → ℕ → List ℕ
 line_rest line used = drop (min used (length line)) line
 
--- the bytes that a format left of a line, and what helps
-abbrev pub left_notes : List ℕ → List ℕ
-left_notes rest = rest_notes rest ++ (if is_carriage rest then note carriage_sentence else [])
+-- what helps where a format left these bytes of a line
+abbrev pub left_cure : List Directive → List ℕ → List ℕ
+left_cure ds rest =
+    if is_carriage rest then note carriage_sentence else (if is_prefix_left ds rest then note strict_prefix_sentence else [])
+
+-- the bytes, and what helps
+abbrev pub left_notes : List Directive → List ℕ → List ℕ
+left_notes ds rest = rest_notes rest ++ left_cure ds rest
 
 -- A line of an input that is no match, by what was read of it, where its directive is shown so: what is said of a run that had
--- the line alone for its input, but for the place; the bytes that the run left; or what the line begins with, where it is
--- longer than the limit.
+-- the line alone for its input, but for the place, and the bytes of the column at which it failed; the bytes that the run left; or
+-- what the line begins with, where it is longer than the limit.
 abbrev pub line_notes : List Directive → List ℕ → List ℕ → LineFault → List ℕ
-line_notes ds shown line (Failed outcome) = failed_notes ds shown 1 outcome None (line_rest line outcome.used)
-line_notes ds shown line (LeftOver at) = left_notes (line_rest line at)
+line_notes ds shown line (Failed outcome) =
+    run_notes ds shown 1 outcome (failed_column ds outcome line) None (line_rest line outcome.used)
+line_notes ds shown line (LeftOver at) = left_notes ds (line_rest line at)
 line_notes ds shown line TooLong = byte_notes (codes "it begins with ") line
 line_notes ds shown line Unfit = []

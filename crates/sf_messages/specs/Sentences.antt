@@ -46,15 +46,19 @@ abbrev pub is_flag : ℕ → Bool
 is_flag b = nat_eq b 45 || (nat_eq b 43 || (nat_eq b 32 || nat_eq b 35))
 
 -- what is written otherwise than with this byte, by the bytes after it: `.` (46) is a precision, which a scan format has before no
--- letter; `?` (63) stands for what may be missing, `*` (42) for what is dropped; b (98) is base 2; D, O and U (68, 79, 85) are long
--- integers of old; `[` (91) is a set; and flags
+-- letter; `?` (63) stands for what may be missing, `!` (33) for what is read strictly, `=` (61) for a column, `*` (42) for what is
+-- dropped; b (98) is base 2; D, O and U (68, 79, 85) are long integers of old; `[` (91) is a set; and flags
 abbrev pub unknown_sentence : ℕ → List ℕ → List ℕ
 unknown_sentence b rest =
     if nat_eq b 46 && is_float_after rest then codes "a scan format has no precision: write %5f, and not %5.2f"
     else if nat_eq b 46 then codes "a precision stands in a print format alone; of two formats the print format comes first"
     else if nat_eq b 63
     then codes "what may be missing has a ? before its width, in a scan format and by --profile 3: write %?5d"
-    else if nat_eq b 42 then codes "a star stands before a ? and a width: write %*?5d"
+    else if nat_eq b 33
+    then codes "what is read strictly has a ! before its width, in a scan format and by --profile 3: write %!5d"
+    else if nat_eq b 61
+    then codes "what stands in a column has a = before its width, in a scan format and by --profile 3: write %=8d"
+    else if nat_eq b 42 then codes "a star stands before a ?, a =, a ! and a width: write %*?=!5d"
     else if nat_eq b 98 then codes "base 2 is read and printed by --profile 2"
     else if nat_eq b 68 || (nat_eq b 79 || nat_eq b 85) then codes "the length l makes long integers: write %ld, %lo or %lu"
     else if nat_eq b 91 then codes "a set stands in a scan format alone; of two formats the print format comes first"
@@ -89,6 +93,7 @@ why_sentence format.TooManyDestinations b rest = codes "a format has at most 32 
 why_sentence format.BadFlag b rest = codes "this letter has no such flag or precision"
 why_sentence format.PrecisionTooLarge b rest = codes "a precision is at most 255"
 why_sentence format.NoMemory b rest = codes "memory was refused"
+why_sentence format.BadMark b rest = codes "a = has a width after it, and %c and %n have no =; %c, %[ and %n have no !"
 
 -- why a pair is refused
 abbrev pub pair_sentence : PairWhy → List ℕ
@@ -104,6 +109,7 @@ pair_sentence why.NotWritten = codes "nothing is written for %n"
 pair_sentence why.MayBeMissing = codes "what may be missing is not written: leave out the ?"
 pair_sentence why.BadFlagHere = codes "what this flag, width or precision writes is not read back"
 pair_sentence why.NoValues = codes "a pair has at least one value"
+pair_sentence why.BadMark = codes "the two widths differ at a conversion with =, or what this flag, width or letter writes is not read by one with !"
 
 -- why a word's escapes are refused
 abbrev pub escape_sentence : List ℕ

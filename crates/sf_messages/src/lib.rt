@@ -1,6 +1,7 @@
 //! What a command says: how formats are shown, why it ends, where in the input, and what is said after that.
 #![tactic(auto)]
 
+mod columns;
 mod facing;
 mod fault;
 mod mistakes;
@@ -10,6 +11,7 @@ mod notes;
 mod places;
 mod sentences;
 mod shown;
+mod strict;
 mod wording;
 
 pub use fault::{CommandFault, FormatName, format_fault, print_format_fault};

@@ -2,7 +2,7 @@
 ghost use Rattle.std.specs.Prelude.{◌≡◌, option_map};
 ghost use Rattle.sf_messages.specs.Mistakes.{are_class, begins_marked, begins_wide, byte_after_text, byte_at};
 ghost use Rattle.sf_messages.specs.Mistakes.{byte_of_text, goes_on, is_carriage, is_class, is_class_shape, is_cut};
-ghost use Rattle.sf_messages.specs.Mistakes.{is_cut_by, is_open_text};
+ghost use Rattle.sf_messages.specs.Mistakes.{goes_on_before, is_cut_by, is_open_text};
 
 use crate::sentences::is_digit;
 use sf_format::{Conversion, Directive, FormatFault, FormatWhy, Shape};
@@ -34,7 +34,7 @@ fn is_class_shape(shape: &Shape) -> bool
 {
     match shape {
         Shape::Set(members) => members.contains(b'[') && members.contains(b':'),
-        Shape::Int(_) | Shape::Text | Shape::Chars | Shape::Float | Shape::Count => false,
+        Shape::Int(_) | Shape::Text(_) | Shape::Chars | Shape::Float(_) | Shape::Count => false,
     }
 }
 
@@ -59,11 +59,11 @@ pub(crate) fn is_class(directives: &[Directive], number: u16) -> bool
     are_class(directives.get(next.saturating_sub(1)), directives.get(next))
 }
 
-/// Whether a conversion takes a text up to white space, however long.
+/// Whether a conversion takes a text up to white space, however long. A column has a width.
 fn is_open_text(conversion: &Conversion) -> bool
     ensures { result ≡ is_open_text conversion.now }
 {
-    matches!(conversion.shape, Shape::Text) && conversion.width.is_none()
+    matches!(conversion.shape, Shape::Text(_)) && conversion.width.is_none()
 }
 
 /// The byte that has to stand after such a text, where the two directives are these.
@@ -93,16 +93,23 @@ pub(crate) fn byte_after_text(directives: &[Directive], number: u16) -> Option<u
 fn goes_on(b: u8) -> bool
     ensures { result ≡ goes_on b }
 {
-    matches!(b, b'A'..=b'[' | b'a'..=b'z' | b'\'' | b'*' | b'.' | b'?' | b'_')
+    matches!(b, b'A'..=b'[' | b'a'..=b'z' | b'!' | b'\'' | b'*' | b'.' | b'?' | b'_')
 }
 
-/// Whether a conversion has digits and no letter, by the byte before the fault and that at it.
-fn is_cut_by(why: FormatWhy, before: u8, b: u8) -> bool
-    ensures { result ≡ is_cut_by why before b }
+/// Whether a byte does, by the one after it: a `=` before a letter seems to be a mark that stands in the wrong place.
+fn goes_on_before(b: u8, next: u8) -> bool
+    ensures { result ≡ goes_on_before b next }
+{
+    goes_on(b) || (b == b'=' && goes_on(next))
+}
+
+/// Whether a conversion has digits and no letter, by the byte before the fault, that at it and the next one.
+fn is_cut_by(why: FormatWhy, before: u8, b: u8, next: u8) -> bool
+    ensures { result ≡ is_cut_by why before b next }
 {
     match why {
         FormatWhy::Truncated => is_digit(before),
-        FormatWhy::UnknownLetter => is_digit(before) && !goes_on(b),
+        FormatWhy::UnknownLetter => is_digit(before) && !goes_on_before(b, next),
         _ => false,
     }
 }
@@ -123,5 +130,6 @@ pub(crate) fn is_cut(text: &[u8], fault: FormatFault) -> bool
         fault.why,
         byte_at(text, at.saturating_sub(1)),
         byte_at(text, at),
+        byte_at(text, at + 1),
     )
 }

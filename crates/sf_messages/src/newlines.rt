@@ -1,15 +1,16 @@
 //! Where a record and a line don't begin and end together.
 ghost use Rattle.std.specs.Prelude.{◌≡◌};
 ghost use Rattle.sf_messages.specs.Newlines.{begins_white, is_left_white, is_lone_newline, is_newline_taken};
-ghost use Rattle.sf_messages.specs.Newlines.{is_over_newline, is_white_first, takes_newline};
+ghost use Rattle.sf_messages.specs.Newlines.{is_over_newline, is_white_first, shape_takes_newline};
+ghost use Rattle.sf_messages.specs.Newlines.{takes_newline};
 
 use crate::places::Place;
 use sf_base::is_space;
-use sf_format::{Conversion, Directive, Shape};
+use sf_format::{Directive, Shape};
 use sf_run::{Ending, Outcome};
 
 /// Whether bytes begin with white space.
-fn begins_white(rest: &[u8]) -> bool
+pub(crate) fn begins_white(rest: &[u8]) -> bool
     ensures { result ≡ begins_white rest.now }
 {
     match rest {
@@ -42,16 +43,25 @@ pub(crate) fn is_lone_newline(number: u32, outcome: Outcome, place: Option<Place
     1 < number && outcome.used == 1 && column == 1 && matches!(outcome.met, Some(Ending::End))
 }
 
-/// Whether a format's first directive takes a newline as it takes other bytes: a set that has it, or characters.
+/// Whether a conversion that takes no column takes a newline as it takes other bytes: a set that has it, or characters.
+fn shape_takes_newline(shape: &Shape) -> bool
+    ensures { result ≡ shape_takes_newline shape.now }
+{
+    match shape {
+        Shape::Set(members) => members.contains(b'\n'),
+        Shape::Chars => true,
+        Shape::Int(_) | Shape::Text(_) | Shape::Float(_) | Shape::Count => false,
+    }
+}
+
+/// Whether a format's first directive does, or takes a column, which has any bytes.
 fn takes_newline(directives: &[Directive]) -> bool
     ensures { result ≡ takes_newline directives.now }
 {
     match directives {
-        [Directive::Conv(Conversion { shape, .. }), ..] => match shape {
-            Shape::Set(members) => members.contains(b'\n'),
-            Shape::Chars => true,
-            Shape::Int(_) | Shape::Text | Shape::Float | Shape::Count => false,
-        },
+        [Directive::Conv(conversion), ..] => {
+            conversion.column || shape_takes_newline(&conversion.shape)
+        }
         _ => false,
     }
 }

@@ -4,12 +4,14 @@ ghost use Rattle.sf_messages.specs.Notes.{blanks, byte_notes, count_notes, cure_
 ghost use Rattle.sf_messages.specs.Notes.{escape_notes, failed_notes, format_notes, input_notes};
 ghost use Rattle.sf_messages.specs.Notes.{line_notes, line_rest, note, pair_notes, part_note};
 ghost use Rattle.sf_messages.specs.Notes.{place_notes, print_side, rest_notes, scan_side, stood_notes, value_note};
-ghost use Rattle.sf_messages.specs.Notes.{exception_text, float_cure, is_excepted, left_notes, mismatch_notes};
-ghost use Rattle.sf_messages.specs.Notes.{numbered_note, range_note, range_notes, raw_notes, stop_note, value_notes};
+ghost use Rattle.sf_messages.specs.Notes.{exception_text, float_cure, is_excepted, left_cure, left_notes};
+ghost use Rattle.sf_messages.specs.Notes.{mismatch_notes, numbered_note, range_note, raw_notes, stop_note};
+ghost use Rattle.sf_messages.specs.Notes.{strict_note, value_notes, wanted_notes, wants_note};
 ghost use Rattle.sf_messages.specs.Notes.{alone_cure, alone_notes, counted_names, counted_values, name_count_notes};
 ghost use Rattle.sf_messages.specs.Notes.{named_cure, names_cure, names_sample, shell_notes, stalled_notes};
-ghost use Rattle.sf_messages.specs.Notes.{wanted_note, white_notes};
+ghost use Rattle.sf_messages.specs.Notes.{column_notes, run_notes, space_notes, wanted_note, white_notes};
 
+use crate::columns::{failed_column, is_after_space, space_sentence, whole_text};
 use crate::facing::{faced, push_unit};
 use crate::fault::FormatName;
 use crate::mistakes::{
@@ -29,6 +31,10 @@ use crate::sentences::{
     width_option_text,
 };
 use crate::shown::{push_text, push_width_cure};
+use crate::strict::{
+    barred_sentence, is_barred_there, is_prefix_left, is_prefix_there, strict_prefix_sentence,
+    strict_text,
+};
 use sf_arguments::{ArgumentFault, kind_text};
 use sf_base::Kind;
 use sf_format::{Directive, FormatFault, PrintConv, PrintLetter, Unit};
@@ -587,23 +593,58 @@ fn push_range(
     }
 }
 
-/// Appends which numbers the directive takes at which a run met one out of its range.
-fn push_range_missed(
+/// Appends what a directive wants.
+fn push_wants(
+    alloc: Global,
+    output: &mut Vec<u8>,
+    number: u16,
+    what: &[u8],
+) -> Result<(), AllocError>
+    ensures { OnOk result (output.new.items ≡ output.old.items ++ wants_note number what.now) }
+{
+    push_numbered(alloc, output, number, b" wants ", what)
+}
+
+/// Appends the same, where the directive is a conversion with `!`.
+fn push_strict(
+    alloc: Global,
+    output: &mut Vec<u8>,
+    number: u16,
+    directive: Option<&Directive>,
+) -> Result<(), AllocError>
+    ensures { OnOk result (output.new.items
+        ≡ output.old.items ++ strict_note number (option_map (λ given. given.now) directive.entry)) }
+{
+    match directive {
+        Some(Directive::Conv(conversion)) if conversion.shape.is_strict() => {
+            let mut what = Vec::new(alloc);
+            push_text(&mut what, strict_text(&conversion.shape))?;
+            push_text(&mut what, whole_text(conversion.column))?;
+            push_wants(alloc, output, number, &what)
+        }
+        _ => Ok(()),
+    }
+}
+
+/// Appends what the directive wants at which a run failed: which numbers, where it met one out of its range.
+fn push_missed(
     alloc: Global,
     output: &mut Vec<u8>,
     directives: &[Directive],
     outcome: Outcome,
 ) -> Result<(), AllocError>
-    ensures { OnOk result (output.new.items ≡ output.old.items ++ range_notes directives.now outcome) }
+    ensures { OnOk result (output.new.items ≡ output.old.items ++ wanted_notes directives.now outcome) }
 {
-    if outcome.status != Status::OutOfRange {
-        return Ok(());
-    }
     let place = usize::from(outcome.at).saturating_sub(1);
-    push_range(alloc, output, outcome.at, directives.get(place))
+    match outcome.status {
+        Status::OutOfRange => push_range(alloc, output, outcome.at, directives.get(place)),
+        Status::MatchingFailure => push_strict(alloc, output, outcome.at, directives.get(place)),
+        _ => Ok(()),
+    }
 }
 
-/// Appends what helps where white space stands in front of a record, or a newline in it.
+/// Appends what helps where white space stands in front of a record, or a newline in it, or what a conversion with `!`
+/// doesn't take.
 fn push_white_cure(
     output: &mut Vec<u8>,
     directives: &[Directive],
@@ -617,6 +658,10 @@ fn push_white_cure(
 {
     if is_left_white(number, outcome, rest) {
         push_note(output, left_white_sentence().as_bytes())
+    } else if is_barred_there(directives, outcome, rest) {
+        push_note(output, barred_sentence(rest).as_bytes())
+    } else if is_prefix_there(directives, outcome, rest) {
+        push_note(output, strict_prefix_sentence().as_bytes())
     } else if is_white_first(outcome, rest) {
         push_note(output, white_first_sentence().as_bytes())
     } else if is_lone_newline(number, outcome, place) {
@@ -666,9 +711,63 @@ fn push_cure(
     }
 }
 
+/// Appends the line of the bytes of a column, where they are known.
+fn push_column(alloc: Global, output: &mut Vec<u8>, column: &[u8]) -> Result<(), AllocError>
+    ensures { OnOk result (output.new.items ≡ output.old.items ++ column_notes column.now) }
+{
+    if column.is_empty() {
+        return Ok(());
+    }
+    let mut text = Vec::new(alloc);
+    text.extend_from_slice(b"the column has ")?;
+    push_quoted(&mut text, column)?;
+    push_note(output, &text)
+}
+
+/// Appends what helps where white space of the format stands before the column at which a run failed.
+fn push_space(
+    output: &mut Vec<u8>,
+    directives: &[Directive],
+    outcome: Outcome,
+) -> Result<(), AllocError>
+    ensures { OnOk result (output.new.items ≡ output.old.items ++ space_notes directives.now outcome) }
+{
+    if is_after_space(directives, outcome) {
+        push_note(output, space_sentence().as_bytes())
+    } else {
+        Ok(())
+    }
+}
+
+/// What is said of a run that is no match, as of a record; and the bytes of the column at which it failed, where they
+/// are known.
+fn run_notes(
+    alloc: Global,
+    directives: &[Directive],
+    shown: &[u8],
+    number: u32,
+    outcome: Outcome,
+    column: &[u8],
+    place: Option<Place>,
+    rest: &[u8],
+) -> Result<Vec<u8>, AllocError>
+    ensures { IfOk result (λ notes. notes.items
+        ≡ run_notes directives.now shown.now number outcome column.now place rest.now) }
+{
+    let mut notes = Vec::new(alloc);
+    push_numbered(alloc, &mut notes, outcome.at, b": ", shown)?;
+    push_missed(alloc, &mut notes, directives, outcome)?;
+    push_column(alloc, &mut notes, column)?;
+    push_input(alloc, &mut notes, place)?;
+    push_stood(alloc, &mut notes, outcome.met, rest)?;
+    push_cure(alloc, &mut notes, directives, number, outcome, place, rest)?;
+    push_space(&mut notes, directives, outcome)?;
+    Ok(notes)
+}
+
 /// What is said of a record that is no match, by the directives of its format: its number, the directive at which it
 /// failed, as it is shown, the place in the input where the run stopped, where it is known, and the bytes that the run
-/// left. Of a number that is out of range, which numbers the directive takes.
+/// left. Of a number that is out of range, which numbers the directive takes; of a conversion with `!`, what it wants.
 pub fn failed_notes(
     alloc: Global,
     directives: &[Directive],
@@ -681,13 +780,7 @@ pub fn failed_notes(
     ensures { IfOk result (λ notes. notes.items
         ≡ failed_notes directives.now shown.now number outcome place rest.now) }
 {
-    let mut notes = Vec::new(alloc);
-    push_numbered(alloc, &mut notes, outcome.at, b": ", shown)?;
-    push_range_missed(alloc, &mut notes, directives, outcome)?;
-    push_input(alloc, &mut notes, place)?;
-    push_stood(alloc, &mut notes, outcome.met, rest)?;
-    push_cure(alloc, &mut notes, directives, number, outcome, place, rest)?;
-    Ok(notes)
+    run_notes(alloc, directives, shown, number, outcome, &[], place, rest)
 }
 
 /// The bytes of a line after so many.
@@ -697,20 +790,39 @@ fn line_rest(line: &[u8], used: u32) -> &[u8]
     &line[(used as usize).min(line.len())..]
 }
 
+/// Appends what helps where a format left these bytes of a line.
+fn push_left_cure(
+    output: &mut Vec<u8>,
+    directives: &[Directive],
+    rest: &[u8],
+) -> Result<(), AllocError>
+    ensures { OnOk result (output.new.items ≡ output.old.items ++ left_cure directives.now rest.now) }
+{
+    if is_carriage(rest) {
+        push_note(output, carriage_sentence().as_bytes())
+    } else if is_prefix_left(directives, rest) {
+        push_note(output, strict_prefix_sentence().as_bytes())
+    } else {
+        Ok(())
+    }
+}
+
 /// Appends the line of the bytes that a format left of a line, and what helps.
-fn push_left(alloc: Global, output: &mut Vec<u8>, rest: &[u8]) -> Result<(), AllocError>
-    ensures { OnOk result (output.new.items ≡ output.old.items ++ left_notes rest.now) }
+fn push_left(
+    alloc: Global,
+    output: &mut Vec<u8>,
+    directives: &[Directive],
+    rest: &[u8],
+) -> Result<(), AllocError>
+    ensures { OnOk result (output.new.items ≡ output.old.items ++ left_notes directives.now rest.now) }
 {
     push_rest(alloc, output, rest)?;
-    if is_carriage(rest) {
-        push_note(output, carriage_sentence().as_bytes())?;
-    }
-    Ok(())
+    push_left_cure(output, directives, rest)
 }
 
 /// What is said of a line of an input that is no match, by what was read of it, and why it is none: what is said of a
-/// run that had the line alone for its input, but for the place. `shown` is how the directive is shown at which the run
-/// failed, of those of the format that counts.
+/// run that had the line alone for its input, but for the place, and the bytes of the column at which it failed.
+/// `shown` is how the directive is shown at which the run failed, of those of the format that counts.
 pub fn line_notes(
     alloc: Global,
     directives: &[Directive],
@@ -724,9 +836,12 @@ pub fn line_notes(
     match fault {
         LineFault::Failed { outcome } => {
             let rest = line_rest(line, outcome.used);
-            return failed_notes(alloc, directives, shown, 1, outcome, None, rest);
+            let column = failed_column(directives, outcome, line);
+            return run_notes(alloc, directives, shown, 1, outcome, column, None, rest);
         }
-        LineFault::LeftOver { at } => push_left(alloc, &mut said, line_rest(line, at))?,
+        LineFault::LeftOver { at } => {
+            push_left(alloc, &mut said, directives, line_rest(line, at))?;
+        }
         LineFault::TooLong => push_bytes(alloc, &mut said, b"it begins with ", line)?,
         LineFault::Unfit => {}
     }

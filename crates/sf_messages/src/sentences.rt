@@ -96,7 +96,13 @@ fn unknown_sentence(b: u8, rest: &[u8]) -> &'static str
         b'?' => {
             "what may be missing has a ? before its width, in a scan format and by --profile 3: write %?5d"
         }
-        b'*' => "a star stands before a ? and a width: write %*?5d",
+        b'!' => {
+            "what is read strictly has a ! before its width, in a scan format and by --profile 3: write %!5d"
+        }
+        b'=' => {
+            "what stands in a column has a = before its width, in a scan format and by --profile 3: write %=8d"
+        }
+        b'*' => "a star stands before a ?, a =, a ! and a width: write %*?=!5d",
         b'b' => "base 2 is read and printed by --profile 2",
         b'D' | b'O' | b'U' => "the length l makes long integers: write %ld, %lo or %lu",
         b'[' => "a set stands in a scan format alone; of two formats the print format comes first",
@@ -341,6 +347,9 @@ pub(crate) fn why_sentence(why: FormatWhy, b: u8, rest: &[u8]) -> &'static str
         FormatWhy::BadFlag => "this letter has no such flag or precision",
         FormatWhy::PrecisionTooLarge => "a precision is at most 255",
         FormatWhy::NoMemory => "memory was refused",
+        FormatWhy::BadMark => {
+            "a = has a width after it, and %c and %n have no =; %c, %[ and %n have no !"
+        }
     }
 }
 
@@ -364,5 +373,8 @@ pub(crate) fn pair_sentence(why: PairWhy) -> &'static str
         PairWhy::MayBeMissing => "what may be missing is not written: leave out the ?",
         PairWhy::BadFlagHere => "what this flag, width or precision writes is not read back",
         PairWhy::NoValues => "a pair has at least one value",
+        PairWhy::BadMark =>
+            "the two widths differ at a conversion with =, or what this flag, width or letter writes is not read by \
+             one with !",
     }
 }

@@ -1,6 +1,8 @@
 -- What stands in front of a scan that has read a part of a printed text.
-use Rattle.std.proofs.Common.{◌≡◌, ◌≢◌, ℕ, zero, suc, ◌<◌, ◌⊎◌, inl, inr, Bool, true, false, cond, ◌&&◌, List, [], ◌∷◌, ◌++◌, drop, Option}
+use Rattle.std.proofs.Common.{◌≡◌, ◌≢◌, ℕ, zero, suc, ◌<◌, ◌⊎◌, inl, inr, Bool, true, false, cond, ◌&&◌, ◌||◌, List, [], ◌∷◌, ◌++◌, drop}
+use Rattle.std.proofs.Common.{Option}
 use Rattle.std.proofs.Common.{Some, None, is_some, refl, sym, ap, subst, ◌∙◌, append_assoc, eq-eqb, true≢false}
+use Rattle.std.specs.Prelude.{not}
 use Rattle.sf_base.specs.Bytes.{is_white}
 use Rattle.sf_base.specs.Data.{Datum}
 use Rattle.sf_format.specs.declared.directive.Shape.{Shape}
@@ -11,6 +13,7 @@ use Rattle.sf_format.specs.declared.directive.Directive.TheVariants as directive
 use Rattle.sf_format.specs.declared.unit.PrintConv.{PrintConv}
 use Rattle.sf_format.specs.declared.unit.Unit.{Unit as PrintUnit}
 use Rattle.sf_format.specs.declared.unit.Unit.TheVariants as unit
+use Rattle.sf_format.specs.Leads.{is_strict_lead}
 use Rattle.sf_format.specs.Units.{IsProperUnit, AreProperUnits}
 use Rattle.sf_print.specs.texts.Text.{value_text, blanks}
 use Rattle.sf_print.specs.Printed.{text_or_none, printed}
@@ -18,12 +21,13 @@ use Rattle.sf_report.specs.Machine.{shape_skips}
 use Rattle.sf_report.specs.Laws.{EachByteIsTried}
 use Rattle.sf_report.specs.Computed.{skip}
 use Rattle.sf_pair.specs.declared.fault.PairWhy.TheVariants as why
-use Rattle.sf_pair.specs.conversions.Neighbours.{Bytes as ByteTest, meet, first_of, first_by_letter, reads, stop_set}
-use Rattle.sf_pair.specs.Groups.{AreSpace, is_count, starts_with_space, keeps_space, space_fault, always_full, follow_fault, closing_fault}
-use Rattle.sf_pair.specs.Groups.{next_of}
+use Rattle.sf_pair.specs.conversions.Neighbours.{Bytes as ByteTest, meet, no_conversion, first_of, first_read, reads, stop_set}
+use Rattle.sf_pair.specs.Groups.{AreSpace, is_count, starts_with_space, shape_keeps_space, keeps_space, space_fault, always_full, is_closed}
+use Rattle.sf_pair.specs.Groups.{follow_fault, closing_fault, next_of}
 use Rattle.sf_pair.proofs.ConversionLemmas.Bodies.{StartsInk, FirstByte}
 use Rattle.sf_pair.proofs.ConversionLemmas.Firsts.{FirstIn, first_append}
 use Rattle.sf_pair.proofs.Taken.{FirstOut}
+use Rattle.sf_pair.proofs.Back.{back_first}
 use Rattle.sf_pair.proofs.FitCut.{PairedReads, FitCut}
 
 -- ---- sets that don't meet
@@ -67,7 +71,7 @@ abbrev pub skips : Directive → Bool
 skips directive.Space = true
 skips (directive.Byte b) = false
 skips directive.Percent = true
-skips (directive.Conv s) = shape_skips s.shape
+skips (directive.Conv s) = not s.column && shape_skips s.shape
 
 -- the input that is left is what is still to come, or that without its white space, where the next directive skips it
 abbrev pub At : Option Directive → List ℕ → List ℕ → Type 0
@@ -116,8 +120,8 @@ byte_append : (xs ys : List ℕ) (s : ByteTest) → FirstIn s xs → FirstByte x
 byte_append [] ys s f h = absurd f
 byte_append (b ∷ bs) ys s f h = h
 
-reads_assigned : (s : Conversion) (slot : ℕ) → s.slot ≡ Some slot → reads (Some (directive.Conv s)) ≡ s.shape
-reads_assigned s slot e = ap (λ (o : Option ℕ). cond (is_some o) s.shape shape.Count) e
+reads_assigned : (s : Conversion) (slot : ℕ) → s.slot ≡ Some slot → reads (Some (directive.Conv s)) ≡ s
+reads_assigned s slot e = ap (λ (o : Option ℕ). cond (is_some o) s no_conversion) e
 
 module _ (tried : EachByteIsTried) (values : List Datum) (z : List ℕ) where
   conv_space : (c : PrintConv) (us group later : List PrintUnit) → unit.Conv c ∷ us ≡ group ++ later → (group ≢ []) → AreSpace group → ⊥
@@ -135,14 +139,14 @@ module _ (tried : EachByteIsTried) (values : List Datum) (z : List ℕ) where
       let whole : printed (unit.Conv c ∷ us) values ++ z ≡ text ++ (printed later values ++ z) =
       ap (λ (us : List PrintUnit). printed us values ++ z) parts ∙ ap (λ (t : List ℕ). t ++ z) (paired_text values s group later next p)
       ∙ append_assoc text (printed later values) z in
-      let set : first_of (unit.Conv c) (Some (directive.Conv s)) ≡ first_by_letter p.conversion.letter p.conversion s.shape =
-      ap (λ (h : Shape). first_by_letter c.letter c h) (reads_assigned s p.conversion.slot p.slot)
-      ∙ ap (λ (a : PrintConv). first_by_letter a.letter a s.shape) (sym same) in
+      let set : first_of (unit.Conv c) (Some (directive.Conv s)) ≡ first_read p.conversion s =
+      ap (first_read c) (reads_assigned s p.conversion.slot p.slot) ∙ ap (λ (a : PrintConv). first_read a s) (sym same) in
+      let begins = back_first p.conversion s p.value p.back in
       let F : ByteTest → Type 0 = λ t. FirstIn t (text ++ (printed later values ++ z)) in
       let G : List ℕ → Type 0 = λ xs. FirstIn (first_of (unit.Conv c) (Some (directive.Conv s))) xs in
       record {
-        first = subst G (sym whole) (subst F (sym set) (first_append _ text (printed later values ++ z) p.back.first));
-        byte = subst FirstByte (sym whole) (byte_append text (printed later values ++ z) _ p.back.first p.back.first_byte);
+        first = subst G (sym whole) (subst F (sym set) (first_append _ text (printed later values ++ z) begins.0));
+        byte = subst FirstByte (sym whole) (byte_append text (printed later values ++ z) _ begins.0 begins.1);
       }
 
   literal_not_conv : (c : PrintConv) (us group later : List PrintUnit) (b : ℕ) → unit.Conv c ∷ us ≡ group ++ later
@@ -168,19 +172,19 @@ module _ (tried : EachByteIsTried) (values : List Datum) (z : List ℕ) where
 
   -- ---- what ends an item
 
-  pub closed_by : (c : PrintConv) (s : Conversion) (ds : List Directive) (rest : List PrintUnit) → AreProperUnits rest
-      → FitCut values ds rest → closing_fault c s rest (reads (next_of ds)) ≡ None
+  pub closed_by : (c : PrintConv) (s : Conversion) (ds : List Directive) (rest : List PrintUnit) → s.column ≡ false
+      → AreProperUnits rest → FitCut values ds rest → closing_fault c s rest (reads (next_of ds)) ≡ None
       → (always_full c s ≡ true) ⊎ FirstOut (stop_set s.shape c) (printed rest values ++ z)
-  closed_by c s ds rest proper cut e = by (always_full c s) refl rest proper cut e
+  closed_by c s ds rest item proper cut e = by (is_closed c s) refl rest proper cut e
     where
       apart : (t : Bool) → cond t (Some why.RunsOn) None ≡ None → t ≡ false
       apart true e = cc
       apart false e = refl
 
-      by : (t : Bool) → always_full c s ≡ t → (rest : List PrintUnit) → AreProperUnits rest → FitCut values ds rest
+      by : (t : Bool) → is_closed c s ≡ t → (rest : List PrintUnit) → AreProperUnits rest → FitCut values ds rest
           → cond t None (follow_fault (stop_set s.shape c) rest (reads (next_of ds))) ≡ None
           → (always_full c s ≡ true) ⊎ FirstOut (stop_set s.shape c) (printed rest values ++ z)
-      by true is rest proper cut e = inl is
+      by true is rest proper cut e = inl (sym (ap (λ (t : Bool). t || always_full c s) item) ∙ is)
       by false is [] proper cut e = absurd cc
       by false is (u ∷ us) proper cut e =
           let b = rest_begins ds u us proper.0 cut in
@@ -200,11 +204,24 @@ module _ (tried : EachByteIsTried) (values : List Datum) (z : List ℕ) where
   unskipped : (d : Directive) (xs : List ℕ) → skip xs ≡ 0 → At (Some d) (drop (skip xs) xs) xs
   unskipped d xs none = inl (ap (λ (k : ℕ). drop k xs) none)
 
-  keeps : (h : Shape) → shape_skips h ≡ false → is_count h ≡ false → keeps_space h ≡ true
+  strict_so : (strict : Bool) → not strict ≡ false → strict ≡ true
+  strict_so true e = refl
+  strict_so false e = absurd cc
+
+  keeps : (h : Shape) → shape_skips h ≡ false → is_count h ≡ false → shape_keeps_space h ≡ true
+  keeps (shape.Int numeral) e n = strict_so (is_strict_lead numeral.lead) e
+  keeps (shape.Text lead) e n = strict_so (is_strict_lead lead) e
+  keeps (shape.Float lead) e n = strict_so (is_strict_lead lead) e
   keeps (shape.Set members) e n = refl
   keeps shape.Chars e n = refl
   keeps shape.Count e n = absurd cc
-  keeps _ e n = absurd cc
+
+  keeps_it : (s : Conversion) → skips (directive.Conv s) ≡ false → is_count s.shape ≡ false → keeps_space s ≡ true
+  keeps_it s e n = by s.column e
+    where
+      by : (t : Bool) → (not t && shape_skips s.shape) ≡ false → (t || shape_keeps_space s.shape) ≡ true
+      by true e = refl
+      by false e = keeps s.shape e n
 
   not_met : (k m : Bool) → k ≡ true → cond (k && m) (Some why.RunsOn) None ≡ None → m ≡ false
   not_met true true e h = absurd cc
@@ -223,18 +240,18 @@ module _ (tried : EachByteIsTried) (values : List Datum) (z : List ℕ) where
       unskipped (directive.Byte b) _ (literal_unskipped group later (u ∷ us) is.0 parts is.1 start)
   next_ready (directive.Conv s ∷ ds) (u ∷ us) proper (group, later, parts, is, more) start fault =
       elim is [
-        | inl p ↦ paired p (shape_skips s.shape) refl
+        | inl p ↦ paired p (skips (directive.Conv s)) refl
         | inr l ↦ unskipped (directive.Conv s) _ (literal_unskipped group later (u ∷ us) l.byte parts l.group_is start)
       ]
     where
-      paired : PairedReads values s group later (next_of ds) → (t : Bool) → shape_skips s.shape ≡ t
+      paired : PairedReads values s group later (next_of ds) → (t : Bool) → skips (directive.Conv s) ≡ t
           → At (Some (directive.Conv s)) (drop (skip (printed (u ∷ us) values ++ z)) (printed (u ∷ us) values ++ z))
           (printed (u ∷ us) values ++ z)
       paired p true e = inr (e, refl)
       paired p false e =
           let b = rest_begins (directive.Conv s ∷ ds) u us proper.0 (group, later, parts, is, more) in
-          let keeps_it : keeps_space (reads (Some (directive.Conv s))) ≡ true =
-          ap keeps_space (reads_assigned s p.conversion.slot p.slot) ∙ keeps s.shape e p.no_count in
-          let none : meet (first_of u (Some (directive.Conv s))) is_white ≡ false = not_met _ _ keeps_it fault in
+          let kept : keeps_space (reads (Some (directive.Conv s))) ≡ true =
+          ap keeps_space (reads_assigned s p.conversion.slot p.slot) ∙ keeps_it s e p.no_count in
+          let none : meet (first_of u (Some (directive.Conv s))) is_white ≡ false = not_met _ _ kept fault in
           unskipped (directive.Conv s) _ (first_unskipped (printed (u ∷ us) values ++ z)
           (first_out tried (first_of u (Some (directive.Conv s))) is_white (printed (u ∷ us) values ++ z) none b.byte b.first))

@@ -6,13 +6,14 @@ use Rattle.sf_format.specs.declared.directive.Shape.TheVariants as shape
 use Rattle.sf_format.specs.declared.directive.Conversion.{Conversion}
 use Rattle.sf_format.specs.declared.directive.Directive.{Directive}
 use Rattle.sf_format.specs.declared.directive.Directive.TheVariants as directive
+use Rattle.sf_format.specs.declared.unit.PrintConv.{PrintConv}
 use Rattle.sf_format.specs.declared.unit.Unit.{Unit as PrintUnit}
 use Rattle.sf_format.specs.Proper.{HasItsWidth, IsSized, AreSized}
 use Rattle.sf_format.specs.Widths.{add_widths, text_width, stored_width, width_sum}
 use Rattle.sf_pair.specs.conversions.Below.{LawsBelow}
-use Rattle.sf_pair.specs.Groups.{is_left_out, is_chars, IsConversionGroup, IsGroup, AreCut, next_of}
+use Rattle.sf_pair.specs.Groups.{is_left_out, is_chars, pairing_fault, IsConversionGroup, IsGroup, AreCut, next_of}
 use Rattle.sf_pair.specs.Laws.{read_back, ReadWithin, AlignedIsBounded}
-use Rattle.sf_pair.proofs.Paired.{pairs, width_is}
+use Rattle.sf_pair.proofs.Paired.{alike, pairs, column_is, width_is}
 use Rattle.sf_pair.proofs.Whole.{round_trip}
 
 pub read_within : LawsBelow → ReadWithin
@@ -31,12 +32,12 @@ some_of o w e = ap is_some e
 
 by_shape : (s : Conversion) (h : Shape) → s.shape ≡ h → (is_chars h ≡ false → IsSome s.width) → HasItsWidth h s.width
     → IsSome (text_width h s.width)
-by_shape s (shape.Int base) e wide sized = refl
+by_shape s (shape.Int numeral) e wide sized = refl
 by_shape s shape.Count e wide sized = refl
-by_shape s shape.Text e wide sized = wide refl
+by_shape s (shape.Text lead) e wide sized = wide refl
 by_shape s (shape.Set members) e wide sized = wide refl
 by_shape s shape.Chars e wide sized = sized
-by_shape s shape.Float e wide sized = wide refl
+by_shape s (shape.Float lead) e wide sized = wide refl
 
 stored_some : (d : Directive) (group rest : List PrintUnit) (next : Option Directive) → IsSized d → IsGroup d group rest next
     → IsSome (stored_width d)
@@ -45,13 +46,16 @@ stored_some (directive.Byte b) group rest next sized is = refl
 stored_some directive.Percent group rest next sized is = refl
 stored_some (directive.Conv s) group rest next sized is = by (is_left_out s) s.slot refl is
   where
+    wide : (c : PrintConv) → pairing_fault c s ≡ None → (t : Bool) → s.column ≡ t → is_chars s.shape ≡ false → IsSome s.width
+    wide c pairing true column no_chars = some_of s.width _ (column_is c s (alike c s pairing) column)
+    wide c pairing false item no_chars = some_of s.width _ (width_is s no_chars (pairs c s item pairing).width)
+
     by : (out : Bool) (o : Option ℕ) → s.slot ≡ o → IsConversionGroup out (is_some o) s group rest next
         → IsSome {T = ℕ} (elim o [ None ↦ Some 0 | Some slot ↦ text_width s.shape s.width ])
     by out None e h = refl
     by true (Some k) e h = absurd h
     by false (Some k) e (c, group_is, pairing, closing) =
-        let p = pairs c s pairing in
-        by_shape s s.shape refl (λ no_chars. some_of s.width _ (width_is s no_chars p.width)) sized
+        by_shape s s.shape refl (wide c pairing s.column refl) sized
 
 bounded : (ds : List Directive) (us : List PrintUnit) → AreSized ds → AreCut ds us → IsSome (width_sum ds)
 bounded [] us sized cut = refl

@@ -3,8 +3,10 @@ pub mod Parts
 pub mod Bodies
 pub mod Shortest
 pub mod Firsts
+pub mod Reduced
 pub mod Places
 pub mod RealTexts
+pub mod StrictPlaces
 pub mod RealSizes
 pub mod RealCode
 pub mod RealZero

@@ -96,12 +96,12 @@ conversion_taken : (s : Conversion) (us rest : List PrintUnit) (next : Option Di
 conversion_taken s us rest next e = by (is_count s.shape) s.optional (is_some s.slot) e
   where
     by : (count optional assigned : Bool) → cond count (Err why.NotWritten) (cond optional (Err why.MayBeMissing)
-        (cond assigned (take_paired s us next) (take_literal (suppressed_by s.shape s.width) us))) ≡ Ok rest
+        (cond assigned (take_paired s us next) (take_literal (suppressed_by s) us))) ≡ Ok rest
         → (group : List PrintUnit) × (us ≡ group ++ rest) × IsConversionGroup (count || optional) assigned s group rest next
     by true optional assigned e = absurd cc
     by false true assigned e = absurd cc
     by false false true e = paired_taken s us rest next e
-    by false false false e = literal_taken (suppressed_by s.shape s.width) us rest e
+    by false false false e = literal_taken (suppressed_by s) us rest e
 
 pub units_taken : (d : Directive) (us rest : List PrintUnit) (next : Option Directive) → take_group d us next ≡ Ok rest
     → Takes d us rest next
@@ -162,11 +162,11 @@ conversion_back s group rest next h = by (is_count s.shape) s.optional (is_some 
   where
     by : (count optional assigned : Bool) → IsConversionGroup (count || optional) assigned s group rest next
         → cond count (Err why.NotWritten) (cond optional (Err why.MayBeMissing) (cond assigned (take_paired s (group ++ rest) next)
-        (take_literal (suppressed_by s.shape s.width) (group ++ rest)))) ≡ Ok rest
+        (take_literal (suppressed_by s) (group ++ rest)))) ≡ Ok rest
     by true optional assigned h = absurd h
     by false true assigned h = absurd h
     by false false true h = paired_back s group rest next h
-    by false false false h = literal_back (suppressed_by s.shape s.width) group rest h
+    by false false false h = literal_back (suppressed_by s) group rest h
 
 pub units_back : (d : Directive) (group rest : List PrintUnit) (next : Option Directive) → IsGroup d group rest next
     → take_group d (group ++ rest) next ≡ Ok rest

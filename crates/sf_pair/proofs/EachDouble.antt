@@ -7,6 +7,7 @@ use lib.Ieee.{is_nan}
 use lib.Ieee.Bits.{of_bits-fits, to_bits-of_bits}
 use Rattle.std.specs.Float.{is_sign_negative, float_is_finite, float_is_infinite}
 use Rattle.std.specs.Float.Ieee.{Float, nan, inf, fin, fits, binary64}
+use Rattle.sf_base.specs.declared.values.Kind.TheVariants as kind
 use Rattle.sf_base.specs.Data.{Datum, Number, Bytes, Real}
 use Rattle.sf_base.specs.declared.real.Real.TheVariants as reals
 use Rattle.sf_format.specs.declared.unit.FloatStyle.{FloatStyle}
@@ -15,10 +16,13 @@ use Rattle.sf_format.specs.declared.unit.PrintConv.{PrintConv}
 use Rattle.sf_format.specs.declared.unit.PrintLetter.{PrintLetter}
 use Rattle.sf_format.specs.declared.unit.PrintLetter.TheVariants as letter
 use Rattle.sf_format.specs.declared.unit.Unit.{Unit as PrintUnit}
+use Rattle.sf_format.specs.declared.directive.Lead.{Lead}
+use Rattle.sf_format.specs.declared.directive.Shape.{Shape}
+use Rattle.sf_format.specs.declared.directive.Shape.TheVariants as shape
 use Rattle.sf_format.specs.declared.directive.Conversion.{Conversion}
 use Rattle.sf_format.specs.declared.directive.Directive.{Directive}
 use Rattle.sf_format.specs.declared.directive.Directive.TheVariants as directive
-use Rattle.sf_format.specs.Units.{IsProperConv, IsProperUnit, AreProperUnits}
+use Rattle.sf_format.specs.Units.{prints_kind, IsProperConv, IsProperUnit, AreProperUnits}
 use Rattle.sf_float.specs.declared.text.Style.{Style}
 use Rattle.sf_float.specs.declared.text.Style.TheVariants.{Hexadecimal}
 use Rattle.sf_float.specs.declared.text.FloatConv.{FloatConv}
@@ -30,11 +34,13 @@ use Rattle.sf_float_read.specs.value.Laws.{HexadecimalReadsBack}
 use Rattle.sf_float_read.specs.value.Values.{is_minus, stored, IsHexValue, IsStored, IsStoredSize}
 use Rattle.sf_print.specs.texts.Text.{zeros}
 use Rattle.sf_print.specs.texts.Floats.{style_of, float_conv}
-use Rattle.sf_pair.specs.Groups.{IsConversionGroup, IsGroup, AreCut, is_left_out, next_of}
+use Rattle.sf_pair.specs.Groups.{width_of, letters_pair, pairing_fault, IsConversionGroup, IsGroup, AreCut, is_left_out, next_of}
 use Rattle.sf_pair.specs.conversions.Widths.{written_style}
-use Rattle.sf_pair.specs.Fits.{RealFits, ValueFits, FitsAt, AllFit, conversions, assigned_conversions}
+use Rattle.sf_pair.specs.Fits.{RealFits, ColumnFits, FitsBy, ValueFits, FitsAt, AllFit, conversions, assigned_conversions}
 use Rattle.sf_pair.specs.Doubles.{WritesEnough, CarriesDoubles, IsFiniteDouble, IsCarried, AllCarried, FiniteDoublesFit}
-use Rattle.sf_pair.proofs.Paired.{Pairs, pairs}
+use Rattle.sf_pair.proofs.Paired.{Alike, alike, pairs, column_is}
+use Rattle.sf_pair.proofs.ReadColumns.{float_column_text}
+use Rattle.sf_pair.proofs.FloatColumns.{body_ends, text_full}
 use Rattle.sf_pair.proofs.FitCut.{all_rest, space_prints_none}
 use Rattle.sf_pair.proofs.ConversionLemmas.RealTexts.{size_of, bare_sign, mark_bytes, after_sign, body, mark_is, seen_is}
 use Rattle.sf_pair.proofs.ConversionLemmas.LongestReals.{none_is_longer}
@@ -155,15 +161,11 @@ module _ (laws : FloatsReadBack) (f : FloatConv) (bits : ℕ) (small : bits < 2 
 
 -- ---- a conversion
 
-pub double_fits : FloatsReadBack → (c : PrintConv) (s : Conversion) (bits : ℕ) → IsProperConv c → c.minus ≡ false → CarriesDoubles c s
-    → bits < 2 ^ 64 → float_is_finite (from_bits binary64 bits) ≡ true → RealFits c s (reals.F64 bits)
-double_fits laws c s bits proper right carries small finite = (
-  carries.double,
-  finite,
-  omega (arith, none_is_longer c right few bits finite, carries.room),
-  subst (λ (t : List ℕ). IsStored binary64 t (Some bits)) (sym (seen_is f x finite right)) (by (written_style c.letter) (by_letter c.letter)
-      carries.digits),
-)
+-- the number is read as the double, whatever stands around it
+body_stored : FloatsReadBack → (c : PrintConv) (bits : ℕ) → IsProperConv c → WritesEnough (written_style c.letter) c.precision
+    → bits < 2 ^ 64 → float_is_finite (from_bits binary64 bits) ≡ true
+    → IsStored binary64 (body (float_conv c) (from_bits binary64 bits)) (Some bits)
+body_stored laws c bits proper enough small finite = by (written_style c.letter) (by_letter c.letter) enough
   where
     f : FloatConv
     f = float_conv c
@@ -207,12 +209,52 @@ double_fits laws c s bits proper right carries small finite = (
         (laws.hexadecimal x c.alt c.precision (digits_text Hexadecimal c.alt c.precision x) (of_bits-fits binary64 bits) many
         (hexadecimal_right x c.alt c.precision (of_bits-fits binary64 bits) finite)))
 
+pub double_fits : FloatsReadBack → (c : PrintConv) (s : Conversion) (bits : ℕ) → IsProperConv c → c.minus ≡ false → CarriesDoubles c s
+    → bits < 2 ^ 64 → float_is_finite (from_bits binary64 bits) ≡ true → RealFits c s (reals.F64 bits)
+double_fits laws c s bits proper right carries small finite = (
+  carries.double,
+  finite,
+  omega (arith, none_is_longer c right (few_digits c.precision proper.precision) bits finite, carries.room),
+  subst (λ (t : List ℕ). IsStored binary64 t (Some bits)) (sym (seen_is (float_conv c) (from_bits binary64 bits) finite right))
+      (body_stored laws c bits proper carries.digits small finite),
+)
+
+-- a letter that prints doubles is read as a float
+reads_float : (c : PrintConv) (h : Shape) → IsProperConv c → c.kind ≡ kind.F64 → letters_pair c.letter h ≡ true
+    → (lead : Lead) × (h ≡ shape.Float lead)
+reads_float c h proper double pair = by c.letter h (ap (prints_kind c.letter) (sym double) ∙ proper.kind) pair
+  where
+    by : (l : PrintLetter) (h : Shape) → prints_kind l kind.F64 ≡ true → letters_pair l h ≡ true → (lead : Lead) × (h ≡ shape.Float lead)
+    by (letter.Float style upper) (shape.Float lead) prints e = (lead, refl)
+    by (letter.Float style upper) (shape.Int numeral) prints e = absurd cc
+    by (letter.Float style upper) _ prints e = absurd cc
+    by letter.Text h prints e = absurd cc
+    by letter.One h prints e = absurd cc
+    by _ h prints e = absurd cc
+
+-- the same in a column
+double_stands : FloatsReadBack → (c : PrintConv) (s : Conversion) (bits : ℕ) → IsProperConv c → Alike c s → s.column ≡ true
+    → CarriesDoubles c s → bits < 2 ^ 64 → float_is_finite (from_bits binary64 bits) ≡ true → ColumnFits c s (Real (reals.F64 bits))
+double_stands laws c s bits proper p column carries small finite =
+    let r = reads_float c s.shape proper carries.double p.letters in
+    let few = few_digits c.precision proper.precision in
+    let width : width_of s ≡ c.width = ap (λ (o : Option ℕ). unwrap_or o 1) (column_is c s p column) in
+    let x : Float = from_bits binary64 bits in (
+      text_full c few bits finite (omega (arith, carries.room, width)) ∙ sym width,
+      (
+        carries.double,
+        finite,
+        subst (λ (t : List ℕ). IsStored binary64 t (Some bits)) (sym (float_column_text c s p column r.0 r.1 x finite
+            (body_ends (float_conv c) x finite))) (body_stored laws c bits proper carries.digits small finite),
+      ),
+    )
+
 -- ---- a pair
 
 -- the conversions that face each other
 abbrev ArePaired : List PrintConv → List Conversion → Type 0
 ArePaired [] [] = Unit {0}
-ArePaired (c ∷ cs) (s ∷ ss) = (IsProperConv c × Pairs c s) × ArePaired cs ss
+ArePaired (c ∷ cs) (s ∷ ss) = (IsProperConv c × (pairing_fault c s ≡ None)) × ArePaired cs ss
 ArePaired _ _ = ⊥
 
 paired_here : (d : Directive) (group rest : List PrintUnit) (ds : List Directive) → AreProperUnits (group ++ rest)
@@ -234,7 +276,7 @@ paired_here (directive.Conv s) group rest ds units is more = by (is_left_out s) 
     by false (Some slot) (c, e, pairing, closing) =
         let proper = subst (λ (g : List PrintUnit). AreProperUnits (g ++ rest)) e units in
         subst (λ (g : List PrintUnit). ArePaired (conversions (g ++ rest)) (s ∷ assigned_conversions ds)) (sym e)
-        ((proper.0, pairs c s pairing), more)
+        ((proper.0, pairing), more)
 
 all_paired : (ds : List Directive) (us : List PrintUnit) → AreProperUnits us → AreCut ds us
     → ArePaired (conversions us) (assigned_conversions ds)
@@ -245,14 +287,18 @@ all_paired (d ∷ ds) us units (group, rest, parts, is, more) =
     (paired_here d group rest ds here is (all_paired ds rest (all_rest IsProperUnit group rest here) more))
 
 module _ (laws : FloatsReadBack) (values : List Datum) where
-  datum_fits : (c : PrintConv) (s : Conversion) (v : Datum) → IsProperConv c → Pairs c s → CarriesDoubles c s → IsFiniteDouble v
-      → ValueFits c s v
+  datum_fits : (c : PrintConv) (s : Conversion) (v : Datum) → IsProperConv c → pairing_fault c s ≡ None → CarriesDoubles c s
+      → IsFiniteDouble v → ValueFits c s v
   datum_fits c s (Number k z) proper p carries h = absurd h
   datum_fits c s (Bytes bytes) proper p carries h = absurd h
   datum_fits c s (Real (reals.F32 bits)) proper p carries h = absurd h
-  datum_fits c s (Real (reals.F64 bits)) proper p carries h = double_fits laws c s bits proper p.right carries h.0 h.1
+  datum_fits c s (Real (reals.F64 bits)) proper p carries h = by s.column refl
+    where
+      by : (t : Bool) → s.column ≡ t → FitsBy t c s (Real (reals.F64 bits))
+      by true column = double_stands laws c s bits proper (alike c s p) column carries h.0 h.1
+      by false item = double_fits laws c s bits proper (pairs c s item p).right carries h.0 h.1
 
-  one_fits : (c : PrintConv) (s : Conversion) → IsProperConv c → Pairs c s → IsCarried values c s → FitsAt values c s
+  one_fits : (c : PrintConv) (s : Conversion) → IsProperConv c → pairing_fault c s ≡ None → IsCarried values c s → FitsAt values c s
   one_fits c s proper p (inl fits) = fits
   one_fits c s proper p (inr (carries, (v, at, h))) = (v, at, datum_fits c s v proper p carries h)
 

@@ -1,7 +1,9 @@
 -- The cutting of a pair, with what each group's value owes.
-use Rattle.std.proofs.Common.{◌≡◌, ℕ, ◌⊎◌, inl, inr, Bool, true, false, cond, List, [], ◌∷◌, ◌++◌, Option, Some, None, is_some, refl, ap}
+use Rattle.std.proofs.Common.{◌≡◌, ℕ, ◌⊎◌, inl, inr, Bool, true, false, cond, ◌&&◌, List, [], ◌∷◌, ◌++◌, Option, Some, None, is_some, refl}
+use Rattle.std.proofs.Common.{ap}
 use Rattle.std.proofs.Common.{subst, arith}
 use Rattle.std.proofs.lemmas.Bool.{eqb-true}
+use Rattle.std.specs.Prelude.{not}
 use Rattle.std.specs.List.{AllByRecursion, cons_option}
 use Rattle.sf_base.specs.Data.{Datum}
 use Rattle.sf_format.specs.declared.directive.Shape.{Shape}
@@ -19,14 +21,15 @@ use Rattle.sf_report.specs.Machine.{shape_skips}
 use Rattle.sf_pair.specs.conversions.Below.{LawsBelow}
 use Rattle.sf_pair.specs.conversions.Neighbours.{only, no_byte, reads}
 use Rattle.sf_pair.specs.Groups.{IsLiteral, AreSpace, IsSpaceRun, IsPaired, IsConversionGroup, IsGroup, AreCut, is_count, is_left_out}
-use Rattle.sf_pair.specs.Groups.{is_width_one, members_of, suppressed_by, closing_fault, next_of}
-use Rattle.sf_pair.specs.Fits.{FitsAt, AllFit, conversions, assigned_by, assigned_conversions}
-use Rattle.sf_pair.proofs.Paired.{or_none, Pairs, pairs, slot_is}
-use Rattle.sf_pair.proofs.Back.{ReadsBack}
+use Rattle.sf_pair.specs.Groups.{is_width, members_of, suppressed_by, pairing_fault, closing_fault, next_of}
+use Rattle.sf_pair.specs.Fits.{FitsBy, ValueFits, FitsAt, AllFit, conversions, assigned_by, assigned_conversions}
+use Rattle.sf_pair.proofs.Paired.{or_none, and_both, alike, pairs, slot_is}
+use Rattle.sf_pair.proofs.Back.{Back}
 use Rattle.sf_pair.proofs.Suits.{fits_unfaulted}
 use Rattle.sf_pair.proofs.Taken.{Takes}
 use Rattle.sf_pair.proofs.TakenTexts.{chars_takes, set_takes}
 use Rattle.sf_pair.proofs.ReadBack.{reads_back}
+use Rattle.sf_pair.proofs.ReadColumns.{column_reads_back}
 
 -- a conversion that is read back
 pub record PairedReads (values : List Datum) (s : Conversion) (group rest : List PrintUnit) (next : Option Directive) : Type 0 where
@@ -35,7 +38,7 @@ pub record PairedReads (values : List Datum) (s : Conversion) (group rest : List
   pub value : Datum
   pub at : value_at values conversion.slot ≡ Some value
   pub slot : s.slot ≡ Some conversion.slot
-  pub back : ReadsBack conversion s value
+  pub back : Back s.column conversion s value
   pub good : value_fault conversion value ≡ None
   pub closed : closing_fault conversion s rest (reads next) ≡ None
   pub no_count : is_count s.shape ≡ false
@@ -45,6 +48,7 @@ pub record LiteralReads (s : Conversion) (group : List PrintUnit) : Type 0 where
   pub byte : ℕ
   pub group_is : group ≡ unit.Byte byte ∷ []
   pub slot : s.slot ≡ None
+  pub item : s.column ≡ false
   pub takes : (rest : List ℕ) → Takes s (byte ∷ []) rest
   pub skips_none : shape_skips s.shape ≡ false
   pub no_count : is_count s.shape ≡ false
@@ -73,7 +77,7 @@ space_prints_none (unit.Conv c ∷ us) rest h = absurd h
 
 -- ---- suppressed conversions of one byte
 
-width_one : (o : Option ℕ) → is_width_one o ≡ true → o ≡ Some 1
+width_one : (o : Option ℕ) → is_width 1 o ≡ true → o ≡ Some 1
 width_one None e = absurd cc
 width_one (Some w) e = ap Some (eqb-true w 1 e)
 
@@ -81,31 +85,39 @@ no_slot : (o : Option ℕ) → is_some o ≡ false → o ≡ None
 no_slot None e = refl
 no_slot (Some k) e = absurd cc
 
-suppressed_reads : (s : Conversion) (group : List PrintUnit) → is_some s.slot ≡ false → IsLiteral (suppressed_by s.shape s.width) group
+suppressed_reads : (s : Conversion) (group : List PrintUnit) → is_some s.slot ≡ false → IsLiteral (suppressed_by s) group
     → LiteralReads s group
-suppressed_reads s group slot (b, group_is, wanted) = by (is_width_one s.width) refl wanted
+suppressed_reads s group slot (b, group_is, wanted) = by (not s.column && is_width 1 s.width) refl wanted
   where
-    members : (h : Shape) → s.shape ≡ h → s.width ≡ Some 1 → members_of h b ≡ true → LiteralReads s group
-    members shape.Chars e w m = record {
+    no_column : (t : Bool) → not t ≡ true → t ≡ false
+    no_column true e = absurd cc
+    no_column false e = refl
+
+    members : (h : Shape) → s.shape ≡ h → s.column ≡ false → s.width ≡ Some 1 → members_of h b ≡ true → LiteralReads s group
+    members shape.Chars e item w m = record {
       byte = b;
       group_is = group_is;
       slot = no_slot s.slot slot;
+      item = item;
       takes = λ rest. chars_takes s 1 (b ∷ []) rest e w (omega arith) refl;
       skips_none = ap shape_skips e;
       no_count = ap is_count e;
     }
-    members (shape.Set set) e w m = record {
+    members (shape.Set set) e item w m = record {
       byte = b;
       group_is = group_is;
       slot = no_slot s.slot slot;
+      item = item;
       takes = λ rest. set_takes s set 1 (b ∷ []) rest e w (omega arith) (m, tt) (omega arith) (inl refl);
       skips_none = ap shape_skips e;
       no_count = ap is_count e;
     }
-    members _ e w m = absurd cc
+    members _ e item w m = absurd cc
 
-    by : (t : Bool) → is_width_one s.width ≡ t → cond t (members_of s.shape) no_byte b ≡ true → LiteralReads s group
-    by true e m = members s.shape refl (width_one s.width e) m
+    by : (t : Bool) → (not s.column && is_width 1 s.width) ≡ t → cond t (members_of s.shape) no_byte b ≡ true → LiteralReads s group
+    by true e m =
+        let both = and_both (not s.column) (is_width 1 s.width) e in
+        members s.shape refl (no_column s.column both.0) (width_one s.width both.1) m
     by false e m = absurd cc
 
 -- ---- the whole
@@ -136,6 +148,14 @@ module _ (laws : LawsBelow) (values : List Datum) where
   unassigned_so s None e = refl
   unassigned_so s (Some k) e = absurd cc
 
+  back : (c : PrintConv) (s : Conversion) (v : Datum) → IsProperConv c → IsProperWidth s.width → HasItsWidth s.shape s.width
+      → is_some s.slot ≡ true → pairing_fault c s ≡ None → ValueFits c s v → Back s.column c s v
+  back c s v proper width sized assigned pairing fits = by s.column refl fits
+    where
+      by : (t : Bool) → s.column ≡ t → FitsBy t c s v → Back t c s v
+      by true column h = column_reads_back laws c s v proper width (alike c s pairing) column assigned h
+      by false item h = reads_back laws c s v proper width sized (pairs c s item pairing) assigned h
+
   paired_reads : (s : Conversion) (ds : List Directive) (group rest : List PrintUnit) → is_some s.slot ≡ true → is_count s.shape ≡ false
       → IsPaired s group rest (next_of ds) → AreProperUnits (group ++ rest)
       → IsProperWidth s.width → HasItsWidth s.shape s.width → AllFit values (conversions (group ++ rest))
@@ -148,15 +168,15 @@ module _ (laws : LawsBelow) (values : List Datum) where
       let all : FitsAt values c s × AllFit values (conversions rest) (assigned_conversions ds) =
       subst F (assigned_so s s.slot assigned) (subst G group_is fit) in
       let proper : IsProperConv c × AreProperUnits rest = subst H group_is units in
-      let p : Pairs c s = pairs c s pairing in (
+      let p = alike c s pairing in (
         record {
           conversion = c;
           group_is = group_is;
           value = all.0.0;
           at = all.0.1;
           slot = slot_is c s p assigned;
-          good = fits_unfaulted c s all.0.0 proper.0 p all.0.2;
-          back = reads_back laws c s all.0.0 proper.0 width sized p assigned all.0.2;
+          good = fits_unfaulted c s all.0.0 proper.0 pairing all.0.2;
+          back = back c s all.0.0 proper.0 width sized assigned pairing all.0.2;
           closed = closing;
           no_count = no_count;
         },

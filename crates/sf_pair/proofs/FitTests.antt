@@ -1,5 +1,6 @@
 -- The tests of what fits, and what they say.
-use Rattle.std.proofs.Common.{◌≡◌, ℕ, suc, ◌+◌, ◌<◌, ◌≤◌, Bool, true, false, ◌&&◌, nat_lt, nat_le, nat_eq, List, [], ◌∷◌, length, get_or}
+use Rattle.std.proofs.Common.{◌≡◌, ℕ, suc, ◌+◌, ◌<◌, ◌≤◌, Bool, true, false, cond, ◌&&◌, nat_lt, nat_le, nat_eq, List, [], ◌∷◌, length}
+use Rattle.std.proofs.Common.{get_or}
 use Rattle.std.proofs.Common.{drop, is_some, ap₂, ℤ, unsigned_abs, Option, Some, None, from_bits, refl, sym, ap, subst, ◌∙◌, arith}
 use Rattle.std.proofs.lemmas.Bool.{eqb-true}
 use Rattle.std.proofs.lemmas.Bool.Decides.{nat_tests, Decides-int_eq}
@@ -8,6 +9,7 @@ use Rattle.std.specs.Float.{float_is_finite}
 use Rattle.std.specs.Float.Ieee.{binary64}
 use Rattle.std.specs.List.{AllByRecursion, list_all, cons_option}
 use Rattle.sf_base.specs.Bytes.{is_white}
+use Rattle.sf_base.specs.Blanks.{IsTrimmed, trimmed}
 use Rattle.sf_base.specs.Sets.{has_byte}
 use Rattle.sf_base.specs.Data.{Datum, Number, Bytes, Real, value_of}
 use Rattle.sf_base.specs.declared.real.Real as real
@@ -21,20 +23,29 @@ use Rattle.sf_format.specs.declared.directive.Directive.{Directive}
 use Rattle.sf_format.specs.declared.unit.PrintConv.{PrintConv}
 use Rattle.sf_format.specs.declared.unit.Unit.{Unit as PrintUnit}
 use Rattle.sf_format.specs.Units.{values_of}
+use Rattle.sf_float_read.specs.declared.item.reached.Forms.TheVariants as forms
 use Rattle.sf_float_read.specs.item.Tests.{is_float}
 use Rattle.sf_float_read.specs.value.Values.{IsStored}
 use Rattle.sf_float_read.specs.value.Computed.{stored_in}
+use Rattle.sf_format.specs.Leads.{is_strict_lead}
 use Rattle.sf_item.specs.Tests.{is_ink}
+use Rattle.sf_item.specs.ColumnTests.{column_text}
 use Rattle.sf_print.specs.Printed.{value_at, same_kind}
+use Rattle.sf_print.specs.texts.Floats.{real_text}
+use Rattle.sf_print.specs.texts.Text.{value_text}
 use Rattle.sf_print.specs.texts.Visible.{visible}
 use Rattle.sf_pair.specs.conversions.Below.{LawsBelow}
 use Rattle.sf_pair.specs.conversions.Reals.{seen, is_pattern, is_read_as}
 use Rattle.sf_pair.specs.Groups.{width_of}
-use Rattle.sf_pair.specs.Fits.{is_negative, TextFits, RealFits, ValueFits, FitsAt, AllFit, Fit, conversions, assigned_by}
-use Rattle.sf_pair.specs.Fits.{assigned_conversions, is_number_so, is_of_kind, is_byte, is_item_of, text_fits, real_fits, value_fits}
-use Rattle.sf_pair.specs.Fits.{fits_or_not, all_fit, fits, FitsIsFit}
+use Rattle.sf_pair.specs.Fits.{is_negative, TextFits, RealFits, ItemFits, has_digit, IsUncut, StandsApart, TextStands, RealStands, Stands}
+use Rattle.sf_pair.specs.Fits.{ColumnFits, FitsBy, ValueFits, FitsAt, AllFit, Fit, conversions, assigned_by, assigned_conversions}
+use Rattle.sf_pair.specs.Fits.{is_number_so, is_of_kind, is_byte, is_item_of, text_fits, real_fits, item_fits, is_uncut, is_trimmed}
+use Rattle.sf_pair.specs.Fits.{}
+use Rattle.sf_pair.specs.Fits.{stands_apart, text_stands, real_stands, stands, column_fits, value_fits, fits_or_not, all_fit, fits}
+use Rattle.sf_pair.specs.Fits.{FitsIsFit}
 use Rattle.sf_pair.specs.Formats.{Formats}
 use Rattle.sf_pair.proofs.Paired.{and_so, and_both, kinds_are}
+use Rattle.sf_pair.proofs.Trims.{ends_some, as_long, long_as}
 
 lt_true : (a b : ℕ) → a < b → nat_lt a b ≡ true
 lt_true a b h = grind (arith, nat_tests)
@@ -90,11 +101,11 @@ item_is test P each width bytes = (
 )
 
 text_is : (read : Shape) (width : ℕ) (bytes : List ℕ) → text_fits read width bytes ≡ true ↔ TextFits read width bytes
-text_is shape.Text width bytes = item_is is_ink (λ b. is_white b ≡ false) ink_is width bytes
+text_is (shape.Text lead) width bytes = item_is is_ink (λ b. is_white b ≡ false) ink_is width bytes
 text_is (shape.Set members) width bytes = item_is (has_byte members) (λ b. has_byte members b ≡ true) (λ b. (λ e. e, λ e. e)) width bytes
 text_is shape.Chars width bytes = (λ e. eqb-true (length bytes) width e, λ e. eq_true (length bytes) width e)
-text_is (shape.Int base) width bytes = (λ e. absurd cc, λ h. absurd h)
-text_is shape.Float width bytes = (λ e. absurd cc, λ h. absurd h)
+text_is (shape.Int numeral) width bytes = (λ e. absurd cc, λ h. absurd h)
+text_is (shape.Float lead) width bytes = (λ e. absurd cc, λ h. absurd h)
 text_is shape.Count width bytes = (λ e. absurd cc, λ h. absurd h)
 
 -- ---- numbers
@@ -126,9 +137,9 @@ read_as_is : LawsBelow → (item : List ℕ) (bits : ℕ) → is_read_as item bi
 read_as_is laws item bits = (
   λ e. let h = and_both (is_float item) (is_pattern (stored_in binary64 item) bits) e in
       subst (IsStored binary64 item) ((pattern_is (stored_in binary64 item) bits).0 h.1)
-      ((laws.stored binary64 item).0 ((laws.floats item).0.0 h.0)),
+      ((laws.stored binary64 item).0 ((laws.floats forms.All item).0.0 h.0)),
   λ h. let k = (laws.stored binary64 item).1 (Some bits) h in
-      and_so (is_float item) (is_pattern (stored_in binary64 item) bits) ((laws.floats item).0.1 k.0)
+      and_so (is_float item) (is_pattern (stored_in binary64 item) bits) ((laws.floats forms.All item).0.1 k.0)
       ((pattern_is (stored_in binary64 item) bits).1 (sym k.1)),
 )
 
@@ -150,8 +161,8 @@ real_is laws c s (reals.F64 bits) =
 
 -- ---- values
 
-value_is : LawsBelow → (c : PrintConv) (s : Conversion) (v : Datum) → value_fits c s v ≡ true ↔ ValueFits c s v
-value_is laws c s (Number k z) = (
+item_fits_is : LawsBelow → (c : PrintConv) (s : Conversion) (v : Datum) → item_fits c s v ≡ true ↔ ItemFits c s v
+item_fits_is laws c s (Number k z) = (
   λ e. let h = and_both (same_kind k c.kind && is_of_kind k z) (nat_le (length (visible c z)) (width_of s)) e in
       let g = and_both (same_kind k c.kind) (is_of_kind k z) h.0 in
       (kinds_are k c.kind g.0, (number_so (value_of k (is_negative z) (unsigned_abs z)) z).0 g.1, le_so _ _ h.1),
@@ -160,13 +171,97 @@ value_is laws c s (Number k z) = (
       ((number_so (value_of k (is_negative z) (unsigned_abs z)) z).1 h.1))
       (le_true _ _ h.2),
 )
-value_is laws c s (Real r) = real_is laws c s r
-value_is laws c s (Bytes bytes) = (
+item_fits_is laws c s (Real r) = real_is laws c s r
+item_fits_is laws c s (Bytes bytes) = (
   λ e. let h = and_both (list_all is_byte bytes) (text_fits s.shape (width_of s) bytes) e in
       ((all_is is_byte (λ b. b < 256) byte_is bytes).0 h.0, (text_is s.shape (width_of s) bytes).0 h.1),
   λ h. and_so (list_all is_byte bytes) (text_fits s.shape (width_of s) bytes) ((all_is is_byte (λ b. b < 256) byte_is bytes).1 h.0)
       ((text_is s.shape (width_of s) bytes).1 h.1),
 )
+
+-- ---- columns
+
+uncut_is : (o : Option ℕ) (bytes : List ℕ) → is_uncut o bytes ≡ true ↔ IsUncut o bytes
+uncut_is None bytes = (λ e. tt, λ h. refl)
+uncut_is (Some most) bytes = (λ e. le_so (length bytes) most e, λ h. le_true (length bytes) most h)
+
+trimmed_is : (bytes : List ℕ) → is_trimmed bytes ≡ true ↔ IsTrimmed bytes bytes
+trimmed_is bytes = (
+  λ e. let h = and_both (nat_lt 0 (length bytes)) (nat_eq (length (trimmed bytes)) (length bytes)) e in
+      as_long bytes (lt_so 0 (length bytes) h.0) (eqb-true (length (trimmed bytes)) (length bytes) h.1),
+  λ h. and_so (nat_lt 0 (length bytes)) (nat_eq (length (trimmed bytes)) (length bytes))
+      (lt_true 0 (length bytes) (ends_some bytes h.ends)) (eq_true _ _ (long_as bytes h)),
+)
+
+apart_is : (strict : Bool) (width : ℕ) (bytes : List ℕ) → stands_apart strict width bytes ≡ true ↔ StandsApart strict width bytes
+apart_is true width bytes = (
+  λ e. let h = and_both (nat_eq (length bytes) width) (list_all is_ink bytes) e in
+      (eqb-true (length bytes) width h.0, (all_is is_ink (λ b. is_white b ≡ false) ink_is bytes).0 h.1),
+  λ h. and_so (nat_eq (length bytes) width) (list_all is_ink bytes) (eq_true _ _ h.0)
+      ((all_is is_ink (λ b. is_white b ≡ false) ink_is bytes).1 h.1),
+)
+apart_is false width bytes = trimmed_is bytes
+
+text_stands_is : (read : Shape) (width : ℕ) (bytes : List ℕ) → text_stands read width bytes ≡ true ↔ TextStands read width bytes
+text_stands_is (shape.Text lead) width bytes = apart_is (is_strict_lead lead) width bytes
+text_stands_is (shape.Set members) width bytes =
+    let all = all_is (has_byte members) (λ b. has_byte members b ≡ true) (λ b. (λ e. e, λ e. e)) bytes in (
+      λ e. let h = and_both (is_trimmed bytes) (list_all (has_byte members) bytes) e in ((trimmed_is bytes).0 h.0, all.0 h.1),
+      λ h. and_so (is_trimmed bytes) (list_all (has_byte members) bytes) ((trimmed_is bytes).1 h.0) (all.1 h.1),
+    )
+text_stands_is (shape.Int numeral) width bytes = (λ e. absurd cc, λ h. absurd h)
+text_stands_is (shape.Float lead) width bytes = (λ e. absurd cc, λ h. absurd h)
+text_stands_is shape.Chars width bytes = (λ e. absurd cc, λ h. absurd h)
+text_stands_is shape.Count width bytes = (λ e. absurd cc, λ h. absurd h)
+
+real_stands_is : LawsBelow → (c : PrintConv) (s : Conversion) (r : real.Real) → real_stands c s r ≡ true ↔ RealStands c s r
+real_stands_is laws c s (reals.F32 bits) = (λ e. absurd cc, λ h. absurd h)
+real_stands_is laws c s (reals.F64 bits) =
+    let item : List ℕ = column_text s (real_text c (reals.F64 bits)) in
+    let finite : Bool = float_is_finite (from_bits binary64 bits) in (
+      λ e. let h = and_both (same_kind c.kind kind.F64 && finite) (is_read_as item bits) e in
+          let k = and_both (same_kind c.kind kind.F64) finite h.0 in
+          (kinds_are c.kind kind.F64 k.0, k.1, (read_as_is laws item bits).0 h.1),
+      λ h. and_so (same_kind c.kind kind.F64 && finite) (is_read_as item bits)
+          (and_so (same_kind c.kind kind.F64) finite (ap (λ (k : Kind). same_kind k kind.F64) h.0) h.1)
+          ((read_as_is laws item bits).1 h.2),
+    )
+
+stands_is : LawsBelow → (c : PrintConv) (s : Conversion) (v : Datum) → stands c s v ≡ true ↔ Stands c s v
+stands_is laws c s (Number k z) = (
+  λ e. let h = and_both (same_kind k c.kind && is_of_kind k z) (has_digit c z) e in
+      let g = and_both (same_kind k c.kind) (is_of_kind k z) h.0 in
+      (kinds_are k c.kind g.0, (number_so (value_of k (is_negative z) (unsigned_abs z)) z).0 g.1, h.1),
+  λ h. and_so (same_kind k c.kind && is_of_kind k z) (has_digit c z)
+      (and_so (same_kind k c.kind) (is_of_kind k z) (ap (same_kind k) (sym h.0) ∙ same_itself k)
+      ((number_so (value_of k (is_negative z) (unsigned_abs z)) z).1 h.1)) h.2,
+)
+stands_is laws c s (Real r) = real_stands_is laws c s r
+stands_is laws c s (Bytes bytes) =
+    let text : Bool = text_stands s.shape (width_of s) bytes in (
+      λ e. let h = and_both (list_all is_byte bytes) (is_uncut c.precision bytes && text) e in
+          let k = and_both (is_uncut c.precision bytes) text h.1 in
+          ((all_is is_byte (λ b. b < 256) byte_is bytes).0 h.0, (uncut_is c.precision bytes).0 k.0, (text_stands_is s.shape _ bytes).0 k.1),
+      λ h. and_so (list_all is_byte bytes) (is_uncut c.precision bytes && text)
+          ((all_is is_byte (λ b. b < 256) byte_is bytes).1 h.0)
+          (and_so (is_uncut c.precision bytes) text ((uncut_is c.precision bytes).1 h.1) ((text_stands_is s.shape _ bytes).1 h.2)),
+    )
+
+column_is : LawsBelow → (c : PrintConv) (s : Conversion) (v : Datum) → column_fits c s v ≡ true ↔ ColumnFits c s v
+column_is laws c s v = (
+  λ e. let h = and_both (nat_eq (length (value_text c v)) (width_of s)) (stands c s v) e in
+      (eqb-true (length (value_text c v)) (width_of s) h.0, (stands_is laws c s v).0 h.1),
+  λ h. and_so (nat_eq (length (value_text c v)) (width_of s)) (stands c s v) (eq_true _ _ h.0) ((stands_is laws c s v).1 h.1),
+)
+
+-- ---- either
+
+value_is : LawsBelow → (c : PrintConv) (s : Conversion) (v : Datum) → value_fits c s v ≡ true ↔ ValueFits c s v
+value_is laws c s v = by s.column
+  where
+    by : (t : Bool) → cond t (column_fits c s v) (item_fits c s v) ≡ true ↔ FitsBy t c s v
+    by true = column_is laws c s v
+    by false = item_fits_is laws c s v
 
 -- ---- the whole
 

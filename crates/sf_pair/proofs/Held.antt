@@ -1,6 +1,6 @@
 -- The texts that a report holds.
 use Rattle.std.proofs.Common.{◌≡◌, ℕ, zero, suc, ◌+◌, ◌≤◌, inl, inr, Bool, true, false, List, [], ◌∷◌, ◌++◌, length, take, drop, ℤ, Option}
-use Rattle.std.proofs.Common.{Some, None, refl, sym, ap, subst, arith, length-append}
+use Rattle.std.proofs.Common.{Some, None, unwrap_or, refl, sym, ap, subst, arith, length-append}
 use Rattle.std.proofs.lemmas.List.{length-take}
 use Rattle.std.specs.Prelude.{IfSome}
 use Rattle.std.specs.List.{cons_option}
@@ -12,9 +12,11 @@ use Rattle.sf_format.specs.declared.directive.Shape.TheVariants as shape
 use Rattle.sf_format.specs.declared.directive.Conversion.{Conversion}
 use Rattle.sf_format.specs.declared.directive.Directive.{Directive}
 use Rattle.sf_format.specs.declared.directive.Directive.TheVariants as directive
+use Rattle.sf_format.specs.Leads.{is_strict}
 use Rattle.sf_format.specs.Widths.{add_widths, text_width, stored_width, width_sum}
 use Rattle.sf_report.specs.Steps.{StepEnd, Passes, Stores, Misses, Fails, NumberStored, RealStored, CountStep, ItemStored, ItemPasses}
-use Rattle.sf_report.specs.Steps.{EmptyItem, ItemEnds, ConversionStep, Step}
+use Rattle.sf_report.specs.Steps.{EmptyItem, ItemEnds, ConversionStep, BlankColumn, TextColumn, ColumnEnds, ColumnStep, StepBy, Step}
+use Rattle.sf_item.specs.Columns.{column_width, IsTextUnder, IsTextOf, ShapeFills, Fills}
 use Rattle.sf_report.specs.Runs.{Ran, RunReport, GoesOn, Steps, value_stored, values}
 use Rattle.sf_report.specs.declared.outcome.Ending.{Ending}
 use Rattle.sf_report.specs.Limits.{IsCut, RunWithin}
@@ -48,12 +50,12 @@ bytes_within o at slot item v a e wide within =
 stored_within : (c : Conversion) (h : Shape) (at : ℕ) (item : List ℕ) (slot : ℕ) (v : Datum) (a : ℕ) → is_count h ≡ false
     → ItemStored c at h item (Stores slot v) → text_width h c.width ≡ Some a
     → IfSome c.width (λ w. length item ≤ w) → length (text_in v) ≤ a
-stored_within c (shape.Int base) at item slot v a no_count (negative, m, is, stored) wide within =
+stored_within c (shape.Int numeral) at item slot v a no_count (negative, m, is, stored) wide within =
     omega (arith, number_none c at (value_of c.kind negative m) slot v stored)
-stored_within c shape.Float at item slot v a no_count (r, is, stored) wide within =
+stored_within c (shape.Float lead) at item slot v a no_count (r, is, stored) wide within =
     omega (arith, real_none at r slot v stored)
 stored_within c shape.Count at item slot v a no_count e wide within = absurd cc
-stored_within c shape.Text at item slot v a no_count e wide within = bytes_within c.width at slot item v a e wide within
+stored_within c (shape.Text lead) at item slot v a no_count e wide within = bytes_within c.width at slot item v a e wide within
 stored_within c (shape.Set members) at item slot v a no_count e wide within = bytes_within c.width at slot item v a e wide within
 stored_within c shape.Chars at item slot v a no_count e wide within = bytes_within c.width at slot item v a e wide within
 
@@ -89,16 +91,58 @@ conversion_within : (c : Conversion) (h : Shape) (x : List ℕ) (n k slot : ℕ)
     → ConversionStep c h x n k (Stores slot v)
     → ◌≡◌ {A = Option ℕ} (elim c.slot [ None ↦ Some 0 | Some at ↦ text_width c.shape c.width ]) (Some a) → length (text_in v) ≤ a
 conversion_within c shape.Count x n k slot v a e is wide = omega (arith, count_none c c.slot n slot v is.1)
-conversion_within c (shape.Int base) x n k slot v a e (s, j, skipped, item, k_is, ends) wide =
+conversion_within c (shape.Int numeral) x n k slot v a e (s, j, skipped, item, k_is, ends) wide =
     ends_within c (drop s x) j slot v a (ap is_count e) ends wide item.holds.1
-conversion_within c shape.Text x n k slot v a e (s, j, skipped, item, k_is, ends) wide =
+conversion_within c (shape.Text lead) x n k slot v a e (s, j, skipped, item, k_is, ends) wide =
     ends_within c (drop s x) j slot v a (ap is_count e) ends wide item.holds.1
 conversion_within c (shape.Set members) x n k slot v a e (s, j, skipped, item, k_is, ends) wide =
     ends_within c (drop s x) j slot v a (ap is_count e) ends wide item.holds.1
-conversion_within c shape.Float x n k slot v a e (s, j, skipped, item, k_is, ends) wide =
+conversion_within c (shape.Float lead) x n k slot v a e (s, j, skipped, item, k_is, ends) wide =
     ends_within c (drop s x) j slot v a (ap is_count e) ends wide item.holds.1
 conversion_within c shape.Chars x n k slot v a e (s, j, skipped, item, k_is, ends) wide =
     ends_within c (drop s x) j slot v a (ap is_count e) ends wide item.holds.1
+
+-- a text in a column is no longer than it
+text_shorter : (strict : Bool) (s t : List ℕ) → IsTextUnder strict s t → length t ≤ length s
+text_shorter true s t e = omega (arith, ap length e)
+text_shorter false s t h = omega (arith, ap length h.whole, length-append h.before (t ++ h.after), length-append t h.after)
+
+counts_none : (c : Conversion) (t : List ℕ) → Fills c t → is_count c.shape ≡ false
+counts_none c t h = by c.shape h
+  where
+    by : (h : Shape) → ShapeFills h c.width t → is_count h ≡ false
+    by shape.Count h = absurd h
+    by (shape.Int numeral) h = refl
+    by (shape.Text lead) h = refl
+    by (shape.Set members) h = refl
+    by (shape.Float lead) h = refl
+    by shape.Chars h = refl
+
+text_within : (c : Conversion) (y : List ℕ) (j slot : ℕ) (v : Datum) (a : ℕ) (t : List ℕ) → j ≤ column_width c → IsTextOf c (take j y) t
+    → TextColumn c t (Stores slot v)
+    → ◌≡◌ {A = Option ℕ} (elim c.slot [ None ↦ Some 0 | Some at ↦ text_width c.shape c.width ]) (Some a) → length (text_in v) ≤ a
+text_within c y j slot v a t low is (inl h) wide =
+    let short : length t ≤ column_width c = omega (arith, text_shorter (is_strict c.shape) (take j y) t is, length-take j y, low) in
+    passes_within c c.slot t slot v a (counts_none c t h.0) h.1 wide (by c.width short)
+  where
+    by : (o : Option ℕ) → length t ≤ unwrap_or o 1 → IfSome o (λ w. length t ≤ w)
+    by None h = tt
+    by (Some w) h = h
+text_within c y j slot v a t low is (inr h) wide = absurd (not_stored slot v (Fails _) h.1 tt)
+
+blank_none : (optional : Bool) (slot : ℕ) (v : Datum) → BlankColumn optional (Stores slot v) → ⊥
+blank_none true slot v e = absurd cc
+blank_none false slot v e = absurd cc
+
+column_within : (c : Conversion) (x : List ℕ) (k slot : ℕ) (v : Datum) (a : ℕ) → ColumnStep c x k (Stores slot v)
+    → ◌≡◌ {A = Option ℕ} (elim c.slot [ None ↦ Some 0 | Some at ↦ text_width c.shape c.width ]) (Some a) → length (text_in v) ≤ a
+column_within c x k slot v a (column, ends) wide = by (take k x) refl ends
+  where
+    by : (s : List ℕ) → take k x ≡ s → ColumnEnds c x s (Stores slot v) → length (text_in v) ≤ a
+    by [] e h = absurd (empty_none c.optional x slot v h)
+    by (b ∷ s) e (inl h) = absurd (blank_none c.optional slot v h.1)
+    by (b ∷ s) e (inr (ink, (t, is, h))) =
+        text_within c x k slot v a t column.holds.1 (subst (λ (s : List ℕ). IsTextOf c s t) (sym e) is) h wide
 
 byte_none : (b : ℕ) (x : List ℕ) (k slot : ℕ) (v : Datum) → Step (directive.Byte b) x 0 k (Stores slot v) → ⊥
 byte_none b [] k slot v e = not_stored slot v (Fails _) e.1 tt
@@ -110,7 +154,11 @@ step_within : (d : Directive) (x : List ℕ) (n k slot : ℕ) (v : Datum) (a : �
 step_within directive.Space x n k slot v a is wide = absurd (not_stored slot v Passes is.1 tt)
 step_within (directive.Byte b) x n k slot v a is wide = absurd (byte_none b x k slot v is)
 step_within directive.Percent x n k slot v a (s, j, skipped, is, k_is) wide = absurd (byte_none 37 (drop s x) j slot v is)
-step_within (directive.Conv c) x n k slot v a is wide = conversion_within c c.shape x n k slot v a refl is wide
+step_within (directive.Conv c) x n k slot v a is wide = by c.column is
+  where
+    by : (t : Bool) → StepBy t c x n k (Stores slot v) → length (text_in v) ≤ a
+    by true h = column_within c x k slot v a h wide
+    by false h = conversion_within c c.shape x n k slot v a refl h wide
 
 -- ---- the run
 

@@ -21,9 +21,9 @@ use Rattle.sf_report.specs.Machine.{stored_end, passed_end}
 use Rattle.sf_pair.specs.conversions.Below.{LawsBelow}
 use Rattle.sf_pair.specs.conversions.Neighbours.{is_spare, stop_set}
 use Rattle.sf_pair.specs.Groups.{is_number, is_chars, letters_pair, width_of, least_by, always_full}
-use Rattle.sf_pair.specs.Fits.{TextFits, ValueFits}
+use Rattle.sf_pair.specs.Fits.{TextFits, ItemFits}
 use Rattle.sf_pair.specs.Laws.{TakesInto, RunsPast}
-use Rattle.sf_pair.proofs.Paired.{and_so, full_by, Pairs, width_is, slot_is}
+use Rattle.sf_pair.proofs.Paired.{and_so, full_by, Pairs, item_value, width_is, slot_is}
 use Rattle.sf_pair.proofs.Back.{ReadsBack}
 use Rattle.sf_pair.proofs.FitTests.{ink_is}
 use Rattle.sf_pair.proofs.ReadBack.{reads_back}
@@ -63,19 +63,19 @@ module _ (laws : LawsBelow) (c : PrintConv) (s : Conversion) (proper : IsProperC
       || cond i (eqb (length (least_by s.shape c)) (width_of s)) (eqb (width_of s) 1)) no_number no_chars) ∙ not_full in
       let two : 2 ≤ width_of s = within_two (width_of s) low not_one in
       let v : Datum = Bytes (b ∷ []) in
-      let fit : ValueFits c s v = ((small, tt), fits (width_of s) low) in
+      let fit : ItemFits c s v = ((small, tt), fits (width_of s) low) in
       let r : ReadsBack c s v = reads_back laws c s v proper scan.1 sized p assigned fit in
       let t = r.takes [] (inr tt) in
       let item : r.item ≡ b ∷ [] = stores s c.slot c.slot r.item (b ∷ [])
-      (sym (ap (λ (o : Option ℕ). passed_end s o r.item) (slot_is c s p assigned)) ∙ r.stored) in
+      (sym (ap (λ (o : Option ℕ). passed_end s o r.item) (slot_is c s p.alike assigned)) ∙ r.stored) in
       let more : can_take s (r.item ++ b ∷ []) ≡ true = ap (λ (f : List ℕ). can_take s (f ++ b ∷ [])) item
       ∙ and_so (is_within s.width 2) (shape_begins s.shape s.width (b ∷ b ∷ []))
       (ap (λ (o : Option ℕ). is_within o 2) width ∙ le_so 2 (width_of s) two) begins in
-      (v, fit, takes_too laws c s v scan r t.item b more)
+      (v, item_value c s v p.item fit, takes_too laws c s v scan p.item r t.item b more)
 
   into_by : (b : ℕ) → b < 256 → (h : Shape) → s.shape ≡ h → stop_set h c b ≡ true → is_spare h c b ≡ false → TakesInto c s b
-  into_by b small (shape.Int base) e stops spare = integer_into laws c s base e proper scan sized p assigned not_full b stops
-  into_by b small shape.Text e stops spare = text_into (ap is_number e) (ap is_chars e) b small
+  into_by b small (shape.Int numeral) e stops spare = integer_into laws c s numeral e proper scan sized p assigned not_full b stops
+  into_by b small (shape.Text lead) e stops spare = text_into (ap is_number e) (ap is_chars e) b small
       (subst StoresItem (sym e) (λ s k slot item bytes stored. let same : item ≡ bytes = cc in same))
       (λ w low. subst (λ (h : Shape). TextFits h w (b ∷ [])) (sym e) (lit≤ tt, ((ink_is b).0 stops, tt), low))
       (ap (λ (h : Shape). shape_begins h s.width (b ∷ b ∷ [])) e ∙ and_so (is_ink b) (is_ink b && true) stops
@@ -86,7 +86,7 @@ module _ (laws : LawsBelow) (c : PrintConv) (s : Conversion) (proper : IsProperC
       (ap (λ (h : Shape). shape_begins h s.width (b ∷ b ∷ [])) e ∙ and_so (has_byte members b) (has_byte members b && true) stops
       (and_so (has_byte members b) true stops refl))
   into_by b small shape.Chars e stops spare = absurd cc
-  into_by b small shape.Float e stops spare = real_into laws c s proper scan sized p assigned not_full e b stops spare
+  into_by b small (shape.Float lead) e stops spare = real_into laws c s proper scan sized p assigned not_full lead e b stops spare
   into_by b small shape.Count e stops spare = absurd cc
 
   pub runs_into : (b : ℕ) → b < 256 → stop_set s.shape c b ≡ true → is_spare s.shape c b ≡ false → TakesInto c s b
@@ -94,14 +94,14 @@ module _ (laws : LawsBelow) (c : PrintConv) (s : Conversion) (proper : IsProperC
 
   -- each stop set but that of `c` has a byte
   some_stops : (h : Shape) → s.shape ≡ h → IsProperShape h → (b : ℕ) × (b < 256) × (stop_set h c b ≡ true) × (is_spare h c b ≡ false)
-  some_stops (shape.Int base) e member = (48, lit≤ tt, zero_stops base c, refl)
-  some_stops shape.Text e member = (97, lit≤ tt, refl, refl)
+  some_stops (shape.Int numeral) e member = (48, lit≤ tt, zero_stops numeral c, refl)
+  some_stops (shape.Text lead) e member = (97, lit≤ tt, refl, refl)
   some_stops (shape.Set members) e member = (member.0, member.1, member.2, refl)
   some_stops shape.Chars e member = absurd (let wrong : true ≡ false =
       sym (ap (full_by c s) e) ∙ not_full in cc)
-  some_stops shape.Float e member =
-      (48, lit≤ tt, zero_follows c c.letter refl (ap (letters_pair c.letter) (sym e) ∙ p.letters), zero_not_spare c)
-  some_stops shape.Count e member = absurd (count_pairs_none c.letter (ap (letters_pair c.letter) (sym e) ∙ p.letters))
+  some_stops (shape.Float lead) e member =
+      (48, lit≤ tt, zero_follows c lead (ap (letters_pair c.letter) (sym e) ∙ p.alike.letters), zero_not_spare c lead)
+  some_stops shape.Count e member = absurd (count_pairs_none c.letter (ap (letters_pair c.letter) (sym e) ∙ p.alike.letters))
 
   -- so it runs past its text, whatever follows
   pub runs_past : RunsPast (directive.Conv s) (unit.Conv c ∷ [])

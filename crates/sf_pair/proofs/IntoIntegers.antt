@@ -1,14 +1,15 @@
 -- An integer's item runs on into a byte of the stop set, after the text of 0 or of 1.
 use Rattle.std.proofs.Common.{◌≡◌, ℕ, zero, suc, ◌+◌, ◌<◌, ◌≤◌, ◌⊎◌, inl, inr, Bool, true, false, eqb, ◌&&◌, nat_le, nat_lt, List, [], ◌∷◌}
-use Rattle.std.proofs.Common.{◌++◌, length, slice_index, ℤ, pos, Option, Some, None, is_some, refl, sym, ap, ap₂, subst, ◌∙◌, arith}
+use Rattle.std.proofs.Common.{◌++◌, length, slice_index, ℤ, pos, Option, Some, None, is_some, refl, sym, ap, ap₂, ◌∙◌, arith}
 use Rattle.std.proofs.Common.{length-append}
 use Rattle.std.proofs.lemmas.List.{length-replicate}
 use Rattle.std.proofs.lemmas.Bool.Decides.{nat_tests}
 use Rattle.std.specs.Char.{is_digit}
-use Rattle.sf_base.specs.Data.{Number}
+use Rattle.sf_base.specs.Data.{Datum, Number}
 use Rattle.sf_base.specs.declared.values.Kind.{Kind}
 use Rattle.sf_base.specs.declared.values.Kind.TheVariants as kind
 use Rattle.sf_format.specs.declared.directive.Base.{Base}
+use Rattle.sf_format.specs.declared.directive.Numeral.{Numeral}
 use Rattle.sf_format.specs.declared.directive.Base.TheVariants.{Auto, AutoBin}
 use Rattle.sf_format.specs.declared.directive.Shape.{Shape}
 use Rattle.sf_format.specs.declared.directive.Shape.TheVariants as shape
@@ -24,19 +25,18 @@ use Rattle.sf_item.specs.Progress.{Progress, Start, Zero, integer_of, advance}
 use Rattle.sf_item.specs.Tests.{read, is_within, shape_begins, can_take}
 use Rattle.sf_print.specs.texts.Text.{zeros, base_mark, is_octal, least_digits, pads_with_zeros}
 use Rattle.sf_print.specs.texts.Visible.{without_blanks, visible, least}
-use Rattle.sf_report.specs.Machine.{shape_skips}
 use Rattle.sf_base.specs.Kinds.{bounds_of}
 use Rattle.sf_pair.specs.conversions.Below.{LawsBelow}
-use Rattle.sf_pair.specs.conversions.Neighbours.{prefix_letters, stop_set}
-use Rattle.sf_pair.specs.Groups.{is_number, is_chars, is_auto, letters_pair, width_of, least_by, always_full}
-use Rattle.sf_pair.specs.Fits.{IsOfKind, ValueFits}
+use Rattle.sf_pair.specs.conversions.Neighbours.{prefix_letters, is_auto_base, stop_set}
+use Rattle.sf_pair.specs.Groups.{is_number, is_chars, is_auto, bases_pair, signs_pair, letters_pair, width_of, least_by, always_full}
+use Rattle.sf_pair.specs.Fits.{IsOfKind, ItemFits}
 use Rattle.sf_pair.specs.Laws.{TakesInto}
 use Rattle.sf_pair.proofs.ConversionLemmas.Parts.{bare_sign, zero_digit, one_digit}
-use Rattle.sf_pair.proofs.ConversionLemmas.Bodies.{StartsInk, without_some, Body}
+use Rattle.sf_pair.proofs.ConversionLemmas.Bodies.{without_some, Body}
 use Rattle.sf_pair.proofs.Numbers.{NumberRead, lone_zero_read, mark_of_zero, none_marked}
-use Rattle.sf_pair.proofs.Paired.{and_so, full_by, Pairs, width_is}
-use Rattle.sf_pair.proofs.Back.{SkipsSo, ReadsBack}
-use Rattle.sf_pair.proofs.ReadBack.{reads_back, some_digits, body_is, number_is, auto_bare}
+use Rattle.sf_pair.proofs.Paired.{and_so, and_both, full_by, Pairs, item_value, width_is}
+use Rattle.sf_pair.proofs.Back.{ReadsBack}
+use Rattle.sf_pair.proofs.ReadBack.{reads_back, some_digits, body_is, leads_is, number_is, auto_bare}
 use Rattle.sf_pair.proofs.RunsOn.{takes_too}
 use Rattle.sf_pair.proofs.GoesOn.{stops_so, same_radix, zero_goes, digits_go, end_goes}
 
@@ -55,41 +55,45 @@ small_of_kind kind.Text n = absurd (n refl)
 small_of_kind kind.F32 n = absurd (n refl)
 small_of_kind kind.F64 n = absurd (n refl)
 
-no_text : (l : PrintLetter) (base : Base) → letters_pair l (shape.Int base) ≡ true → prints_kind l kind.Text ≡ true → ⊥
-no_text letter.Text base e h = cc
-no_text letter.One base e h = cc
-no_text _ base e h = cc
+no_text : (l : PrintLetter) (numeral : Numeral) → letters_pair l (shape.Int numeral) ≡ true → prints_kind l kind.Text ≡ true → ⊥
+no_text letter.Text numeral e h = cc
+no_text letter.One numeral e h = cc
+no_text _ numeral e h = cc
 
 no_short : (l : PrintLetter) → prints_kind l kind.F32 ≡ true → ⊥
 no_short letter.Text h = cc
 no_short _ h = cc
 
-no_long : (l : PrintLetter) (base : Base) → letters_pair l (shape.Int base) ≡ true → prints_kind l kind.F64 ≡ true → ⊥
-no_long letter.Text base e h = cc
-no_long (letter.Float style upper) base e h = cc
-no_long _ base e h = cc
+no_long : (l : PrintLetter) (numeral : Numeral) → letters_pair l (shape.Int numeral) ≡ true → prints_kind l kind.F64 ≡ true → ⊥
+no_long letter.Text numeral e h = cc
+no_long (letter.Float style upper) numeral e h = cc
+no_long _ numeral e h = cc
 
 -- the kind of an integer's letter has numbers
-has_numbers : (l : PrintLetter) (base : Base) (k : Kind) → letters_pair l (shape.Int base) ≡ true → prints_kind l k ≡ true
+has_numbers : (l : PrintLetter) (numeral : Numeral) (k : Kind) → letters_pair l (shape.Int numeral) ≡ true → prints_kind l k ≡ true
     → bounds_of k ≡ None → ⊥
-has_numbers l base kind.Text e h none = no_text l base e h
-has_numbers l base kind.F32 e h none = no_short l h
-has_numbers l base kind.F64 e h none = no_long l base e h
-has_numbers l base kind.I8 e h none = absurd cc
-has_numbers l base kind.I16 e h none = absurd cc
-has_numbers l base kind.I32 e h none = absurd cc
-has_numbers l base kind.I64 e h none = absurd cc
-has_numbers l base kind.U8 e h none = absurd cc
-has_numbers l base kind.U16 e h none = absurd cc
-has_numbers l base kind.U32 e h none = absurd cc
-has_numbers l base kind.U64 e h none = absurd cc
+has_numbers l numeral kind.Text e h none = no_text l numeral e h
+has_numbers l numeral kind.F32 e h none = no_short l h
+has_numbers l numeral kind.F64 e h none = no_long l numeral e h
+has_numbers l numeral kind.I8 e h none = absurd cc
+has_numbers l numeral kind.I16 e h none = absurd cc
+has_numbers l numeral kind.I32 e h none = absurd cc
+has_numbers l numeral kind.I64 e h none = absurd cc
+has_numbers l numeral kind.U8 e h none = absurd cc
+has_numbers l numeral kind.U16 e h none = absurd cc
+has_numbers l numeral kind.U32 e h none = absurd cc
+has_numbers l numeral kind.U64 e h none = absurd cc
 
 -- `i` reads what `d` and `i` print
-auto_signed : (l : PrintLetter) (base : Base) → is_auto (shape.Int base) ≡ true → letters_pair l (shape.Int base) ≡ true → l ≡ letter.Signed
-auto_signed letter.Signed base a e = refl
-auto_signed _ Auto a e = absurd cc
-auto_signed _ AutoBin a e = absurd cc
-auto_signed _ _ a e = absurd cc
+auto_signed : (l : PrintLetter) (numeral : Numeral) → is_auto (shape.Int numeral) ≡ true → letters_pair l (shape.Int numeral) ≡ true
+    → l ≡ letter.Signed
+auto_signed l numeral a e = by l numeral.base a (and_both (bases_pair l numeral.base) (signs_pair l numeral.lead) e).0
+  where
+    by : (l : PrintLetter) (base : Base) → is_auto_base base ≡ true → bases_pair l base ≡ true → l ≡ letter.Signed
+    by letter.Signed base a e = refl
+    by _ Auto a e = absurd cc
+    by _ AutoBin a e = absurd cc
+    by _ _ a e = absurd cc
 
 -- ---- lengths
 
@@ -105,25 +109,25 @@ less_than m n h e = grind (arith, nat_tests)
 -- ---- what goes on
 
 -- the item is what is seen of the text
-item_is : (c : PrintConv) (s : Conversion) (k : Kind) (z : ℤ) (base : Base) → s.shape ≡ shape.Int base → (r : ReadsBack c s (Number k z))
+item_is : (c : PrintConv) (s : Conversion) (k : Kind) (z : ℤ) (numeral : Numeral) → s.shape ≡ shape.Int numeral
+    → (r : ReadsBack c s (Number k z))
     → visible c z ≡ r.item
-item_is c s k z base e r =
-    let ink : StartsInk r.item = subst (λ (h : Shape). SkipsSo (shape_skips h) r.before r.item) e r.skips in
-    ap without_blanks r.text_is ∙ without_some r.before r.item ink
+item_is c s k z numeral e r =
+    ap without_blanks r.text_is ∙ without_some r.before r.item (r.ink (ap is_number e))
 
 -- an integer that is shorter than the width goes on where its reading does
-integer_goes : LawsBelow → (s : Conversion) (base : Base) (w : ℕ) (f : List ℕ) (p : Progress) (b : ℕ) → s.shape ≡ shape.Int base
-    → s.width ≡ Some w → length f < w → read base (Some Start) f ≡ Some p → is_some (advance base p b) ≡ true
+integer_goes : LawsBelow → (s : Conversion) (numeral : Numeral) (w : ℕ) (f : List ℕ) (p : Progress) (b : ℕ) → s.shape ≡ shape.Int numeral
+    → s.width ≡ Some w → length f < w → read numeral (Some Start) f ≡ Some p → is_some (advance numeral p b) ≡ true
     → can_take s (f ++ b ∷ []) ≡ true
-integer_goes laws s base w f p b shape_is width short is goes =
+integer_goes laws s numeral w f p b shape_is width short is goes =
     and_so (is_within s.width (length (f ++ b ∷ []))) (shape_begins s.shape s.width (f ++ b ∷ []))
     (ap (λ (o : Option ℕ). is_within o (length (f ++ b ∷ []))) width ∙ ap (λ (k : ℕ). nat_le k w) (length-append f (b ∷ []))
     ∙ room_for (length f) w short)
     (ap (λ (h : Shape). shape_begins h s.width (f ++ b ∷ [])) shape_is
-    ∙ ap is_some (laws.parts base (Some Start) f (b ∷ []) ∙ ap (λ (o : Option Progress). read base o (b ∷ [])) is
-    ∙ one_byte (advance base p b)) ∙ goes)
+    ∙ ap is_some (laws.parts numeral (Some Start) f (b ∷ []) ∙ ap (λ (o : Option Progress). read numeral o (b ∷ [])) is
+    ∙ one_byte (advance numeral p b)) ∙ goes)
   where
-    one_byte : (o : Option Progress) → read base o [] ≡ o
+    one_byte : (o : Option Progress) → read numeral o [] ≡ o
     one_byte None = refl
     one_byte (Some q) = refl
 
@@ -199,14 +203,15 @@ one_is_no_zero p s e value =
     magnitude_of None = 0
     magnitude_of (Some (s, m)) = m
 
-module _ (laws : LawsBelow) (c : PrintConv) (s : Conversion) (base : Base) (is_int : s.shape ≡ shape.Int base) (proper : IsProperConv c)
+module _ (laws : LawsBelow) (c : PrintConv) (s : Conversion) (numeral : Numeral) (is_int : s.shape ≡ shape.Int numeral)
+    (proper : IsProperConv c)
     (scan : IsProper (directive.Conv s)) (sized : HasItsWidth s.shape s.width)
     (p : Pairs c s) (assigned : is_some s.slot ≡ true) (not_full : always_full c s ≡ false) (b : ℕ) where
-  letters : letters_pair c.letter (shape.Int base) ≡ true
-  letters = ap (letters_pair c.letter) (sym is_int) ∙ p.letters
+  letters : letters_pair c.letter (shape.Int numeral) ≡ true
+  letters = ap (letters_pair c.letter) (sym is_int) ∙ p.alike.letters
 
   of_kind : IsOfKind c.kind (pos 0) × IsOfKind c.kind (pos 1)
-  of_kind = small_of_kind c.kind (has_numbers c.letter base c.kind letters proper.kind)
+  of_kind = small_of_kind c.kind (has_numbers c.letter numeral c.kind letters proper.kind)
 
   wide : length (least c) ≤ width_of s
   wide = at_most (length (least c)) (width_of s)
@@ -215,23 +220,24 @@ module _ (laws : LawsBelow) (c : PrintConv) (s : Conversion) (base : Base) (is_i
   short : length (least c) < width_of s
   short = less_than (length (least c)) (width_of s) wide (sym (ap (full_by c s) is_int) ∙ not_full)
 
-  takes_into : (z : ℤ) → IsOfKind c.kind z → length (visible c z) ≡ length (least c) → (n : NumberRead base c z)
-      → is_some (advance base n.progress b) ≡ true → TakesInto c s b
+  takes_into : (z : ℤ) → IsOfKind c.kind z → length (visible c z) ≡ length (least c) → (n : NumberRead numeral c z)
+      → is_some (advance numeral n.progress b) ≡ true → TakesInto c s b
   takes_into z of_kind same n goes =
-      let fits : ValueFits c s (Number c.kind z) = (refl, of_kind, omega (arith, same, wide)) in
+      let fits : ItemFits c s (Number c.kind z) = (refl, of_kind, omega (arith, same, wide)) in
       let r : ReadsBack c s (Number c.kind z) = reads_back laws c s (Number c.kind z) proper scan.1 sized p assigned fits in
       let t = r.takes [] (inr tt) in
       let width : s.width ≡ Some (width_of s) = width_is s (ap is_chars is_int) p.width in
       let more : can_take s (r.item ++ b ∷ []) ≡ true = ap (λ (f : List ℕ). can_take s (f ++ b ∷ []))
-      (sym (item_is c s c.kind z base is_int r))
-      ∙ integer_goes laws s base (width_of s) (visible c z) n.progress b is_int width (omega (arith, same, short)) n.is goes in
-      (Number c.kind z, fits, takes_too laws c s (Number c.kind z) scan r t.item b more)
+      (sym (item_is c s c.kind z numeral is_int r))
+      ∙ integer_goes laws s numeral (width_of s) (visible c z) n.progress b is_int width (omega (arith, same, short)) n.is goes in
+      let v : Datum = Number c.kind z in
+      (v, item_value c s v p.item fits, takes_too laws c s v scan p.item r t.item b more)
 
-  read_of : (z : ℤ) → IsOfKind c.kind z → NumberRead base c z
-  read_of z of_kind = number_is laws c s proper p assigned base is_int z of_kind
+  read_of : (z : ℤ) → IsOfKind c.kind z → NumberRead numeral c z
+  read_of z of_kind = number_is laws c s proper p assigned numeral is_int z of_kind
 
   body_of : (z : ℤ) → IsOfKind c.kind z → Body c z
-  body_of z of_kind = body_is laws c s proper p assigned base is_int z of_kind
+  body_of z of_kind = body_is laws c s proper p assigned numeral is_int z of_kind
 
   -- no zeros are asked for where `i` reads, and no mark is printed
   pub record Bare : Type 0 where
@@ -240,30 +246,30 @@ module _ (laws : LawsBelow) (c : PrintConv) (s : Conversion) (base : Base) (is_i
     pub octal : is_octal c.letter ≡ false
     pub unmarked : base_mark c.letter ≡ []
 
-  bare : is_auto (shape.Int base) ≡ true → Bare
+  bare : is_auto (shape.Int numeral) ≡ true → Bare
   bare auto =
-      let signed = auto_signed c.letter base auto letters in
-      let none = auto_bare laws c s proper p assigned base is_int (some_digits laws c s proper p assigned base is_int) auto in
+      let signed = auto_signed c.letter numeral auto letters in
+      let none = auto_bare laws c s proper p assigned numeral is_int (some_digits laws c s proper p assigned numeral is_int) auto in
       record { one = none.0; pads = none.1; octal = ap is_octal signed; unmarked = ap base_mark signed }
 
   -- after the text of 0, where a 0 doesn't change the radix, and else after that of 1
-  digit_into : is_digit b (first_radix base) ≡ true → TakesInto c s b
-  digit_into digit = by (is_auto (shape.Int base)) refl
+  digit_into : is_digit b (first_radix numeral) ≡ true → TakesInto c s b
+  digit_into digit = by (is_auto (shape.Int numeral)) refl
     where
-      by : (t : Bool) → is_auto (shape.Int base) ≡ t → TakesInto c s b
+      by : (t : Bool) → is_auto (shape.Int numeral) ≡ t → TakesInto c s b
       by false e = let n = read_of (pos 0) of_kind.0 in takes_into (pos 0) of_kind.0 refl n
-          (end_goes base false n.progress n.end (same_radix base e) b digit)
+          (end_goes numeral false n.progress n.end (same_radix numeral e) b digit)
       by true e =
           let k = bare e in
           let n = read_of (pos 1) of_kind.1 in
           takes_into (pos 1) of_kind.1 (one_as_wide laws c (body_of (pos 0) of_kind.0)
           (body_of (pos 1) of_kind.1) k.one k.pads k.octal k.unmarked) n (elim n.end [
             | inl lone ↦ absurd (one_is_no_zero n.progress false lone n.value)
-            | inr digits ↦ digits_go base false digits.0 n.progress digits.1 b digit
+            | inr digits ↦ digits_go numeral false digits.0 n.progress digits.1 b digit
           ])
 
   -- the letter of a prefix, after a lone 0
-  letter_into : prefix_letters base b ≡ true → (is_auto (shape.Int base) ≡ true) ⊎ (length (least c) ≡ 1) → TakesInto c s b
+  letter_into : prefix_letters numeral b ≡ true → (is_auto (shape.Int numeral) ≡ true) ⊎ (length (least c) ≡ 1) → TakesInto c s b
   letter_into letter lone =
       let o = body_of (pos 0) of_kind.0 in
       let none : o.filling ≡ 0 = elim lone [
@@ -273,8 +279,9 @@ module _ (laws : LawsBelow) (c : PrintConv) (s : Conversion) (base : Base) (is_i
       ] in
       let n = read_of (pos 0) of_kind.0 in
       let at : n.progress ≡ Zero false = (let e : Some n.progress ≡ Some (Zero false) =
-      sym n.is ∙ lone_zero_read base c (pos 0) (visible c (pos 0)) (unfilled laws c o none) in cc) in
-      takes_into (pos 0) of_kind.0 refl n (ap (λ (q : Progress). is_some (advance base q b)) at ∙ zero_goes base false b (inl letter))
+      sym n.is ∙ lone_zero_read numeral c (pos 0) (visible c (pos 0))
+      (leads_is laws c s proper p assigned numeral is_int (pos 0) of_kind.0) (unfilled laws c o none) in cc) in
+      takes_into (pos 0) of_kind.0 refl n (ap (λ (q : Progress). is_some (advance numeral q b)) at ∙ zero_goes numeral false b (inl letter))
 
-  pub integer_into : stop_set (shape.Int base) c b ≡ true → TakesInto c s b
-  integer_into stops = elim (stops_so base c b stops) [ inl digit ↦ digit_into digit | inr letter ↦ letter_into letter.0 letter.1 ]
+  pub integer_into : stop_set (shape.Int numeral) c b ≡ true → TakesInto c s b
+  integer_into stops = elim (stops_so numeral c b stops) [ inl digit ↦ digit_into digit | inr letter ↦ letter_into letter.0 letter.1 ]

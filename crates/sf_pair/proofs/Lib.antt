@@ -7,6 +7,9 @@ pub mod Paired
 pub mod Back
 pub mod ReadReals
 pub mod ReadBack
+pub mod Trims
+pub mod ReadColumns
+pub mod FloatColumns
 pub mod Suits
 pub mod FitCut
 pub mod Ahead

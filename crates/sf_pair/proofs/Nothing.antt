@@ -1,13 +1,20 @@
 -- A run on the empty input.
-use Rattle.std.proofs.Common.{◌≡◌, ℕ, zero, suc, ◌+◌, ◌<◌, ◌≤◌, inl, Bool, true, false, cond, ◌&&◌, List, [], ◌∷◌, length, drop, Option}
-use Rattle.std.proofs.Common.{Some, None, is_some, refl, sym, ap, subst, ◌∙◌, arith, eq-eqb, append-nil, zero-add}
+use Rattle.std.proofs.Common.{◌≡◌, ℕ, zero, suc, ◌+◌, ◌<◌, ◌≤◌, inl, Bool, true, false, cond, ◌&&◌, List, [], ◌∷◌, length, take, drop}
+use Rattle.std.proofs.Common.{Option}
+use Rattle.std.proofs.Common.{}
+use Rattle.std.proofs.Common.{◌*◌, nat_lt, min, unwrap_or, Some, None, is_some, refl, sym, ap, subst, ◌∙◌, arith, lit≤, eq-eqb, append-nil}
+use Rattle.std.proofs.Common.{zero-add}
 use Rattle.std.proofs.lemmas.Bool.Decides.{nat_tests}
 use Rattle.std.proofs.lemmas.List.{drop_all}
 use Rattle.std.proofs.lemmas.List.Sums.{sum_by-cons}
 use Rattle.std.specs.List.{sum_by, list_any}
+use Rattle.sf_base.specs.Bytes.{is_white}
 use Rattle.sf_base.specs.Sets.{has_byte}
 use Rattle.sf_format.specs.declared.directive.Base.{Base}
+use Rattle.sf_format.specs.declared.directive.Numeral.{Numeral}
 use Rattle.sf_format.specs.declared.directive.Base.TheVariants.{Dec, Oct, Hex, Bin, Auto, AutoBin}
+use Rattle.sf_format.specs.declared.directive.Lead.{Lead}
+use Rattle.sf_format.specs.declared.directive.Lead.TheVariants.{Any, Minus, Nothing}
 use Rattle.sf_format.specs.declared.directive.Shape.{Shape}
 use Rattle.sf_format.specs.declared.directive.Shape.TheVariants as shape
 use Rattle.sf_format.specs.declared.directive.Conversion.{Conversion}
@@ -15,18 +22,23 @@ use Rattle.sf_format.specs.declared.directive.Directive.{Directive}
 use Rattle.sf_format.specs.declared.directive.Directive.TheVariants as directive
 use Rattle.sf_format.specs.declared.unit.Unit.{Unit as PrintUnit}
 use Rattle.sf_format.specs.Proper.{IsProperShape, IsProperWidth, IsProper, AreProper}
-use Rattle.sf_item.specs.Progress.{Start}
+use Rattle.sf_item.specs.Radices.{radices, first_radix}
+use Rattle.sf_item.specs.Progress.{Progress, Start, Digits}
+use Rattle.sf_item.specs.Columns.{column_width}
 use Rattle.sf_item.specs.Tests.{read, is_within, shape_begins, can_take}
 use Rattle.sf_print.specs.Printed.{printed}
 use Rattle.sf_report.specs.declared.outcome.Status.TheVariants.{Done, InputFailure}
 use Rattle.sf_report.specs.declared.outcome.Ending.TheVariants.{End}
 use Rattle.sf_report.specs.Steps.{StepEnd, Passes, Stores, Misses, Fails}
 use Rattle.sf_report.specs.Runs.{Ran, RunReport, Run, IsOpen, used, status_of, converted, report_of, is_conversion, passed}
-use Rattle.sf_report.specs.Computed.{skip_before, len, item_part, conversion_step, byte_choice, step_of, go_on, ran_of}
+use Rattle.sf_report.specs.Machine.{empty_end}
+use Rattle.sf_report.specs.Computed.{skip_under, skip_before, len, item_part, conversion_step, byte_choice, step_by, step_of, go_on}
+use Rattle.sf_report.specs.Computed.{column_len, column_ended, ran_of}
 use Rattle.sf_pair.specs.conversions.Below.{LawsBelow}
 use Rattle.sf_pair.specs.Groups.{is_count, is_left_out, IsConversionGroup, AreCut, assigns, next_of}
 use Rattle.sf_pair.specs.Laws.{read_back, AlignedEndsOnNothing, PrintsSome}
 use Rattle.sf_pair.proofs.Paired.{and_so, or_none}
+use Rattle.sf_pair.proofs.Numbers.{start_opens}
 use Rattle.sf_pair.proofs.Whole.{round_trip}
 
 -- ---- what is used of nothing, and of one byte that is taken
@@ -60,13 +72,35 @@ within_one : (o : Option ℕ) → IsProperWidth o → is_within o 1 ≡ true
 within_one None h = refl
 within_one (Some w) h = grind (arith, nat_tests)
 
-one_digit : (base : Base) → is_some (read base (Some Start) (49 ∷ [])) ≡ true
-one_digit Dec = refl
-one_digit Oct = refl
-one_digit Hex = refl
-one_digit Bin = refl
-one_digit Auto = refl
-one_digit AutoBin = refl
+one_digit : (numeral : Numeral) → is_some (read numeral (Some Start) (49 ∷ [])) ≡ true
+one_digit numeral =
+    ap (λ (o : Option Progress). is_some (read numeral o [])) (start_opens numeral 49 (lit≤ tt))
+    ∙ ap (λ (t : Bool). is_some (read numeral (cond t (Some (Digits false (first_radix numeral) (0 * first_radix numeral + 1))) None) []))
+    (by numeral.base)
+  where
+    by : (base : Base) → nat_lt 1 (radices base).first ≡ true
+    by Dec = refl
+    by Oct = refl
+    by Hex = refl
+    by Bin = refl
+    by Auto = refl
+    by AutoBin = refl
+
+-- no white space is skipped before such a byte, nor where there is none
+no_white : (b : ℕ) → is_white b ≡ false → (lead : Lead) → skip_under lead (b ∷ []) ≡ 0
+no_white b e Any = ap (λ (t : Bool). cond t 1 0) e
+no_white b e Minus = refl
+no_white b e Nothing = refl
+
+no_skip : (lead : Lead) → skip_under lead [] ≡ 0
+no_skip Any = refl
+no_skip Minus = refl
+no_skip Nothing = refl
+
+float_digit : (lead : Lead) → shape_begins (shape.Float lead) None (49 ∷ []) ≡ true
+float_digit Any = refl
+float_digit Minus = refl
+float_digit Nothing = refl
 
 takes_first : (s : Conversion) (b : ℕ) → can_take s (b ∷ []) ≡ true → len s [] (b ∷ []) ≡ 1
 takes_first s b e = ap (λ (t : Bool). cond t (suc (len s (b ∷ []) [])) 0) e
@@ -83,16 +117,16 @@ chars_one None h = refl
 chars_one (Some w) h = let low : 1 ≤ w = h in grind (arith, nat_tests)
 
 one_taken : (s : Conversion) (h : Shape) → s.shape ≡ h → is_count h ≡ false → IsProperShape h → IsProperWidth s.width → OneTaken s
-one_taken s (shape.Int base) e no_count shaped wide = record {
+one_taken s (shape.Int numeral) e no_count shaped wide = record {
   byte = 49;
   small = omega arith;
-  unskipped = ap (λ (h : Shape). skip_before h (49 ∷ [])) e;
-  takes = ap (λ (h : Shape). shape_begins h s.width (49 ∷ [])) e ∙ one_digit base;
+  unskipped = ap (λ (h : Shape). skip_before h (49 ∷ [])) e ∙ no_white 49 refl numeral.lead;
+  takes = ap (λ (h : Shape). shape_begins h s.width (49 ∷ [])) e ∙ one_digit numeral;
 }
-one_taken s shape.Text e no_count shaped wide = record {
+one_taken s (shape.Text lead) e no_count shaped wide = record {
   byte = 97;
   small = omega arith;
-  unskipped = ap (λ (h : Shape). skip_before h (97 ∷ [])) e;
+  unskipped = ap (λ (h : Shape). skip_before h (97 ∷ [])) e ∙ no_white 97 refl lead;
   takes = ap (λ (h : Shape). shape_begins h s.width (97 ∷ [])) e;
 }
 one_taken s (shape.Set members) e no_count (b, small, member) wide = record {
@@ -107,29 +141,41 @@ one_taken s shape.Chars e no_count shaped wide = record {
   unskipped = ap (λ (h : Shape). skip_before h (0 ∷ [])) e;
   takes = ap (λ (h : Shape). shape_begins h s.width (0 ∷ [])) e ∙ chars_one s.width wide;
 }
-one_taken s shape.Float e no_count shaped wide = record {
+one_taken s (shape.Float lead) e no_count shaped wide = record {
   byte = 49;
   small = omega arith;
-  unskipped = ap (λ (h : Shape). skip_before h (49 ∷ [])) e;
-  takes = ap (λ (h : Shape). shape_begins h s.width (49 ∷ [])) e;
+  unskipped = ap (λ (h : Shape). skip_before h (49 ∷ [])) e ∙ no_white 49 refl lead;
+  takes = ap (λ (h : Shape). shape_begins h s.width (49 ∷ [])) e ∙ float_digit lead;
 }
 one_taken s shape.Count e no_count shaped wide = absurd cc
 
--- a conversion other than n is the item after what is skipped
-item_of : (s : Conversion) (x : List ℕ) (n : ℕ) → is_count s.shape ≡ false
+-- a conversion other than n that takes no column is the item after what is skipped
+item_of : (s : Conversion) (x : List ℕ) (n : ℕ) → s.column ≡ false → is_count s.shape ≡ false
     → step_of (directive.Conv s) x n ≡ item_part s x (skip_before s.shape x)
-item_of s x n e = by s.shape e
+item_of s x n item e = ap (λ (t : Bool). step_by t s x n) item ∙ by s.shape e
   where
     by : (h : Shape) → is_count h ≡ false → conversion_step s h x n ≡ item_part s x (skip_before s.shape x)
     by shape.Count e = absurd cc
     by _ e = refl
 
-conversion_takes : (s : Conversion) (n : ℕ) → is_count s.shape ≡ false → IsProperWidth s.width → (t : OneTaken s)
+conversion_takes : (s : Conversion) (n : ℕ) → s.column ≡ false → is_count s.shape ≡ false → IsProperWidth s.width → (t : OneTaken s)
     → (step_of (directive.Conv s) (t.byte ∷ []) n).0 ≡ 1
-conversion_takes s n no_count wide t =
-    ap (λ (r : ℕ × StepEnd). r.0) (item_of s (t.byte ∷ []) n no_count ∙ ap (item_part s (t.byte ∷ [])) t.unskipped)
+conversion_takes s n item no_count wide t =
+    ap (λ (r : ℕ × StepEnd). r.0) (item_of s (t.byte ∷ []) n item no_count ∙ ap (item_part s (t.byte ∷ [])) t.unskipped)
     ∙ ap (λ (k : ℕ). 0 + k) (takes_first s t.byte (and_so (is_within s.width 1) (shape_begins s.shape s.width (t.byte ∷ []))
     (within_one s.width wide) t.takes))
+
+-- a column takes each byte
+column_takes : (s : Conversion) (b n : ℕ) → s.column ≡ true → IsProperWidth s.width → (step_of (directive.Conv s) (b ∷ []) n).0 ≡ 1
+column_takes s b n column wide =
+    ap (λ (t : Bool). (step_by t s (b ∷ []) n).0) column ∙ one (column_width s) (by s.width wide)
+  where
+    one : (w : ℕ) → 1 ≤ w → min 1 w ≡ 1
+    one w h = omega (arith, h)
+
+    by : (o : Option ℕ) → IsProperWidth o → 1 ≤ unwrap_or o 1
+    by None h = omega arith
+    by (Some w) h = h
 
 not_left_out : (s : Conversion) (group rest : List PrintUnit) (next : Option Directive)
     → IsConversionGroup (is_left_out s) (is_some s.slot) s group rest next → is_left_out s ≡ false
@@ -152,7 +198,11 @@ first_taken directive.Percent ds us proper cut = (37, omega arith, refl)
 first_taken (directive.Conv s) ds us proper (group, rest, parts, is, more) =
     let no_count = no_count_in s (not_left_out s group rest (next_of ds) is) in
     let t = one_taken s s.shape refl no_count proper.0 proper.1 in
-    (t.byte, t.small, conversion_takes s 0 no_count proper.1 t)
+    by t no_count s.column refl
+  where
+    by : OneTaken s → is_count s.shape ≡ false → (t : Bool) → s.column ≡ t → FirstTaken (directive.Conv s)
+    by t no_count true column = (97, omega arith, column_takes s 97 0 column proper.1)
+    by t no_count false item = (t.byte, t.small, conversion_takes s 0 item no_count proper.1 t)
 
 goes_on : LawsBelow → (ds : List Directive) (us : List PrintUnit) → AreProper ds → AreCut ds us → list_any assigns ds ≡ true → IsOpen ds []
 goes_on laws [] us proper cut some = absurd cc
@@ -173,14 +223,23 @@ abbrev FailsFirst : List Ran → Type 0
 FailsFirst ran = (status_of ran ≡ InputFailure) × (converted ran ≡ 0)
 
 conversion_fails : (s : Conversion) (n : ℕ) → is_left_out s ≡ false → step_of (directive.Conv s) [] n ≡ (0, Fails InputFailure)
-conversion_fails s n e = item_of s [] n (no_count_in s e) ∙ ap (item_part s []) (by s.shape)
+conversion_fails s n e = ends s.column refl
     ∙ ap (λ (t : Bool). (0, cond t Misses (Fails InputFailure))) (or_none (is_count s.shape) s.optional e).1
   where
     by : (h : Shape) → skip_before h [] ≡ 0
-    by (shape.Int base) = refl
-    by shape.Text = refl
-    by shape.Float = refl
+    by (shape.Int numeral) = no_skip numeral.lead
+    by (shape.Text lead) = no_skip lead
+    by (shape.Float lead) = no_skip lead
     by _ = refl
+
+    ends : (t : Bool) → s.column ≡ t → step_of (directive.Conv s) [] n ≡ (0, empty_end s false)
+    ends true column =
+        let none : column_len s [] ≡ 0 = least_none (column_width s) in
+        ap (λ (t : Bool). step_by t s [] n) column ∙ (λ i. (none i, column_ended s [] (take (none i) [])))
+      where
+        least_none : (w : ℕ) → min 0 w ≡ 0
+        least_none w = omega arith
+    ends false item = item_of s [] n item (no_count_in s e) ∙ ap (item_part s []) (by s.shape)
 
 fails_first : (ds : List Directive) (us : List PrintUnit) (n : ℕ) → AreCut ds us → list_any assigns ds ≡ true → FailsFirst (ran_of ds [] n)
 fails_first [] us n cut some = absurd cc

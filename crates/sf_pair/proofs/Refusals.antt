@@ -2,7 +2,6 @@
 use Rattle.std.proofs.Common.{◌≡◌, ℕ, suc, ◌+◌, Bool, true, false, cond, ◌&&◌, List, [], ◌∷◌, ◌++◌, length, Option, Some, None, Err, refl}
 use Rattle.std.proofs.Common.{sym, ap, subst, ◌∙◌, arith, lit≤, append-nil}
 use Rattle.sf_base.specs.Bytes.{is_white}
-use Rattle.sf_format.specs.declared.directive.Shape.{Shape}
 use Rattle.sf_format.specs.declared.directive.Conversion.{Conversion}
 use Rattle.sf_format.specs.declared.directive.Directive.{Directive}
 use Rattle.sf_format.specs.declared.directive.Directive.TheVariants as directive
@@ -17,13 +16,13 @@ use Rattle.sf_report.specs.Computed.{skip}
 use Rattle.sf_pair.specs.conversions.Below.{LawsBelow}
 use Rattle.sf_pair.specs.declared.fault.PairWhy.TheVariants as why
 use Rattle.sf_pair.specs.conversions.Neighbours.{only, meet, first_by, reads, stop_set}
-use Rattle.sf_pair.specs.Groups.{always_full, follow_fault, closing_fault, keeps_space, AreSpace, starts_with_space, space_fault}
-use Rattle.sf_pair.specs.Groups.{pairing_fault, next_of}
+use Rattle.sf_pair.specs.Groups.{always_full, is_closed, follow_fault, closing_fault, keeps_space, AreSpace, starts_with_space}
+use Rattle.sf_pair.specs.Groups.{space_fault, pairing_fault, next_of}
 use Rattle.sf_pair.specs.Walk.{leaves, after_space, take_space, take_group}
 use Rattle.sf_pair.specs.Laws.{RunsPast, RunsInto, OpenEndsAreOpen, LiteralsAreRunInto}
 use Rattle.sf_pair.proofs.Cutting.{space_front}
 use Rattle.sf_pair.proofs.ConversionLemmas.Meets.{met_by}
-use Rattle.sf_pair.proofs.Paired.{pairs}
+use Rattle.sf_pair.proofs.Paired.{or_none, pairs}
 use Rattle.sf_pair.proofs.Into.{runs_into, runs_past}
 use Rattle.sf_pair.proofs.Stops.{follows, literal_never, unclosed, stops_by, stops_at}
 
@@ -49,7 +48,7 @@ space_runs_past laws us h =
       ),
     )
 
-none_left : (us kept : List PrintUnit) (read : Shape) → leaves (space_fault us read) kept ≡ Err why.OpenEnd → us ≡ []
+none_left : (us kept : List PrintUnit) (read : Conversion) → leaves (space_fault us read) kept ≡ Err why.OpenEnd → us ≡ []
 none_left [] kept read e = refl
 none_left (u ∷ us) kept read e = by (keeps_space read && meet (first_by u read) is_white) e
   where
@@ -70,9 +69,9 @@ space_open us next e = by (starts_with_space us) e
 
 -- ---- conversions
 
-closed_open : (c : PrintConv) (s : Conversion) (us : List PrintUnit) (read : Shape) → closing_fault c s us read ≡ Some why.OpenEnd
-    → (always_full c s ≡ false) × (us ≡ [])
-closed_open c s us read e = by (always_full c s) us e
+closed_open : (c : PrintConv) (s : Conversion) (us : List PrintUnit) (read : Conversion) → closing_fault c s us read ≡ Some why.OpenEnd
+    → (is_closed c s ≡ false) × (us ≡ [])
+closed_open c s us read e = by (is_closed c s) us e
   where
     by : (t : Bool) (us : List PrintUnit) → cond t None (follow_fault (stop_set s.shape c) us read) ≡ Some why.OpenEnd
         → (t ≡ false) × (us ≡ [])
@@ -84,9 +83,9 @@ closed_open c s us read e = by (always_full c s) us e
         met true e = absurd cc
         met false e = absurd cc
 
-closed_on : (c : PrintConv) (s : Conversion) (b : ℕ) (us : List PrintUnit) (read : Shape)
-    → closing_fault c s (unit.Byte b ∷ us) read ≡ Some why.RunsOn → (always_full c s ≡ false) × (meet (only b) (stop_set s.shape c) ≡ true)
-closed_on c s b us read e = by (always_full c s) (meet (only b) (stop_set s.shape c)) e
+closed_on : (c : PrintConv) (s : Conversion) (b : ℕ) (us : List PrintUnit) (read : Conversion)
+    → closing_fault c s (unit.Byte b ∷ us) read ≡ Some why.RunsOn → (is_closed c s ≡ false) × (meet (only b) (stop_set s.shape c) ≡ true)
+closed_on c s b us read e = by (is_closed c s) (meet (only b) (stop_set s.shape c)) e
   where
     by : (t m : Bool) → cond t None (cond m (Some why.RunsOn) None) ≡ Some why.RunsOn → (t ≡ false) × (m ≡ true)
     by true m e = absurd cc
@@ -103,8 +102,9 @@ open_here laws (directive.Conv s) us next proper sized units e =
     let k = closed_open o.conversion s o.rest (reads next) o.closing in
     let units_are : us ≡ unit.Conv o.conversion ∷ [] = o.units_are ∙ ap (λ (t : List PrintUnit). unit.Conv o.conversion ∷ t) k.1 in
     let here : IsProperConv o.conversion × Unit {0} = subst AreProperUnits units_are units in
+    let open_so = or_none s.column (always_full o.conversion s) k.0 in
     subst (RunsPast (directive.Conv s)) (sym units_are) (runs_past laws o.conversion s here.0 proper sized
-    (pairs o.conversion s o.pairing) o.assigned k.0)
+    (pairs o.conversion s open_so.0 o.pairing) o.assigned open_so.1)
 
 -- a literal that follows is taken too
 on_here : LawsBelow → (d : Directive) (us : List PrintUnit) (next : Option Directive) → IsProper d → IsSized d → AreProperUnits us
@@ -122,7 +122,8 @@ on_here laws (directive.Conv s) (unit.Conv c ∷ unit.Byte b ∷ us) next proper
     let rest : o.rest ≡ unit.Byte b ∷ us = (let parts = o.units_are in cc) in
     let pairing = sym (ap (λ (a : PrintConv). pairing_fault a s) same) ∙ o.pairing in
     let k = closed_on c s b us (reads next) ((λ i. closing_fault (sym same i) s (sym rest i) (reads next)) ∙ o.closing) in
-    λ spare. runs_into laws c s units.0 proper sized (pairs c s pairing) o.assigned k.0 b units.1.0
+    let open_so = or_none s.column (always_full c s) k.0 in
+    λ spare. runs_into laws c s units.0 proper sized (pairs c s open_so.0 pairing) o.assigned open_so.1 b units.1.0
     (met_by laws.tried b (stop_set s.shape c) k.1) spare
 
 pub open_ends_are_open : LawsBelow → OpenEndsAreOpen

@@ -1,6 +1,8 @@
 -- Where the walk over both formats stops, and which conversion is left unclosed there.
-use Rattle.std.proofs.Common.{◌≡◌, ℕ, ◌+◌, Bool, true, false, cond, List, [], ◌∷◌, ◌++◌, length, Option, Some, None, Ok, Err, is_some, refl}
+use Rattle.std.proofs.Common.{◌≡◌, ℕ, ◌+◌, Bool, true, false, cond, ◌&&◌, List, [], ◌∷◌, ◌++◌, length, Option, Some, None, Ok, Err}
+use Rattle.std.proofs.Common.{is_some, refl}
 use Rattle.std.proofs.Common.{sym, ap, subst, ◌∙◌, arith, true≢false}
+use Rattle.std.specs.Prelude.{not}
 use Rattle.std.specs.List.{list_any}
 use Rattle.sf_format.specs.declared.directive.Conversion.{Conversion}
 use Rattle.sf_format.specs.declared.directive.Directive.{Directive}
@@ -14,7 +16,7 @@ use Rattle.sf_pair.specs.declared.fault.PairWhy.{PairWhy}
 use Rattle.sf_pair.specs.declared.fault.PairWhy.TheVariants as why
 use Rattle.sf_pair.specs.declared.fault.PairFault.{PairFault}
 use Rattle.sf_pair.specs.conversions.Neighbours.{Bytes as ByteTest, reads}
-use Rattle.sf_pair.specs.Groups.{is_count, kinds_differ, numbers_differ, bad_flag, has_no_width, too_narrow, leading_zero, rule}
+use Rattle.sf_pair.specs.Groups.{is_count, bad_mark, kinds_differ, numbers_differ, bad_flag, has_no_width, too_narrow, leading_zero, rule}
 use Rattle.sf_pair.specs.Groups.{pairing_fault, closing_fault, IsGroup, suppressed_by, next_of, assigns}
 use Rattle.sf_pair.specs.Walk.{Left, leaves, unless, take_literal, take_paired, take_conversion, take_group, fault, fault_after, fault_from}
 use Rattle.sf_pair.specs.Walk.{values_fault, first_fault, pair_fault}
@@ -45,15 +47,16 @@ pub record Unclosed (s : Conversion) (us : List PrintUnit) (next : Option Direct
   pub closing : closing_fault conversion s rest (reads next) ≡ Some w
 
 module _ (w : PairWhy) (is : follows w ≡ true) where
-  no_reason : (a b c d e f : Bool) → first_reason (rule why.KindDiffers a ∷ rule why.NumberDiffers b ∷ rule why.BadFlagHere c ∷ rule
-      why.NoWidth d ∷ rule why.TooNarrow e ∷ rule why.LeadingZero f ∷ []) ≡ Some w → ⊥
-  no_reason true b c d e f h = no_other why.KindDiffers w refl is h
-  no_reason false true c d e f h = no_other why.NumberDiffers w refl is h
-  no_reason false false true d e f h = no_other why.BadFlagHere w refl is h
-  no_reason false false false true e f h = no_other why.NoWidth w refl is h
-  no_reason false false false false true f h = no_other why.TooNarrow w refl is h
-  no_reason false false false false false true h = no_other why.LeadingZero w refl is h
-  no_reason false false false false false false h = cc
+  no_reason : (m a b c d e f : Bool) → first_reason (rule why.BadMark m ∷ rule why.KindDiffers a ∷ rule why.NumberDiffers b
+      ∷ rule why.BadFlagHere c ∷ rule why.NoWidth d ∷ rule why.TooNarrow e ∷ rule why.LeadingZero f ∷ []) ≡ Some w → ⊥
+  no_reason true a b c d e f h = no_other why.BadMark w refl is h
+  no_reason false true b c d e f h = no_other why.KindDiffers w refl is h
+  no_reason false false true c d e f h = no_other why.NumberDiffers w refl is h
+  no_reason false false false true d e f h = no_other why.BadFlagHere w refl is h
+  no_reason false false false false true e f h = no_other why.NoWidth w refl is h
+  no_reason false false false false false true f h = no_other why.TooNarrow w refl is h
+  no_reason false false false false false false true h = no_other why.LeadingZero w refl is h
+  no_reason false false false false false false false h = cc
 
   pub literal_never : (wanted : ByteTest) (us : List PrintUnit) → take_literal wanted us ≡ Err w → ⊥
   literal_never wanted [] e = no_other_err why.NotAligned w refl is e
@@ -74,8 +77,9 @@ module _ (w : PairWhy) (is : follows w ≡ true) where
           → Unclosed s (unit.Conv c ∷ us) next w
       by (Some v) k pairing closing e =
           let same : v ≡ w = cc in
-          absurd (no_reason (kinds_differ c s) (numbers_differ c s) (bad_flag c s) (has_no_width s) (too_narrow c s) (leading_zero c s)
-          (pairing ∙ ap Some same))
+          absurd (no_reason (bad_mark c s) (kinds_differ c s) (numbers_differ c s) (not s.column && bad_flag c s)
+          (not s.column && has_no_width s) (not s.column && too_narrow c s)
+          (leading_zero c s) (pairing ∙ ap Some same))
       by None None pairing closing e = absurd cc
       by None (Some v) pairing closing e =
           let same : v ≡ w = cc in
@@ -85,11 +89,11 @@ module _ (w : PairWhy) (is : follows w ≡ true) where
   unclosed s us next e = by (is_count s.shape) s.optional (is_some s.slot) refl e
     where
       by : (count optional assigned : Bool) → is_some s.slot ≡ assigned → cond count (Err why.NotWritten) (cond optional
-          (Err why.MayBeMissing) (cond assigned (take_paired s us next) (take_literal (suppressed_by s.shape s.width) us))) ≡ Err w
+          (Err why.MayBeMissing) (cond assigned (take_paired s us next) (take_literal (suppressed_by s) us))) ≡ Err w
           → Unclosed s us next w
       by true optional assigned a e = absurd (no_other_err why.NotWritten w refl is e)
       by false true assigned a e = absurd (no_other_err why.MayBeMissing w refl is e)
-      by false false false a e = absurd (literal_never (suppressed_by s.shape s.width) us e)
+      by false false false a e = absurd (literal_never (suppressed_by s) us e)
       by false false true a e = paired_unclosed s us next a e
 
 -- ---- the walk

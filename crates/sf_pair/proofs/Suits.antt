@@ -19,9 +19,9 @@ use Rattle.sf_print.specs.declared.fault.PrintFault.{PrintFault}
 use Rattle.sf_print.specs.declared.fault.PrintFault.TheVariants as fault
 use Rattle.sf_print.specs.Printed.{kind_of, same_kind, suits, value_fault}
 use Rattle.sf_print.proofs.Judged.{same_is_printed}
-use Rattle.sf_pair.specs.Groups.{is_one, letters_pair, width_of}
-use Rattle.sf_pair.specs.Fits.{TextFits, ValueFits}
-use Rattle.sf_pair.proofs.Paired.{Pairs, not_none}
+use Rattle.sf_pair.specs.Groups.{is_one, letters_pair, width_of, pairing_fault}
+use Rattle.sf_pair.specs.Fits.{TextFits, ItemFits, TextStands, ColumnFits, FitsBy, ValueFits}
+use Rattle.sf_pair.proofs.Paired.{Alike, Pairs, alike, pairs, not_none}
 
 itself : (k : Kind) → same_kind k k ≡ true
 itself kind.I8 = refl
@@ -43,9 +43,9 @@ text_so _ e = absurd cc
 -- a conversion that is read as a text prints texts
 prints_texts : (l : PrintLetter) (k : Kind) (h : Shape) (w : ℕ) (bytes : List ℕ) → letters_pair l h ≡ true → TextFits h w bytes
     → prints_kind l k ≡ true → same_kind kind.Text k ≡ true
-prints_texts l k (shape.Int base) w bytes e fit is = absurd fit
+prints_texts l k (shape.Int numeral) w bytes e fit is = absurd fit
 prints_texts l k shape.Count w bytes e fit is = absurd fit
-prints_texts l k shape.Float w bytes e fit is = absurd fit
+prints_texts l k (shape.Float lead) w bytes e fit is = absurd fit
 prints_texts letter.Text k h w bytes e fit is = text_so k is
 prints_texts letter.One k h w bytes e fit is = text_so k is
 prints_texts letter.Signed k _ w bytes e fit is = absurd cc
@@ -83,12 +83,51 @@ no_fault c v e f =
     (same_is_printed (kind_of v) c.kind e)
     ∙ ap (λ (t : Bool). cond {A = Option PrintFault} (not t) (Some (fault.NotOneByte c.slot)) None) f
 
-pub fits_unfaulted : (c : PrintConv) (s : Conversion) (v : Datum) → IsProperConv c → Pairs c s → ValueFits c s v → value_fault c v ≡ None
-fits_unfaulted c s (Number k z) proper p fit = no_fault c (Number k z) (ap (λ (k : Kind). same_kind k c.kind) fit.0 ∙ itself c.kind)
+item_unfaulted : (c : PrintConv) (s : Conversion) (v : Datum) → IsProperConv c → Pairs c s → ItemFits c s v → value_fault c v ≡ None
+item_unfaulted c s (Number k z) proper p fit = no_fault c (Number k z) (ap (λ (k : Kind). same_kind k c.kind) fit.0 ∙ itself c.kind)
     (suits_number c.letter k z)
-fits_unfaulted c s (Real (reals.F32 bits)) proper p fit = absurd fit
-fits_unfaulted c s (Real (reals.F64 bits)) proper p fit = no_fault c (Real (reals.F64 bits))
+item_unfaulted c s (Real (reals.F32 bits)) proper p fit = absurd fit
+item_unfaulted c s (Real (reals.F64 bits)) proper p fit = no_fault c (Real (reals.F64 bits))
     (ap (λ (k : Kind). same_kind kind.F64 k) fit.0) (suits_real c.letter (reals.F64 bits))
-fits_unfaulted c s (Bytes bytes) proper p fit =
-    no_fault c (Bytes bytes) (prints_texts c.letter c.kind s.shape (width_of s) bytes p.letters fit.1 proper.kind)
-    (suits_so c.letter s.shape (width_of s) bytes p.letters p.single fit.1)
+item_unfaulted c s (Bytes bytes) proper p fit =
+    no_fault c (Bytes bytes) (prints_texts c.letter c.kind s.shape (width_of s) bytes p.alike.letters fit.1 proper.kind)
+    (suits_so c.letter s.shape (width_of s) bytes p.alike.letters p.single fit.1)
+
+-- ---- columns
+
+column_prints_texts : (l : PrintLetter) (k : Kind) (h : Shape) (w : ℕ) (bytes : List ℕ) → letters_pair l h ≡ true → TextStands h w bytes
+    → prints_kind l k ≡ true → (same_kind kind.Text k ≡ true) × (suits l (Bytes bytes) ≡ true)
+column_prints_texts l k (shape.Int numeral) w bytes e fit is = absurd fit
+column_prints_texts l k shape.Count w bytes e fit is = absurd fit
+column_prints_texts l k shape.Chars w bytes e fit is = absurd fit
+column_prints_texts l k (shape.Float lead) w bytes e fit is = absurd fit
+column_prints_texts letter.Text k h w bytes e fit is = (text_so k is, refl)
+column_prints_texts letter.One k (shape.Text lead) w bytes e fit is = absurd cc
+column_prints_texts letter.One k (shape.Set members) w bytes e fit is = absurd cc
+column_prints_texts letter.Signed k _ w bytes e fit is = absurd cc
+column_prints_texts letter.Unsigned k _ w bytes e fit is = absurd cc
+column_prints_texts letter.Octal k _ w bytes e fit is = absurd cc
+column_prints_texts letter.HexLower k _ w bytes e fit is = absurd cc
+column_prints_texts letter.HexUpper k _ w bytes e fit is = absurd cc
+column_prints_texts letter.Binary k _ w bytes e fit is = absurd cc
+column_prints_texts (letter.Float style upper) k _ w bytes e fit is = absurd cc
+
+column_unfaulted : (c : PrintConv) (s : Conversion) (v : Datum) → IsProperConv c → Alike c s → ColumnFits c s v → value_fault c v ≡ None
+column_unfaulted c s (Number k z) proper p fit = no_fault c (Number k z) (ap (λ (k : Kind). same_kind k c.kind) fit.1.0 ∙ itself c.kind)
+    (suits_number c.letter k z)
+column_unfaulted c s (Real (reals.F32 bits)) proper p fit = absurd fit.1
+column_unfaulted c s (Real (reals.F64 bits)) proper p fit = no_fault c (Real (reals.F64 bits))
+    (ap (λ (k : Kind). same_kind kind.F64 k) fit.1.0) (suits_real c.letter (reals.F64 bits))
+column_unfaulted c s (Bytes bytes) proper p fit =
+    let h = column_prints_texts c.letter c.kind s.shape (width_of s) bytes p.letters fit.1.2 proper.kind in
+    no_fault c (Bytes bytes) h.0 h.1
+
+-- ---- either
+
+pub fits_unfaulted : (c : PrintConv) (s : Conversion) (v : Datum) → IsProperConv c → pairing_fault c s ≡ None → ValueFits c s v
+    → value_fault c v ≡ None
+fits_unfaulted c s v proper pairing fit = by s.column refl fit
+  where
+    by : (t : Bool) → s.column ≡ t → FitsBy t c s v → value_fault c v ≡ None
+    by true column h = column_unfaulted c s v proper (alike c s pairing) h
+    by false item h = item_unfaulted c s v proper (pairs c s item pairing) h

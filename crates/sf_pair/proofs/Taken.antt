@@ -5,7 +5,7 @@ use Rattle.std.proofs.Common.{length-append}
 use Rattle.std.proofs.lemmas.Bool.Decides.{nat_tests}
 use Rattle.std.proofs.lemmas.List.{take_at}
 use Rattle.sf_base.specs.Data.{Number}
-use Rattle.sf_format.specs.declared.directive.Base.{Base}
+use Rattle.sf_format.specs.declared.directive.Numeral.{Numeral}
 use Rattle.sf_format.specs.declared.directive.Shape.{Shape}
 use Rattle.sf_format.specs.declared.directive.Shape.TheVariants as shape
 use Rattle.sf_format.specs.declared.directive.Conversion.{Conversion}
@@ -17,7 +17,7 @@ use Rattle.sf_report.specs.Steps.{StepEnd, Stores, Fails}
 use Rattle.sf_report.specs.declared.outcome.Status.TheVariants.{MatchingFailure}
 use Rattle.sf_report.specs.Machine.{item_end, passed_end, stored_end, integer_end, number_end}
 use Rattle.sf_print.specs.texts.Visible.{visible}
-use Rattle.sf_report.specs.Computed.{len, skip_before, item_ended, item_step, conversion_step, step_of}
+use Rattle.sf_report.specs.Computed.{len, skip_before, item_ended, item_step, conversion_step, step_by, step_of}
 use Rattle.sf_pair.specs.conversions.Below.{LawsBelow}
 use Rattle.sf_pair.specs.conversions.Neighbours.{Bytes as ByteTest, stop_set}
 use Rattle.sf_pair.specs.Fits.{IsOfKind}
@@ -63,19 +63,24 @@ item_taken laws c x f rest s e t =
     let k : len c [] (drop s x) ≡ length f = ap (len c []) e ∙ len_is laws c [] f rest t.taken t.ends in
     (λ i. (s + k i, item_ended c (e i) (k i))) ∙ ap (λ (end : StepEnd). (s + length f, end)) (ended c f rest t.some t.matches_it)
 
-pub by_shape : (c : Conversion) (shape : Shape) (x : List ℕ) (n : ℕ) → has_item shape ≡ true → conversion_step c shape x n ≡ item_step c x
-by_shape c (shape.Int base) x n h = refl
-by_shape c shape.Text x n h = refl
+by_shape : (c : Conversion) (shape : Shape) (x : List ℕ) (n : ℕ) → has_item shape ≡ true → conversion_step c shape x n ≡ item_step c x
+by_shape c (shape.Int numeral) x n h = refl
+by_shape c (shape.Text lead) x n h = refl
 by_shape c (shape.Set members) x n h = refl
 by_shape c shape.Chars x n h = refl
-by_shape c shape.Float x n h = refl
+by_shape c (shape.Float lead) x n h = refl
 by_shape c shape.Count x n h = absurd cc
 
+-- the step of one that reads an item
+pub item_stepped : (c : Conversion) (x : List ℕ) (n : ℕ) → c.column ≡ false → has_item c.shape ≡ true → step_of (Conv c) x n ≡ item_step c x
+item_stepped c x n item h = ap (λ (t : Bool). step_by t c x n) item ∙ by_shape c c.shape x n h
+
 -- the step of a conversion that takes just the text in front
-pub conversion_taken : LawsBelow → (c : Conversion) (x f rest : List ℕ) (n : ℕ) → drop (skip_before c.shape x) x ≡ f ++ rest
-    → Takes c f rest
+pub conversion_taken : LawsBelow → (c : Conversion) (x f rest : List ℕ) (n : ℕ) → c.column ≡ false
+    → drop (skip_before c.shape x) x ≡ f ++ rest → Takes c f rest
     → step_of (Conv c) x n ≡ (skip_before c.shape x + length f, passed_end c c.slot f)
-conversion_taken laws c x f rest n e t = by_shape c c.shape x n t.item ∙ item_taken laws c x f rest (skip_before c.shape x) e t
+conversion_taken laws c x f rest n item e t =
+    item_stepped c x n item t.item ∙ item_taken laws c x f rest (skip_before c.shape x) e t
 
 -- ---- what ends an item
 
@@ -123,27 +128,28 @@ taken_within c f w e fits begins = and_so (is_within c.width (length f)) (shape_
 
 -- ---- integers
 
-integer_begins : (base : Base) (width : Option ℕ) (f : List ℕ) (p : Progress) → read base (Some Start) f ≡ Some p
-    → shape_begins (shape.Int base) width f ≡ true
-integer_begins base width f p e = ap is_some e
+integer_begins : (numeral : Numeral) (width : Option ℕ) (f : List ℕ) (p : Progress) → read numeral (Some Start) f ≡ Some p
+    → shape_begins (shape.Int numeral) width f ≡ true
+integer_begins numeral width f p e = ap is_some e
 
-integer_stops : LawsBelow → (base : Base) (width : Option ℕ) (f : List ℕ) (p : Progress) (b : ℕ) → read base (Some Start) f ≡ Some p
-    → advance base p b ≡ None → shape_begins (shape.Int base) width (f ++ b ∷ []) ≡ false
-integer_stops laws base width f p b e none = ap is_some (laws.parts base (Some Start) f (b ∷ [])
-    ∙ ap (λ (o : Option Progress). read base o (b ∷ [])) e ∙ ap (λ (o : Option Progress). read base o []) none)
+integer_stops : LawsBelow → (numeral : Numeral) (width : Option ℕ) (f : List ℕ) (p : Progress) (b : ℕ)
+    → read numeral (Some Start) f ≡ Some p
+    → advance numeral p b ≡ None → shape_begins (shape.Int numeral) width (f ++ b ∷ []) ≡ false
+integer_stops laws numeral width f p b e none = ap is_some (laws.parts numeral (Some Start) f (b ∷ [])
+    ∙ ap (λ (o : Option Progress). read numeral o (b ∷ [])) e ∙ ap (λ (o : Option Progress). read numeral o []) none)
 
-module _ (laws : LawsBelow) (c : PrintConv) (s : Conversion) (z : ℤ) (base : Base) (w slot : ℕ) (rest : List ℕ)
-    (is_int : s.shape ≡ shape.Int base) (width : s.width ≡ Some w) (at : s.slot ≡ Some slot)
-    (number : NumberRead base c z) (some : 0 < length (visible c z)) (fits : length (visible c z) ≤ w) where
-  pub integer_takes : (length (visible c z) ≡ w) ⊎ FirstOut (stop_set (shape.Int base) c) rest → Takes s (visible c z) rest
+module _ (laws : LawsBelow) (c : PrintConv) (s : Conversion) (z : ℤ) (numeral : Numeral) (w slot : ℕ) (rest : List ℕ)
+    (is_int : s.shape ≡ shape.Int numeral) (width : s.width ≡ Some w) (at : s.slot ≡ Some slot)
+    (number : NumberRead numeral c z) (some : 0 < length (visible c z)) (fits : length (visible c z) ≤ w) where
+  pub integer_takes : (length (visible c z) ≡ w) ⊎ FirstOut (stop_set (shape.Int numeral) c) rest → Takes s (visible c z) rest
   integer_takes closed = record {
     some = some;
     item = ap has_item is_int;
     taken = taken_within s (visible c z) w width fits (ap (λ (h : Shape). shape_begins h s.width (visible c z)) is_int
-        ∙ integer_begins base s.width (visible c z) number.progress number.is);
-    ends = either_ends s (visible c z) rest w (stop_set (shape.Int base) c) width
+        ∙ integer_begins numeral s.width (visible c z) number.progress number.is);
+    ends = either_ends s (visible c z) rest w (stop_set (shape.Int numeral) c) width
         (λ b out. ap (λ (h : Shape). shape_begins h s.width (visible c z ++ b ∷ [])) is_int
-        ∙ integer_stops laws base s.width (visible c z) number.progress b number.is (number.stops b out)) closed;
+        ∙ integer_stops laws numeral s.width (visible c z) number.progress b number.is (number.stops b out)) closed;
     matches_it = ap (λ (h : Shape). shape_matches h s.width (visible c z)) is_int ∙ ap is_some (ap integer_in number.is ∙ number.value);
   }
 

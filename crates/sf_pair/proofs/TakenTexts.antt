@@ -6,6 +6,7 @@ use Rattle.std.specs.List.{AllByRecursion, list_all}
 use Rattle.sf_base.specs.Bytes.{is_white}
 use Rattle.sf_base.specs.Sets.{has_byte}
 use Rattle.sf_base.specs.Data.{Bytes}
+use Rattle.sf_format.specs.declared.directive.Lead.{Lead}
 use Rattle.sf_format.specs.declared.directive.Shape.{Shape}
 use Rattle.sf_format.specs.declared.directive.Shape.TheVariants as shape
 use Rattle.sf_format.specs.declared.directive.Conversion.{Conversion}
@@ -51,19 +52,20 @@ tested_takes s p w f rest t width some all fits closed = record {
   matches_it = t.matches_so s.width f ∙ and_so (nat_lt 0 (length f)) (list_all p f) (some_test (length f) some) all;
 }
 
-at_text : (read : Shape) → read ≡ shape.Text → Tested read is_ink
-at_text read e = subst (λ (h : Shape). Tested h is_ink) (sym e)
+at_text : (read : Shape) (lead : Lead) → read ≡ (shape.Text lead) → Tested read is_ink
+at_text read lead e = subst (λ (h : Shape). Tested h is_ink) (sym e)
     (record { item = refl; begins = λ width f. refl; matches_so = λ width f. refl })
 
 at_set : (read : Shape) (members : List Bool) → read ≡ shape.Set members → Tested read (has_byte members)
 at_set read members e = subst (λ (h : Shape). Tested h (has_byte members)) (sym e)
     (record { item = refl; begins = λ width f. refl; matches_so = λ width f. refl })
 
-pub text_takes : (s : Conversion) (w : ℕ) (f rest : List ℕ) → s.shape ≡ shape.Text → s.width ≡ Some w → 0 < length f
+pub text_takes : (s : Conversion) (lead : Lead) (w : ℕ) (f rest : List ℕ) → s.shape ≡ (shape.Text lead) → s.width ≡ Some w → 0 < length f
     → AllByRecursion (λ b. is_white b ≡ false) f → length f ≤ w
     → (length f ≡ w) ⊎ FirstOut is_ink rest → Takes s f rest
-text_takes s w f rest e width some all fits closed =
-    tested_takes s is_ink w f rest (at_text s.shape e) width some ((all_is is_ink (λ b. is_white b ≡ false) ink_is f).1 all) fits closed
+text_takes s lead w f rest e width some all fits closed =
+    tested_takes s is_ink w f rest (at_text s.shape lead e) width some ((all_is is_ink (λ b. is_white b ≡ false) ink_is f).1 all) fits
+    closed
 
 pub set_takes : (s : Conversion) (members : List Bool) (w : ℕ) (f rest : List ℕ) → s.shape ≡ shape.Set members → s.width ≡ Some w
     → 0 < length f → AllByRecursion (λ b. has_byte members b ≡ true) f → length f ≤ w
@@ -86,9 +88,9 @@ chars_takes s w f rest e width some full = record {
 
 -- ---- what is stored
 
-pub text_stored : (s : Conversion) (slot : ℕ) (f : List ℕ) → s.slot ≡ Some slot → s.shape ≡ shape.Text
+pub text_stored : (s : Conversion) (lead : Lead) (slot : ℕ) (f : List ℕ) → s.slot ≡ Some slot → s.shape ≡ (shape.Text lead)
     → passed_end s s.slot f ≡ Stores slot (Bytes f)
-text_stored s slot f at e = ap (λ (o : Option ℕ). passed_end s o f) at ∙ ap (λ (h : Shape). stored_end s slot h f) e
+text_stored s lead slot f at e = ap (λ (o : Option ℕ). passed_end s o f) at ∙ ap (λ (h : Shape). stored_end s slot h f) e
 
 pub set_stored : (s : Conversion) (members : List Bool) (slot : ℕ) (f : List ℕ) → s.slot ≡ Some slot → s.shape ≡ shape.Set members
     → passed_end s s.slot f ≡ Stores slot (Bytes f)

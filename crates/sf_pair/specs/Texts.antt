@@ -19,6 +19,7 @@ why_text why.NotWritten = codes "Q9 NotWritten"
 why_text why.BadFlagHere = codes "Q10 BadFlagHere"
 why_text why.NoValues = codes "Q11 NoValues"
 why_text why.MayBeMissing = codes "Q13 MayBeMissing"
+why_text why.BadMark = codes "Q14 BadMark"
 
 -- and the number of the directive, in decimal digits
 abbrev pub fault_text : PairFault → List ℕ

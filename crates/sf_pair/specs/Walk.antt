@@ -49,7 +49,7 @@ take_paired s _ next = Err why.NotAligned
 abbrev pub take_conversion : Conversion → List PrintUnit → Option Directive → Left
 take_conversion s us next = if is_count s.shape then Err why.NotWritten
     else (if s.optional then Err why.MayBeMissing
-    else (if is_some s.slot then take_paired s us next else take_literal (suppressed_by s.shape s.width) us))
+    else (if is_some s.slot then take_paired s us next else take_literal (suppressed_by s) us))
 
 abbrev pub take_group : Directive → List PrintUnit → Option Directive → Left
 take_group directive.Space us next = take_space us next

@@ -6,6 +6,8 @@ mod reals;
 mod widths;
 
 pub use below::laws_below;
-pub use neighbours::{goes_on, is_auto_base, may_begin, pads_with_zeros};
+pub use neighbours::{
+    fills_with_zeros, goes_on, has_digit, is_auto_base, may_begin, pads_with_zeros,
+};
 pub use reals::zero_len;
 pub use widths::longest_len;

@@ -21,14 +21,14 @@ const SHORT: usize = 1024;
 /// No scan has a greater width.
 const WIDEST: usize = 65535;
 
-fn is_finite(bits: u64) -> bool
+pub(crate) fn is_finite(bits: u64) -> bool
     ensures { result ≡ float_is_finite (from_bits binary64 bits) }
 {
     f64_from_bits_with_nan(bits).is_finite()
 }
 
 /// Whether the bytes are a matching sequence of which this pattern is stored.
-fn is_read_as(item: &[u8], bits: u64) -> bool
+pub(crate) fn is_read_as(item: &[u8], bits: u64) -> bool
     ensures { result ≡ is_read_as item.now bits }
 {
     laws_below();

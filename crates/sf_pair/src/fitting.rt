@@ -7,9 +7,10 @@ ghost use Rattle.sf_base.specs.Sets.{has_byte};
 ghost use Rattle.sf_base.specs.Data.{datum_of};
 ghost use Rattle.sf_print.specs.Printed.{value_at};
 ghost use Rattle.sf_pair.specs.Groups.{width_of};
-ghost use Rattle.sf_pair.specs.Fits.{is_byte, is_item_of, text_fits, value_fits, fits_or_not, all_fit, conversions};
-ghost use Rattle.sf_pair.specs.Fits.{assigned_conversions, assigned_by, fits};
+ghost use Rattle.sf_pair.specs.Fits.{is_byte, is_item_of, text_fits, item_fits, value_fits, fits_or_not, all_fit};
+ghost use Rattle.sf_pair.specs.Fits.{conversions, assigned_conversions, assigned_by, fits};
 
+use crate::columns::column_fits;
 use crate::doubles::double_fits;
 use crate::pairing::width_of;
 use sf_base::{ByteSet, Value, is_space};
@@ -25,7 +26,7 @@ pub(crate) fn is_between(bytes: &[u8], width: u32) -> bool
 }
 
 /// Whether no white space is among the bytes.
-fn has_no_space(bytes: &[u8]) -> bool
+pub(crate) fn has_no_space(bytes: &[u8]) -> bool
     ensures { result ≡ list_all is_ink bytes.now }
 {
     for byte in bytes {
@@ -36,7 +37,7 @@ fn has_no_space(bytes: &[u8]) -> bool
     true
 }
 
-fn are_members(members: &ByteSet, bytes: &[u8]) -> bool
+pub(crate) fn are_members(members: &ByteSet, bytes: &[u8]) -> bool
     ensures { result ≡ list_all (has_byte members.now) bytes.now }
 {
     for byte in bytes {
@@ -54,10 +55,22 @@ pub(crate) fn text_fits(read: &Shape, width: u32, bytes: &[u8]) -> bool
     ensures bytes { list_all is_byte bytes.now ≡ true }
 {
     match read {
-        Shape::Text => is_between(bytes, width) && has_no_space(bytes),
+        Shape::Text(_) => is_between(bytes, width) && has_no_space(bytes),
         Shape::Set(members) => is_between(bytes, width) && are_members(members, bytes),
         Shape::Chars => bytes.len() == width as usize,
-        Shape::Int(_) | Shape::Float | Shape::Count => false,
+        Shape::Int(_) | Shape::Float(_) | Shape::Count => false,
+    }
+}
+
+/// Whether an item of the scan's conversion can be the text that the other prints of the value.
+fn item_fits(conv: &PrintConv, scan: &Conversion, value: Value<'_>) -> bool
+    ensures { result ≡ item_fits conv.now scan.now (datum_of value.entry) }
+{
+    match value {
+        Value::Text(bytes) => text_fits(&scan.shape, width_of(scan), bytes),
+        Value::F32(_) => false,
+        Value::F64(bits) => double_fits(conv, scan, bits),
+        number => number.kind() == conv.kind && core_len(conv, number) <= width_of(scan),
     }
 }
 
@@ -65,11 +78,10 @@ pub(crate) fn text_fits(read: &Shape, width: u32, bytes: &[u8]) -> bool
 fn value_fits(conv: &PrintConv, scan: &Conversion, value: Value<'_>) -> bool
     ensures { result ≡ value_fits conv.now scan.now (datum_of value.entry) }
 {
-    match value {
-        Value::Text(bytes) => text_fits(&scan.shape, width_of(scan), bytes),
-        Value::F32(_) => false,
-        Value::F64(bits) => double_fits(conv, scan, bits),
-        number => number.kind() == conv.kind && core_len(conv, number) <= width_of(scan),
+    if scan.column {
+        column_fits(conv, scan, value)
+    } else {
+        item_fits(conv, scan, value)
     }
 }
 

@@ -5,9 +5,10 @@ ghost use Rattle.std.specs.Option.{option_map};
 ghost use Rattle.sf_base.specs.Data.{datum_of_shown};
 ghost use Rattle.sf_print.specs.texts.Text.{value_text};
 ghost use Rattle.sf_print.specs.Printed.{printed, text_or_none, value_at};
-ghost use Rattle.sf_pair.specs.Fits.{value_fits, fits_or_not, all_fit, conversions, assigned_conversions};
+ghost use Rattle.sf_pair.specs.Fits.{item_fits, value_fits, fits_or_not, all_fit, conversions, assigned_conversions};
 
 use crate::as_shown::AsShown;
+use crate::columns::column_is_read;
 use crate::doubles::double_is_read;
 use crate::fitting::{assigned, text_fits};
 use crate::pairing::width_of;
@@ -30,6 +31,22 @@ fn next_assigned(directives: &[Directive]) -> Option<(&Conversion, &[Directive])
     None
 }
 
+/// Whether an item of the scan's conversion can be the text that the other printed of the value.
+#[inline(always)]
+fn item_is_read(conv: &PrintConv, scan: &Conversion, value: Shown<'_>, text: &[u8]) -> bool
+    requires { text.now ≡ value_text conv.now (datum_of_shown value) }
+    ensures { result ≡ item_fits conv.now scan.now (datum_of_shown value.entry) }
+{
+    match value {
+        Shown::Text(bytes) => text_fits(&scan.shape, width_of(scan), bytes),
+        Shown::Number(number) => {
+            number.kind == conv.kind && visible_len(text) <= width_of(scan) as usize
+        }
+        Shown::Real(Real::F32(_)) => false,
+        Shown::Real(Real::F64(bits)) => double_is_read(conv, scan, bits, text),
+    }
+}
+
 /// Whether the scan's conversion reads the text that the other printed of the value.
 #[inline(always)]
 pub(crate) fn text_is_read(
@@ -41,13 +58,10 @@ pub(crate) fn text_is_read(
     requires { text.now ≡ value_text conv.now (datum_of_shown value) }
     ensures { result ≡ value_fits conv.now scan.now (datum_of_shown value.entry) }
 {
-    match value {
-        Shown::Text(bytes) => text_fits(&scan.shape, width_of(scan), bytes),
-        Shown::Number(number) => {
-            number.kind == conv.kind && visible_len(text) <= width_of(scan) as usize
-        }
-        Shown::Real(Real::F32(_)) => false,
-        Shown::Real(Real::F64(bits)) => double_is_read(conv, scan, bits, text),
+    if scan.column {
+        column_is_read(conv, scan, value, text)
+    } else {
+        item_is_read(conv, scan, value, text)
     }
 }
 

@@ -2,6 +2,7 @@
 #![tactic(auto)]
 
 mod as_shown;
+mod columns;
 mod conversions;
 mod doubles;
 mod fault;

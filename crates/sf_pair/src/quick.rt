@@ -81,10 +81,13 @@ fn write_text_read(
     ensures fits { IfSome result (λ _. value_fits conv.now scan.now (Bytes bytes.now) ≡ true) }
     ensures before { take at buf.new ≡ take at buf.old }
 {
-    if bytes.len() > LANES || buf.len() - at < LANES || !is_between(bytes, width_of(scan)) {
+    if scan.column || bytes.len() > LANES || buf.len() - at < LANES {
         return None;
     }
-    let Shape::Text = scan.shape else {
+    if !is_between(bytes, width_of(scan)) {
+        return None;
+    }
+    let Shape::Text(_) = scan.shape else {
         return None;
     };
     let end = write_plain_bytes(conv, bytes, buf, at)?;

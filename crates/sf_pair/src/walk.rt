@@ -3,25 +3,40 @@ ghost use Rattle.std.specs.Prelude.{◌≡◌, ◌≤◌, length, Option, Some, 
 ghost use Rattle.std.specs.List.{list_any};
 ghost use Rattle.sf_base.specs.Bytes.{is_white};
 ghost use Rattle.sf_format.specs.declared.directive.Directive.{Directive};
-ghost use Rattle.sf_pair.specs.conversions.Neighbours.{meet, first_by, reads};
-ghost use Rattle.sf_pair.specs.Groups.{keeps_space, starts_with_space, space_fault, literals_of, assigns, next_of};
+ghost use Rattle.sf_pair.specs.conversions.Neighbours.{meet, first_by, no_conversion, reads};
+ghost use Rattle.sf_pair.specs.Groups.{shape_keeps_space, keeps_space, starts_with_space, space_fault, literals_of};
+ghost use Rattle.sf_pair.specs.Groups.{assigns, next_of};
 ghost use Rattle.sf_pair.specs.Walk.{after_space, take_literal, take_space, take_paired, take_group, pair_fault};
 ghost use Rattle.sf_pair.specs.Walk.{fault_from};
 
 use crate::conversions::may_begin;
 use crate::fault::{PairFault, PairWhy};
 use crate::pairing::{closing_fault, pairing_fault};
-use sf_base::is_space;
+use sf_base::{Kind, is_space};
 use sf_format::{Conversion, Directive, Shape, Unit};
 use sf_report::laws::bytes_are_tried;
 
-/// How the next directive reads: its shape, where it is an assigned conversion; `none`, which is Count, where it isn't.
-fn reads<'a>(after: &'a [Directive], none: &'a Shape) -> &'a Shape
-    requires { none.now ≡ Shape.Count }
+/// One that reads nothing.
+fn no_conversion() -> Conversion
+    ensures { result ≡ no_conversion }
+{
+    Conversion {
+        shape: Shape::Count,
+        kind: Kind::Text,
+        width: None,
+        slot: None,
+        optional: false,
+        column: false,
+    }
+}
+
+/// The next directive, where it is an assigned conversion; `none`, which reads nothing, where it isn't.
+fn reads<'a>(after: &'a [Directive], none: &'a Conversion) -> &'a Conversion
+    requires { none.now ≡ no_conversion }
     ensures { result.now ≡ reads (next_of after.entry.now) }
 {
     match after.split_first() {
-        Some((Directive::Conv(scan), _)) if scan.slot.is_some() => &scan.shape,
+        Some((Directive::Conv(scan), _)) if scan.slot.is_some() => scan,
         _ => none,
     }
 }
@@ -35,7 +50,8 @@ fn takes_literal(directive: &Directive, b: u8) -> bool
         Directive::Byte(byte) => b == *byte,
         Directive::Percent => b == b'%',
         Directive::Conv(scan) => {
-            scan.width == Some(1)
+            !scan.column
+                && scan.width == Some(1)
                 && match &scan.shape {
                     Shape::Chars => true,
                     Shape::Set(members) => members.contains(b),
@@ -77,14 +93,20 @@ fn after_space(units: &[Unit]) -> &[Unit]
     &units[units.len()..]
 }
 
-fn keeps_space(read: &Shape) -> bool
+fn shape_keeps_space(read: &Shape) -> bool
+    ensures { result ≡ shape_keeps_space read.now }
+{
+    read.is_strict() || matches!(read, Shape::Set(_) | Shape::Chars)
+}
+
+fn keeps_space(read: &Conversion) -> bool
     ensures { result ≡ keeps_space read.now }
 {
-    matches!(read, Shape::Set(_) | Shape::Chars)
+    read.column || shape_keeps_space(&read.shape)
 }
 
 /// Whether white space may stand first in the unit's text.
-fn may_begin_with_space(unit: &Unit, read: &Shape) -> bool
+fn may_begin_with_space(unit: &Unit, read: &Conversion) -> bool
     ensures { result ≡ meet (first_by unit.now read.now) is_white }
 {
     for k in 0..256u16 {
@@ -97,7 +119,7 @@ fn may_begin_with_space(unit: &Unit, read: &Shape) -> bool
     false
 }
 
-fn space_fault(rest: &[Unit], next: &Shape) -> Option<PairWhy>
+fn space_fault(rest: &[Unit], next: &Conversion) -> Option<PairWhy>
     ensures { result ≡ space_fault rest.now next.now }
 {
     match rest.split_first() {
@@ -112,7 +134,7 @@ fn space_fault(rest: &[Unit], next: &Shape) -> Option<PairWhy>
     }
 }
 
-fn take_space<'a>(units: &'a [Unit], next: &Shape) -> Result<&'a [Unit], PairWhy>
+fn take_space<'a>(units: &'a [Unit], next: &Conversion) -> Result<&'a [Unit], PairWhy>
     ensures { (d : Option Directive) → reads d ≡ next.now
         → MatchResult result (λ rest. take_space units.entry.now d ≡ Ok rest.now)
         (λ why. take_space units.entry.now d ≡ Err why) }
@@ -130,7 +152,7 @@ fn take_space<'a>(units: &'a [Unit], next: &Shape) -> Result<&'a [Unit], PairWhy
 fn take_paired<'a>(
     scan: &Conversion,
     units: &'a [Unit],
-    next: &Shape,
+    next: &Conversion,
 ) -> Result<&'a [Unit], PairWhy>
     ensures { (d : Option Directive) → reads d ≡ next.now
         → MatchResult result (λ rest. take_paired scan.now units.entry.now d ≡ Ok rest.now)
@@ -157,7 +179,7 @@ fn take_group<'a>(
     ensures { MatchResult result (λ rest. take_group directive.now units.entry.now (next_of after.now) ≡ Ok rest.now)
         (λ why. take_group directive.now units.entry.now (next_of after.now) ≡ Err why) }
 {
-    let none = Shape::Count;
+    let none = no_conversion();
     let next = reads(after, &none);
     match directive {
         Directive::Space => take_space(units, next),

@@ -8,7 +8,7 @@ use std::alloc::Global;
 use std::test::Fail;
 
 /// What a pair check finds, and its code and name.
-static WHYS: [(PairWhy, &str); 12] = [
+static WHYS: [(PairWhy, &str); 13] = [
     (PairWhy::NotAligned, "Q1 NotAligned"),
     (PairWhy::KindDiffers, "Q2 KindDiffers"),
     (PairWhy::NumberDiffers, "Q3 NumberDiffers"),
@@ -21,6 +21,7 @@ static WHYS: [(PairWhy, &str); 12] = [
     (PairWhy::BadFlagHere, "Q10 BadFlagHere"),
     (PairWhy::NoValues, "Q11 NoValues"),
     (PairWhy::MayBeMissing, "Q13 MayBeMissing"),
+    (PairWhy::BadMark, "Q14 BadMark"),
 ];
 
 #[test]

@@ -4,6 +4,8 @@
 #[cfg(test)]
 mod bounds;
 #[cfg(test)]
+mod columns;
+#[cfg(test)]
 mod doubles;
 #[cfg(test)]
 mod errors;
@@ -11,6 +13,8 @@ mod errors;
 mod lengths;
 #[cfg(test)]
 mod shared;
+#[cfg(test)]
+mod strict;
 #[cfg(test)]
 mod trips;
 #[cfg(test)]

@@ -2,46 +2,59 @@
 //! stand in tests/program/cases.
 use sf_base::Kind;
 use sf_format::{
-    Base, Conversion, Directive, PrintConv, PrintFormat, PrintLetter, Profile, ScanFormat, Shape,
-    Span, Spans, Unit, directive_text,
+    Base, Conversion, Directive, Lead, PrintConv, PrintFormat, PrintLetter, Profile, ScanFormat,
+    Shape, Span, Spans, Unit, directive_text,
 };
 use sf_rows::is;
 use std::alloc::Global;
 use std::test::Fail;
 
-/// Whether the directives are those of `%d, \t%%%d`.
-fn are_five(directives: &[Directive]) -> bool {
-    matches!(
-        directives,
-        [
-            Directive::Conv(Conversion {
-                shape: Shape::Int(Base::Dec),
+/// Whether it is `%d`, for the slot, with this before its digits.
+fn is_decimal(directive: &Directive, number: u8, lead: Lead) -> bool {
+    match directive {
+        Directive::Conv(
+            Conversion {
+                shape: Shape::Int(numeral),
                 kind: Kind::I32,
                 width: None,
-                slot: Some(1),
+                slot: Some(slot),
                 optional: false,
-            }),
+                column: false,
+            },
+        ) => numeral.base == Base::Dec && numeral.lead == lead && *slot == number,
+        _ => false,
+    }
+}
+
+/// Whether the directives are those of `%d, \t%%%d`, with this before their digits.
+fn are_five(directives: &[Directive], lead: Lead) -> bool {
+    match directives {
+        [
+            first,
             Directive::Byte(b','),
             Directive::Space,
             Directive::Percent,
-            Directive::Conv(Conversion {
-                shape: Shape::Int(Base::Dec),
-                kind: Kind::I32,
-                width: None,
-                slot: Some(2),
-                optional: false,
-            }),
-        ]
-    )
+            last,
+        ] => is_decimal(first, 1, lead) && is_decimal(last, 2, lead),
+        _ => false,
+    }
 }
 
 #[test]
 fn a_scan_format_has_its_directives(rt: HostRuntime) -> Result<(), Fail> {
     for profile in [Profile::One, Profile::Two] {
         let format = ScanFormat::parse(rt.alloc(), profile, b"%d, \t%%%d")?;
-        is(&are_five(format.directives()), &true, &profile)?;
+        is(&are_five(format.directives(), Lead::Any), &true, &profile)?;
+        let strict = format.strict();
+        is(&are_five(strict.directives(), Lead::Minus), &true, &profile)?;
     }
     Ok(())
+}
+
+#[test]
+fn a_mark_makes_a_conversion_strict(rt: HostRuntime) -> Result<(), Fail> {
+    let format = ScanFormat::parse(rt.alloc(), Profile::Three, b"%!d, \t%%%!d")?;
+    is(&are_five(format.directives(), Lead::Minus), &true, &"%!d")
 }
 
 /// A scan format, how many directives and destinations it has, the kinds of its slots from 0 to 3, and its width sum.

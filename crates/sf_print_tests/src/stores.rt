@@ -30,6 +30,8 @@ enum Given {
     Text(&'static [Bytes], u32),
     /// A text that is taken away again.
     Dropped(&'static [Bytes]),
+    /// A text of which so many bytes stay, and the others are cut off.
+    Cut(&'static [Bytes], usize),
     /// A text; while it is open, another slot is given a number.
     Beside(&'static [Bytes], u8, Value<'static>),
 }
@@ -88,6 +90,19 @@ fn is_free<S: Store>(store: &S, slots: u8, slot: u8) -> bool
     1 <= slot && slot <= slots && store.value(slot).is_none()
 }
 
+/// How many bytes of the open text stay, where the others are cut off. Those are free again.
+fn cut<S: Store>(store: &mut S, count: usize) -> Result<usize, Fail>
+    requires { IsSome (S.kept store.old).opened }
+    ensures { IsSome (S.kept store.new).opened }
+{
+    let room = store.room();
+    let len = store.opened().len();
+    let kept = count.min(len);
+    store.cut_text(kept);
+    is(&store.room(), &room.saturating_add(len - kept), &count)?;
+    Ok(kept)
+}
+
 /// How many bytes the store takes for the slot.
 fn give<S: Store>(store: &mut S, slots: u8, slot: u8, given: &Given) -> Result<usize, Fail>
     requires slots { slots ≤ S.slots }
@@ -123,6 +138,12 @@ fn give<S: Store>(store: &mut S, slots: u8, slot: u8, given: &Given) -> Result<u
             store.open_text(slot);
             taken = push_times(store, text, 1)?;
             store.drop_text();
+        }
+        Given::Cut(text, count) => {
+            store.open_text(slot);
+            let _pushed = push_times(store, text, 1)?;
+            taken = cut(store, *count)?;
+            store.close_text();
         }
         Given::Beside(text, other, value) => {
             if *other == slot || !is_free(store, slots, *other) {
@@ -227,6 +248,26 @@ const BY_EACH_CALL: Row = Row {
     ],
 };
 
+/// Texts whose ends are cut off: some bytes, all and none.
+const CUT: Row = Row {
+    script: &[
+        (1, Given::Cut(&[Bytes::All(b"ab \n")], 2)),
+        (3, Given::Cut(&[Bytes::One(b' ')], 0)),
+        (2, Given::Cut(&[Bytes::Each(b"cd")], 2)),
+        (4, Given::Text(&[Bytes::All(b"e")], 1)),
+    ],
+    taken: 5,
+    left: 4,
+    slots: &[
+        None,
+        Some(Value::Text(b"ab")),
+        Some(Value::Text(b"cd")),
+        Some(Value::Text(b"")),
+        Some(Value::Text(b"e")),
+        None,
+    ],
+};
+
 /// Slots in no order: numbers and texts by turns, one text taken away again.
 const SCATTERED: Row = Row {
     script: &[
@@ -301,8 +342,9 @@ const NINE_BYTES: Row = Row {
 };
 
 /// What a store of nine bytes makes of each.
-static OF_NINE_BYTES: [Row; 6] = [
+static OF_NINE_BYTES: [Row; 7] = [
     BY_EACH_CALL,
+    CUT,
     SCATTERED,
     FLOATS,
     AT_ONCE,
@@ -311,8 +353,9 @@ static OF_NINE_BYTES: [Row; 6] = [
 ];
 
 /// What a store that grows makes of them.
-static GROWING: [Row; 5] = [
+static GROWING: [Row; 6] = [
     BY_EACH_CALL,
+    CUT,
     SCATTERED,
     FLOATS,
     Row {
@@ -431,11 +474,11 @@ fn long_texts_grow(rt: HostRuntime) -> Result<(), Fail> {
     has_long_texts(&store)
 }
 
-/// A store that has the nine calls of a store, and no more.
+/// A store that has the ten calls of a store, and no more.
 #[derive(Drop)]
-struct NineCalls(FixedStore<9, 5>);
+struct TenCalls(FixedStore<9, 5>);
 
-impl Store for NineCalls {
+impl Store for TenCalls {
     ghost slots = { 5 };
 
     ghost kept = { λ s. s.0 };
@@ -464,6 +507,10 @@ impl Store for NineCalls {
         self.0.drop_text();
     }
 
+    fn cut_text(&mut self, count: usize) {
+        self.0.cut_text(count);
+    }
+
     fn opened(&self) -> &[u8] {
         self.0.opened()
     }
@@ -478,9 +525,9 @@ impl Store for NineCalls {
 }
 
 #[test]
-fn nine_calls_make_a_store() -> Result<(), Fail> {
+fn ten_calls_make_a_store() -> Result<(), Fail> {
     for row in &OF_NINE_BYTES {
-        fills(&mut NineCalls(FixedStore::new()), 9, 5, row)?;
+        fills(&mut TenCalls(FixedStore::new()), 9, 5, row)?;
     }
     Ok(())
 }

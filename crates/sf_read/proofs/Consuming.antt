@@ -1,13 +1,16 @@
 -- A run consumes no more bytes than there are.
-use Rattle.std.proofs.Common.{ℕ, ◌+◌, ◌<◌, ◌≤◌, List, [], ◌∷◌, ◌++◌, length, drop, inl, inr, arith, length-drop}
+use Rattle.std.proofs.Common.{ℕ, ◌+◌, ◌<◌, ◌≤◌, Bool, true, false, List, [], ◌∷◌, ◌++◌, length, drop, inl, inr, arith, length-drop}
 use Rattle.std.proofs.lemmas.List.Sums.{sum_by-cons, sum_by-append}
+use Rattle.sf_format.specs.declared.directive.Lead.{Lead}
+use Rattle.sf_format.specs.declared.directive.Lead.TheVariants.{Any, Minus, Nothing}
 use Rattle.sf_format.specs.declared.directive.Shape.{Shape}
 use Rattle.sf_format.specs.declared.directive.Shape.TheVariants.{Int, Text, Set, Chars, Float, Count}
 use Rattle.sf_format.specs.declared.directive.Conversion.{Conversion}
 use Rattle.sf_format.specs.declared.directive.Directive.{Directive}
 use Rattle.sf_format.specs.declared.directive.Directive.TheVariants.{Space, Byte, Percent, Conv}
 use Rattle.sf_run.specs.outcome.Ending.{Ending}
-use Rattle.sf_run.specs.Steps.{StepEnd, Passes, Stores, Misses, Fails, Step, ByteStep, ItemStep, ConversionStep, IsSkipBefore}
+use Rattle.sf_run.specs.Steps.{StepEnd, Passes, Stores, Misses, Fails, Step, ByteStep, ItemStep, ConversionStep, StepBy, IsSkipBefore}
+use Rattle.sf_run.specs.Steps.{IsSkipUnder}
 use Rattle.sf_run.specs.Runs.{Ran, RunReport, GoesOn, Steps, used}
 use Rattle.sf_run.specs.Limits.{IsCut, RunWithin}
 
@@ -16,12 +19,17 @@ byte_within b [] k end (zero_bytes, e) = omega arith
 byte_within b (y ∷ x) k end (inl h) = omega (arith, h.1)
 byte_within b (y ∷ x) k end (inr h) = omega (arith, h.1)
 
+skip_under_within : (lead : Lead) (x : List ℕ) (s : ℕ) → IsSkipUnder lead x s → s ≤ length x
+skip_under_within Any x s h = h.holds.0
+skip_under_within Minus x s h = omega (arith, h)
+skip_under_within Nothing x s h = omega (arith, h)
+
 skip_within : (shape : Shape) (x : List ℕ) (s : ℕ) → IsSkipBefore shape x s → s ≤ length x
-skip_within (Int base) x s h = h.holds.0
-skip_within Text x s h = h.holds.0
+skip_within (Int numeral) x s h = skip_under_within numeral.lead x s h
+skip_within (Text lead) x s h = skip_under_within lead x s h
 skip_within (Set members) x s h = omega (arith, h)
 skip_within Chars x s h = omega (arith, h)
-skip_within Float x s h = h.holds.0
+skip_within (Float lead) x s h = skip_under_within lead x s h
 skip_within Count x s h = omega (arith, h)
 
 item_within : (c : Conversion) (x : List ℕ) (k : ℕ) (end : StepEnd) → ItemStep c x k end → k ≤ length x
@@ -30,19 +38,24 @@ item_within c x k end (s, j, skip, item, bytes, ends) =
 
 conversion_within : (c : Conversion) (shape : Shape) (x : List ℕ) (n k : ℕ) (end : StepEnd) → ConversionStep c shape x n k end
     → k ≤ length x
-conversion_within c (Int base) x n k end h = item_within c x k end h
-conversion_within c Text x n k end h = item_within c x k end h
+conversion_within c (Int numeral) x n k end h = item_within c x k end h
+conversion_within c (Text lead) x n k end h = item_within c x k end h
 conversion_within c (Set members) x n k end h = item_within c x k end h
 conversion_within c Chars x n k end h = item_within c x k end h
-conversion_within c Float x n k end h = item_within c x k end h
+conversion_within c (Float lead) x n k end h = item_within c x k end h
 conversion_within c Count x n k end h = omega (arith, h.0)
+
+-- by whether it takes a column
+step_by_within : (column : Bool) (c : Conversion) (x : List ℕ) (n k : ℕ) (end : StepEnd) → StepBy column c x n k end → k ≤ length x
+step_by_within true c x n k end h = h.0.holds.0
+step_by_within false c x n k end h = conversion_within c c.shape x n k end h
 
 step_within : (d : Directive) (x : List ℕ) (n k : ℕ) (end : StepEnd) → Step d x n k end → k ≤ length x
 step_within Space x n k end h = h.0.holds.0
 step_within (Byte b) x n k end h = byte_within b x k end h
 step_within Percent x n k end (s, j, skip, byte, bytes) =
     omega (arith, bytes, skip.holds.0, byte_within 37 (drop s x) j end byte, length-drop s x)
-step_within (Conv c) x n k end h = conversion_within c c.shape x n k end h
+step_within (Conv c) x n k end h = step_by_within c.column c x n k end h
 
 rest_within : (d : Directive) (ds : List Directive) (x : List ℕ) (n : ℕ) (r : Ran) (ran : List Ran) (end : StepEnd)
     → ((y : List ℕ) (k : ℕ) (rs : List Ran) → Steps ds y k rs → used rs ≤ length y)

@@ -7,6 +7,7 @@ use Rattle.std.proofs.lemmas.List.{append-nil, append_assoc, take-append-drop}
 use Rattle.std.proofs.lemmas.Option.{slice_get_within}
 use Rattle.std.proofs.lemmas.Grind.{common_steps}
 use Rattle.std.specs.List.{list_all}
+use Rattle.sf_base.specs.Blanks.{are_white}
 use Rattle.sf_base.specs.Sets.{has_byte}
 use Rattle.sf_format.specs.declared.directive.Shape.{Shape}
 use Rattle.sf_format.specs.declared.directive.Shape.TheVariants.{Int, Text, Set, Chars, Float, Count}
@@ -14,6 +15,7 @@ use Rattle.sf_format.specs.declared.directive.Conversion.{Conversion}
 use Rattle.sf_format.specs.declared.directive.Directive.{Directive}
 use Rattle.sf_format.specs.declared.directive.Directive.TheVariants.{Conv}
 use Rattle.sf_format.specs.Proper.{IsProper, IsProperShape, AreProper}
+use Rattle.sf_item.specs.ColumnTests.{column_text}
 use Rattle.sf_item.specs.Tests.{can_take, is_ink, is_within, shape_begins}
 use Rattle.sf_item.proofs.Fronts.{zero_begins}
 use Rattle.sf_report.specs.declared.outcome.Ending.{Ending}
@@ -25,12 +27,12 @@ use Rattle.sf_report.specs.Runs.{RunReport, IsOpen, Run}
 use Rattle.sf_report.specs.Limits.{RunWithin}
 use Rattle.sf_report.specs.Laws.{EachDoneRunStays, EachOpenInputIsUsed}
 use Rattle.sf_base.specs.Bytes.{is_white}
-use Rattle.sf_report.specs.Machine.{Stage, Skipping, Taken, Item, shape_skips, item_stepped, stepped, is_full, finished}
-use Rattle.sf_report.specs.Machine.{conversion_finished}
+use Rattle.sf_report.specs.Machine.{Stage, Skipping, Taken, Item, shape_skips, item_stepped, conversion_stepped, stepped, is_full}
+use Rattle.sf_report.specs.Machine.{empty_end, text_end, conversion_finished, column_finished, finished_by, finished}
 use Rattle.sf_report.specs.Residual.{stepped_all, Tally, nothing_yet, Part, choose, one_from, with_used, counted, out_of, by_end, then_on}
 use Rattle.sf_report.specs.Residual.{run_of}
 use Rattle.sf_report.proofs.Joined.{one_from-all}
-use Rattle.sf_report.proofs.Machines.{by_option, can_take_one, keeps_all, not_full, some_is}
+use Rattle.sf_report.proofs.Machines.{by_option, can_take_one, keeps_all, not_full, some_is, steps_by}
 use Rattle.sf_report.proofs.Openness.{counted-used, holds_by}
 use Rattle.sf_report.proofs.Inputs.{open_of, open_all}
 use Rattle.sf_report.proofs.Told.{run_told, met_within}
@@ -45,11 +47,11 @@ all_more p f b h one = grind (arith, common_steps)
 -- a byte goes on with every item of the shape
 shape_goes_on : (shape : Shape) (width : Option ℕ) → IsProperShape shape → GoesOn shape → (f : List ℕ) → shape_begins shape width f ≡ true
     → (b : ℕ) × (b < 256) × (shape_begins shape width (f ++ b ∷ []) ≡ true)
-shape_goes_on (Int base) width proper goes f h = (48, lit< tt, zero_begins base f h)
-shape_goes_on Text width proper goes f h = (65, lit< tt, all_more is_ink f 65 h refl)
+shape_goes_on (Int numeral) width proper goes f h = (48, lit< tt, zero_begins numeral f h)
+shape_goes_on (Text lead) width proper goes f h = (65, lit< tt, all_more is_ink f 65 h refl)
 shape_goes_on (Set members) width proper goes f h = (proper.0, proper.1, all_more (has_byte members) f proper.0 h proper.2)
 shape_goes_on Chars width proper goes f h = absurd goes
-shape_goes_on Float width proper goes f h = absurd goes
+shape_goes_on (Float lead) width proper goes f h = absurd goes
 shape_goes_on Count width proper goes f h = absurd goes
 
 no_width_within : (width : Option ℕ) (n : ℕ) → width ≡ None → is_within width n ≡ true
@@ -85,7 +87,7 @@ stage_taken c f b r e = by (can_take c (f ++ b ∷ [])) refl
         let is : None ≡ Some r = ap (λ v. cond v (Some (Item (f ++ b ∷ []))) None) (sym can) ∙ e in
         absurd cc
 
-next_stage : (c : Conversion) (q : Stage) (b : ℕ) (r : Stage) → IsStage c q → stepped (Conv c) q b ≡ Some r → IsStage c r
+next_stage : (c : Conversion) (q : Stage) (b : ℕ) (r : Stage) → IsStage c q → conversion_stepped c q b ≡ Some r → IsStage c r
 next_stage c Skipping b r is e = by (shape_skips c.shape && is_white b) refl
   where
     by : (v : Bool) → (shape_skips c.shape && is_white b) ≡ v → IsStage c r
@@ -96,23 +98,26 @@ next_stage c Skipping b r is e = by (shape_skips c.shape && is_white b) refl
 next_stage c Taken b r is e = absurd is
 next_stage c (Item f) b r is e = stage_taken c f b r e
 
-last_stage : (c : Conversion) (q : Stage) (x : List ℕ) (r : Stage) → IsStage c q → stepped_all (Conv c) q x ≡ Some r → IsStage c r
-last_stage c q [] r is e = subst (IsStage c) (some_is _ _ e) is
-last_stage c q (b ∷ x) r is e = by (stepped (Conv c) q b) refl (λ p. last_stage c p x r)
+last_stage : (c : Conversion) → c.column ≡ false → (q : Stage) (x : List ℕ) (r : Stage) → IsStage c q → stepped_all (Conv c) q x ≡ Some r
+    → IsStage c r
+last_stage c no_column q [] r is e = subst (IsStage c) (some_is _ _ e) is
+last_stage c no_column q (b ∷ x) r is e = by (stepped (Conv c) q b) refl (λ p. last_stage c no_column p x r)
   where
     by : (o : Option Stage) → stepped (Conv c) q b ≡ o → ((p : Stage) → IsStage c p → stepped_all (Conv c) p x ≡ Some r → IsStage c r)
         → IsStage c r
     by None stops ih =
         let never : None ≡ Some r = ap (λ o. choose o None (λ p. stepped_all (Conv c) p x)) (sym stops) ∙ e in
         absurd cc
-    by (Some p) goes ih = ih p (next_stage c q b p is goes) (ap (λ o. choose o None (λ p. stepped_all (Conv c) p x)) (sym goes) ∙ e)
+    by (Some p) goes ih = ih p (next_stage c q b p is (sym (steps_by c false no_column q b) ∙ goes))
+        (ap (λ o. choose o None (λ p. stepped_all (Conv c) p x)) (sym goes) ∙ e)
 
 -- such an item isn't full
-item_open : (c : Conversion) → IsProperShape c.shape → GoesOn c.shape → c.width ≡ None → (f : List ℕ) → can_take c f ≡ true
-    → is_full (Conv c) (Item f) ≡ false
-item_open c proper goes none f can =
+item_open : (c : Conversion) → c.column ≡ false → IsProperShape c.shape → GoesOn c.shape → c.width ≡ None → (f : List ℕ)
+    → can_take c f ≡ true → is_full (Conv c) (Item f) ≡ false
+item_open c no_column proper goes none f can =
     let (b, below, more) = item_goes_on c proper goes none f can in
-    not_full (Conv c) (Item f) b (Item (f ++ b ∷ [])) below (ap (λ v. cond v (Some (Item (f ++ b ∷ []))) None) more)
+    not_full (Conv c) (Item f) b (Item (f ++ b ∷ [])) below
+    (steps_by c false no_column (Item f) b ∙ ap (λ v. cond v (Some (Item (f ++ b ∷ []))) None) more)
 
 -- ---- a directive that ends before a byte
 
@@ -145,16 +150,37 @@ stops_alike d q n (b ∷ x) z e = go (stepped d q b) e (λ r h. stops_alike d r 
 
 -- ---- no directive fails as Done
 
-never_done : (d : Directive) (q : Stage) (n : ℕ) (more : Bool) → finished d q n more ≡ Fails Done → ⊥
-never_done d q n more = grind arith
+abbrev NotDone : StepEnd → Type 0
+NotDone end = end ≡ Fails Done → ⊥
 
-one_never_done : (d : Directive) (q : Stage) (n : ℕ) (x : List ℕ) → (one_from d q n x).end ≡ Fails Done → ⊥
+item_not_done : (c : Conversion) (q : Stage) (n : ℕ) (more : Bool) → NotDone (conversion_finished c c.shape q n more)
+item_not_done c q n more = grind arith
+
+text_not_done : (c : Conversion) (t : List ℕ) → NotDone (text_end c t)
+text_not_done c t = grind arith
+
+empty_not_done : (c : Conversion) (more : Bool) → NotDone (empty_end c more)
+empty_not_done c more = grind arith
+
+column_not_done : (c : Conversion) (q : Stage) (more : Bool) → NotDone (column_finished c q more)
+column_not_done c Skipping more = empty_not_done c more
+column_not_done c Taken more = grind arith
+column_not_done c (Item f) more = by_white (are_white f)
+  where
+    by_white : (v : Bool) → NotDone (cond v (empty_end c true) (text_end c (column_text c f)))
+    by_white true = empty_not_done c true
+    by_white false = text_not_done c (column_text c f)
+
+never_done : (d : Directive) (q : Stage) (n : ℕ) (more : Bool) → NotDone (finished d q n more)
+never_done d q n more = grind (arith, item_not_done, column_not_done)
+
+one_never_done : (d : Directive) (q : Stage) (n : ℕ) (x : List ℕ) → NotDone (one_from d q n x).end
 one_never_done d q n [] = never_done d q n false
-one_never_done d q n (b ∷ x) = by_option (λ p. p.end ≡ Fails Done → ⊥) (stepped d q b) _ _ (never_done d q n true)
+one_never_done d q n (b ∷ x) = by_option (λ p. NotDone p.end) (stepped d q b) _ _ (never_done d q n true)
     (λ r. one_never_done d r (n + 1) x)
 
 -- where the run is Done, its directive has passed
-first_passed : (d : Directive) (ds : List Directive) (at : ℕ) (t : Tally) (p : Part) → (p.end ≡ Fails Done → ⊥)
+first_passed : (d : Directive) (ds : List Directive) (at : ℕ) (t : Tally) (p : Part) → NotDone p.end
     → (then_on None d at t p (run_of None ds (at + 1))).status ≡ Done
     → (status : Status) → p.end ≡ Fails status → ⊥
 first_passed d ds at t p ok done status e =
@@ -179,18 +205,22 @@ goes_to_rest d ds at t p passed = by p.end refl
 
 -- ---- a run that ends with such a conversion
 
--- the item goes on, and has to be there
+-- the item goes on, and has to be there; it isn't a column
 abbrev IsNeeded : Conversion → Type 0
-IsNeeded c = GoesOn c.shape × (c.optional ≡ false)
+IsNeeded c = GoesOn c.shape × (c.optional ≡ false) × (c.column ≡ false)
 
 shape_lacks : (c : Conversion) (shape : Shape) (n : ℕ) → GoesOn shape → c.optional ≡ false
     → conversion_finished c shape Skipping n false ≡ Fails InputFailure
-shape_lacks c (Int base) n goes needed = rw needed refl
-shape_lacks c Text n goes needed = rw needed refl
+shape_lacks c (Int numeral) n goes needed = rw needed refl
+shape_lacks c (Text lead) n goes needed = rw needed refl
 shape_lacks c (Set members) n goes needed = rw needed refl
 shape_lacks c Chars n goes needed = absurd goes
-shape_lacks c Float n goes needed = absurd goes
+shape_lacks c (Float lead) n goes needed = absurd goes
 shape_lacks c Count n goes needed = absurd goes
+
+conversion_lacks : (c : Conversion) (n : ℕ) → IsNeeded c → finished (Conv c) Skipping n false ≡ Fails InputFailure
+conversion_lacks c n (goes, needed, no_column) =
+    ap (λ v. finished_by v c Skipping n false) no_column ∙ shape_lacks c c.shape n goes needed
 
 -- the part of a directive that takes all
 whole_part : (d : Directive) (q r : Stage) (n : ℕ) (x : List ℕ) → stepped_all d q x ≡ Some r
@@ -211,8 +241,7 @@ fails_alone c at t p e done =
 -- with nothing left for it, the run isn't Done
 lacks_an_item : (c : Conversion) → IsNeeded c → (ds : List Directive) (at : ℕ) (t : Tally)
     → (run_of None (ds ++ Conv c ∷ []) at t []).status ≡ Done → ⊥
-lacks_an_item c goes [] at t done = fails_alone c at t (one_from (Conv c) Skipping t.used []) (shape_lacks c c.shape t.used goes.0
-    goes.1) done
+lacks_an_item c goes [] at t done = fails_alone c at t (one_from (Conv c) Skipping t.used []) (conversion_lacks c t.used goes) done
 lacks_an_item c goes (d ∷ ds) at t done =
     let p : Part = one_from d Skipping t.used [] in
     let passed = first_passed d (ds ++ Conv c ∷ []) at t p (one_never_done d Skipping t.used []) done in
@@ -238,10 +267,10 @@ last_takes c proper goes none at t x done all = by (stepped_all (Conv c) Skippin
     staged Skipping is e =
         let part = whole_part (Conv c) Skipping Skipping t.used x e in
         absurd (fails_alone c at t (one_from (Conv c) Skipping t.used x)
-        (ap (λ (p : Part). p.end) part ∙ shape_lacks c c.shape (t.used + length x) goes.0 goes.1) done)
+        (ap (λ (p : Part). p.end) part ∙ conversion_lacks c (t.used + length x) goes) done)
     staged Taken is e = absurd is
     staged (Item f) is e =
-        let byte = can_take_one (Conv c) (Item f) (item_open c proper goes.0 none f is) in
+        let byte = can_take_one (Conv c) (Item f) (item_open c goes.2 proper goes.0 none f is) in
         let b : ℕ = byte.0 in
         let next : one_from (Conv c) Skipping t.used
         (x ++ b ∷ []) ≡ record
@@ -252,7 +281,7 @@ last_takes c proper goes none at t x done all = by (stepped_all (Conv c) Skippin
     by : (o : Option Stage) → stepped_all (Conv c) Skipping x ≡ o → TakesNext (Conv c ∷ []) at t x
     by None e = absurd (omega
         (arith, stops_before (Conv c) Skipping t.used x e, alone_uses c at t (one_from (Conv c) Skipping t.used x), all))
-    by (Some r) e = staged r (last_stage c Skipping x r tt e) e
+    by (Some r) e = staged r (last_stage c goes.2 Skipping x r tt e) e
 
 takes_next : (c : Conversion) → IsProperShape c.shape → IsNeeded c → c.width ≡ None
     → (ds : List Directive) (at : ℕ) (t : Tally) (x : List ℕ)
@@ -319,8 +348,8 @@ is_open_after ds proper ends x done all =
     let front : List Directive = take (length ds - 1) ds in
     let is : ds ≡ front ++ Conv c ∷ [] = last_is ds (Conv c) ends.last in
     let own : IsProper (Conv c) = proper_last front (Conv c) (subst AreProper is proper) in
-    let takes : TakesNext (front ++ Conv c ∷ []) 1 nothing_yet x = takes_next c own.0 (ends.goes_on, ends.needed) ends.no_width front 1
-    nothing_yet x
+    let takes : TakesNext (front ++ Conv c ∷ []) 1 nothing_yet x = takes_next c own.0 (ends.goes_on, ends.needed, ends.no_column)
+    ends.no_width front 1 nothing_yet x
     (subst (λ es. (run_of None es 1 nothing_yet x).status ≡ Done) is done)
     (subst (λ es. (run_of None es 1 nothing_yet x).used ≡ length x) is all ∙ omega arith) in
     let here : TakesNext ds 1 nothing_yet x = subst (λ es. TakesNext es 1 nothing_yet x) (sym is) takes in

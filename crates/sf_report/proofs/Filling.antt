@@ -17,6 +17,7 @@ use Rattle.sf_format.specs.declared.directive.Directive.{Directive}
 use Rattle.sf_format.specs.declared.directive.Directive.TheVariants.{Space, Byte, Percent, Conv}
 use Rattle.sf_format.specs.Proper.{AreKinded, HasItsKind, IsKinded, destination_of, destinations_of, has_optional, has_slot, is_optional}
 use Rattle.sf_format.specs.Proper.{is_optional_for, kind_at, may_miss}
+use Rattle.sf_item.specs.Columns.{ShapeFills}
 use Rattle.sf_format.specs.Slots.{AreDistinct, AreSlots, Slotted, kind_with}
 use Rattle.sf_format.proofs.Outcomes.{by_test}
 use Rattle.sf_report.specs.declared.outcome.Ending.{Ending}
@@ -26,7 +27,8 @@ use Rattle.sf_report.specs.Limits.{RunTold}
 use Rattle.sf_report.specs.Rows.{Suits, kind_of}
 use Rattle.sf_report.specs.Runs.{GoesOn, Ran, RunReport, Steps, is_shape_converted, status_of, values}
 use Rattle.sf_report.specs.Steps.{ByteStep, ConversionStep, CountStep, EmptyItem, Fails, IsReal, ItemEnds, ItemPasses, ItemStep, ItemStored}
-use Rattle.sf_report.specs.Steps.{Misses, NumberStored, Passes, RealStored, Step, StepEnd, Stores}
+use Rattle.sf_report.specs.Steps.{BlankColumn, ColumnEnds, Misses, NumberStored, Passes, RealStored, Step, StepBy, StepEnd, Stores}
+use Rattle.sf_report.specs.Steps.{TextColumn}
 
 -- ---- what a step gives its slot
 
@@ -88,11 +90,11 @@ real_fills c slot k item (Some r) e is kind read h = rw h (slotted c slot (kind_
 stored_fills : (c : Conversion) (slot : ℕ) (shape : Shape) (item : List ℕ) (e : StepEnd) → c.slot ≡ Some slot
     → is_shape_converted shape ≡ true → HasItsKind shape c.kind
     → ItemStored c slot shape item e → Fills (Conv c) e
-stored_fills c slot (Int base) item e is other kind (negative, m, number, h) = number_fills c slot (value_of c.kind negative m) e is h
-stored_fills c slot Text item e is other kind h = rw h (slotted c slot kinds.Text is kind)
+stored_fills c slot (Int numeral) item e is other kind (negative, m, number, h) = number_fills c slot (value_of c.kind negative m) e is h
+stored_fills c slot (Text lead) item e is other kind h = rw h (slotted c slot kinds.Text is kind)
 stored_fills c slot (Set members) item e is other kind h = rw h (slotted c slot kinds.Text is kind)
 stored_fills c slot Chars item e is other kind h = rw h (slotted c slot kinds.Text is kind)
-stored_fills c slot Float item e is other kind (r, real, h) = real_fills c slot c.kind item r e is refl real h
+stored_fills c slot (Float lead) item e is other kind (r, real, h) = real_fills c slot c.kind item r e is refl real h
 stored_fills c slot Count item e is other kind h = absurd cc
 
 passes_fills : (c : Conversion) (slot : Option ℕ) (item : List ℕ) (e : StepEnd) → c.slot ≡ slot → is_shape_converted c.shape ≡ true
@@ -121,17 +123,48 @@ item_fills c shape x k e is other kind (s, j, skip, item, bytes, ends) =
 conversion_fills : (c : Conversion) (shape : Shape) (x : List ℕ) (n k : ℕ) (e : StepEnd) → c.shape ≡ shape → HasItsKind shape c.kind
     → ConversionStep c shape x n k e → Fills (Conv c) e
 conversion_fills c Count x n k e is kind h = count_fills c c.slot n e refl h.1
-conversion_fills c (Int base) x n k e is kind h = item_fills c (Int base) x k e is refl kind h
-conversion_fills c Text x n k e is kind h = item_fills c Text x k e is refl kind h
+conversion_fills c (Int numeral) x n k e is kind h = item_fills c (Int numeral) x k e is refl kind h
+conversion_fills c (Text lead) x n k e is kind h = item_fills c (Text lead) x k e is refl kind h
 conversion_fills c (Set members) x n k e is kind h = item_fills c (Set members) x k e is refl kind h
 conversion_fills c Chars x n k e is kind h = item_fills c Chars x k e is refl kind h
-conversion_fills c Float x n k e is kind h = item_fills c Float x k e is refl kind h
+conversion_fills c (Float lead) x n k e is kind h = item_fills c (Float lead) x k e is refl kind h
+
+-- ---- columns
+
+blank_fills : (d : Directive) (optional : Bool) (e : StepEnd) → is_optional d ≡ optional → BlankColumn optional e → Fills d e
+blank_fills d true e is h = rw h is
+blank_fills d false e is h = not_done MatchingFailure e d (λ f. absurd cc) h
+
+-- what has a text has an item
+text_converted : (shape : Shape) (width : Option ℕ) (t : List ℕ) → ShapeFills shape width t → is_shape_converted shape ≡ true
+text_converted (Int numeral) width t h = refl
+text_converted (Text lead) width t h = refl
+text_converted (Set members) width t h = refl
+text_converted Chars width t h = refl
+text_converted (Float lead) width t h = refl
+text_converted Count width t h = absurd h
+
+text_fills : (c : Conversion) (t : List ℕ) (e : StepEnd) → HasItsKind c.shape c.kind → TextColumn c t e → Fills (Conv c) e
+text_fills c t e kind (inl h) = passes_fills c c.slot t e refl (text_converted c.shape c.width t h.0) kind h.1
+text_fills c t e kind (inr h) = not_done MatchingFailure e (Conv c) (λ f. absurd cc) h.1
+
+column_fills : (c : Conversion) (x s : List ℕ) (e : StepEnd) → HasItsKind c.shape c.kind → ColumnEnds c x s e → Fills (Conv c) e
+column_fills c x [] e kind h = empty_fills (Conv c) c.optional x e refl h
+column_fills c x (b ∷ s) e kind (inl h) = blank_fills (Conv c) c.optional e refl h.1
+column_fills c x (b ∷ s) e kind (inr (ink, (t, is, ends))) = text_fills c t e kind ends
+
+fills_by : (c : Conversion) (column : Bool) (x : List ℕ) (n k : ℕ) (e : StepEnd) → HasItsKind c.shape c.kind
+    → StepBy column c x n k e → Fills (Conv c) e
+fills_by c true x n k e kind h = column_fills c x (take k x) e kind h.1
+fills_by c false x n k e kind h = conversion_fills c c.shape x n k e refl kind h
+
+-- ---- each directive
 
 step_fills : (d : Directive) (x : List ℕ) (n k : ℕ) (e : StepEnd) → IsKinded d → Step d x n k e → Fills d e
 step_fills Space x n k e kind h = rw h.1 refl
 step_fills (Byte b) x n k e kind h = byte_fills (Byte b) b x k e refl h
 step_fills Percent x n k e kind (s, j, skip, byte, bytes) = byte_fills Percent 37 (drop s x) j e refl byte
-step_fills (Conv c) x n k e kind h = conversion_fills c c.shape x n k e refl kind h
+step_fills (Conv c) x n k e kind h = fills_by c c.column x n k e kind h
 
 -- ---- what a run gives the slots
 

@@ -1,16 +1,17 @@
 -- What floats are read of: bytes.
-use Rattle.std.proofs.Common.{◌≡◌, ℕ, ◌+◌, ◌<◌, Bool, true, false, cond, ◌||◌, List, [], ◌∷◌, ◌++◌, Option, Some, None, is_some, refl, sym}
+use Rattle.std.proofs.Common.{◌≡◌, ℕ, ◌<◌, Bool, true, false, cond, ◌||◌, List, [], ◌∷◌, ◌++◌, Option, Some, None, is_some, refl, sym}
 use Rattle.std.proofs.Common.{ap, ◌∙◌, arith, lit<, true≢false}
 use Rattle.std.specs.Prelude.{◌==◌}
 use Rattle.std.proofs.lemmas.Bool.Decides.{nat_tests}
 use Rattle.std.specs.Char.{is_ascii_digit, is_ascii_hexdigit, is_ascii_alphanumeric, to_ascii_lowercase}
+use Rattle.sf_float_read.specs.declared.item.reached.Forms.{Forms}
 use Rattle.sf_float_read.specs.declared.item.reached.Radix.{Radix}
 use Rattle.sf_float_read.specs.declared.item.reached.Radix.TheVariants.{Ten, Sixteen}
 use Rattle.sf_float_read.specs.declared.item.reached.Reached.{Reached}
 use Rattle.sf_float_read.specs.declared.item.reached.Reached.TheVariants as at
 use Rattle.sf_float_read.specs.item.Sequences.{is_digit, opens_exponent, is_sign}
-use Rattle.sf_float_read.specs.item.Tests.{after_exponent, after_letter, letter_of_exponent, after_point, after_fraction, after_digits}
-use Rattle.sf_float_read.specs.item.Tests.{first_of_number, after_zero, letter, first, in_parentheses, next, read, begins_float}
+use Rattle.sf_float_read.specs.item.Tests.{after_exponent, letter_of_exponent, after_digits}
+use Rattle.sf_float_read.specs.item.Tests.{first_of_number, letter, first, next, read, start_of, begins_float_of}
 use Rattle.sf_float_read.proofs.ItemLemmas.Deciding.{read_more, read_nothing}
 
 -- one that is read on with is a byte
@@ -79,6 +80,8 @@ module _ (b : ℕ) where
   next_byte : (r : Reached) → IsByte b (next r b)
   next_byte at.Start = by_test (is_sign b) (Some at.Signed) (first b) sign_byte first_byte
   next_byte at.Signed = first_byte
+  next_byte at.DecimalStart = by_test (b == 45) (Some at.DecimalSigned) _ (same_byte 45 (lit< tt)) (number_first_byte Ten)
+  next_byte at.DecimalSigned = number_first_byte Ten
   next_byte at.Zero = by_test (b == 120 || b == 88) (Some at.Prefix) _ (either_byte 88 120 (lit< tt) (lit< tt)) (digits_byte Ten)
   next_byte at.Prefix = number_first_byte Sixteen
   next_byte (at.Whole radix) = digits_byte radix
@@ -103,8 +106,8 @@ module _ (b : ℕ) where
   next_byte at.Closed = none
 
 -- the last byte of what begins a float is a byte
-pub float_byte : (f : List ℕ) (b : ℕ) → begins_float (f ++ b ∷ []) ≡ true → b < 256
-float_byte f b h = by (read (Some at.Start) f) (ap is_some (sym (read_more (Some at.Start) f (b ∷ []))) ∙ h)
+pub float_byte : (forms : Forms) (f : List ℕ) (b : ℕ) → begins_float_of forms (f ++ b ∷ []) ≡ true → b < 256
+float_byte forms f b h = by (read (Some (start_of forms)) f) (ap is_some (sym (read_more (Some (start_of forms)) f (b ∷ []))) ∙ h)
   where
     by : (o : Option Reached) → is_some (read o (b ∷ [])) ≡ true → b < 256
     by None e = absurd (true≢false (sym e))

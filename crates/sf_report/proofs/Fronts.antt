@@ -1,15 +1,20 @@
 -- A run that is Done makes the same steps on every front of its input that has the bytes which it used.
-use Rattle.std.proofs.Common.{◌≡◌, ℕ, ◌+◌, ◌≤◌, List, [], ◌∷◌, ◌++◌, length, drop, None, subst, arith, length-append, length-drop}
+use Rattle.std.proofs.Common.{◌≡◌, ℕ, ◌+◌, ◌≤◌, Bool, true, false, List, [], ◌∷◌, ◌++◌, length, take, drop, None, subst, arith}
+use Rattle.std.proofs.Common.{length-append, length-drop}
 use Rattle.std.proofs.lemmas.List.{take-append-le, drop-append-le}
 use Rattle.std.proofs.lemmas.List.Sums.{sum_by-cons}
 use Rattle.sf_base.specs.Bytes.{IsSkip}
+use Rattle.sf_format.specs.declared.directive.Lead.{Lead}
+use Rattle.sf_format.specs.declared.directive.Lead.TheVariants.{Any, Minus, Nothing}
 use Rattle.sf_format.specs.declared.directive.Shape.{Shape}
 use Rattle.sf_format.specs.declared.directive.Shape.TheVariants.{Int, Text, Set, Chars, Float, Count}
 use Rattle.sf_format.specs.declared.directive.Conversion.{Conversion}
 use Rattle.sf_format.specs.declared.directive.Directive.{Directive}
+use Rattle.sf_item.specs.Columns.{IsColumn}
 use Rattle.sf_item.specs.Matching.{Begins, IsItem}
 use Rattle.sf_report.specs.declared.outcome.Status.TheVariants.{Done}
-use Rattle.sf_report.specs.Steps.{StepEnd, Fails, ByteStep, ConversionStep, IsSkipBefore, ItemEnds, ItemStep, Step}
+use Rattle.sf_report.specs.Steps.{StepEnd, Fails, ByteStep, ConversionStep, IsSkipUnder, IsSkipBefore, ItemEnds, ItemStep, Step}
+use Rattle.sf_report.specs.Steps.{EmptyItem, ColumnEnds, StepBy}
 use Rattle.sf_report.specs.Runs.{GoesOn, Ran, RunReport, Steps, status_of, used}
 use Rattle.sf_report.specs.Limits.{TellsWithin}
 use Rattle.sf_report.specs.Laws.{EachDoneRunStays}
@@ -37,8 +42,13 @@ item_at_front c x z k le g = record {
 byte_front : (b : ℕ) (x z : List ℕ) (k : ℕ) (end : StepEnd) → HasPassed end → k ≤ length x → ByteStep b (x ++ z) k end → ByteStep b x k end
 byte_front b x z k end ok le h = grind arith
 
+skip_under_front : (lead : Lead) (x z : List ℕ) (k : ℕ) → k ≤ length x → IsSkipUnder lead (x ++ z) k → IsSkipUnder lead x k
+skip_under_front Any x z k le h = skip_front x z k le h
+skip_under_front Minus x z k le h = h
+skip_under_front Nothing x z k le h = h
+
 skip_before_front : (shape : Shape) (x z : List ℕ) (k : ℕ) → k ≤ length x → IsSkipBefore shape (x ++ z) k → IsSkipBefore shape x k
-skip_before_front shape x z k le h = grind (arith, skip_front)
+skip_before_front shape x z k le h = grind (arith, skip_under_front)
 
 ends_front : (c : Conversion) (x z : List ℕ) (j : ℕ) (end : StepEnd) → HasPassed end → j ≤ length x → ItemEnds c (x ++ z) j end
     → ItemEnds c x j end
@@ -50,17 +60,43 @@ item_front c x z k end ok le h3 = grind (arith, drop-append-le, length-drop, ski
 
 conversion_front : (c : Conversion) (shape : Shape) (x z : List ℕ) (n k : ℕ) (end : StepEnd) → HasPassed end → k ≤ length x
     → ConversionStep c shape (x ++ z) n k end → ConversionStep c shape x n k end
-conversion_front c (Int base) x z n k end ok le h = item_front c x z k end ok le h
-conversion_front c Text x z n k end ok le h = item_front c x z k end ok le h
+conversion_front c (Int numeral) x z n k end ok le h = item_front c x z k end ok le h
+conversion_front c (Text lead) x z n k end ok le h = item_front c x z k end ok le h
 conversion_front c (Set members) x z n k end ok le h = item_front c x z k end ok le h
 conversion_front c Chars x z n k end ok le h = item_front c x z k end ok le h
-conversion_front c Float x z n k end ok le h = item_front c x z k end ok le h
+conversion_front c (Float lead) x z n k end ok le h = item_front c x z k end ok le h
 conversion_front c Count x z n k end ok le h = h
+
+-- ---- columns
+
+column_len_front : (c : Conversion) (x z : List ℕ) (k : ℕ) → k ≤ length x → IsColumn c (x ++ z) k → IsColumn c x k
+column_len_front c x z k le g = record {
+  holds = (le, g.holds.1);
+  above = λ j h. g.above j (omega (arith, h.0, length-append x z), h.1);
+}
+
+empty_front : (optional : Bool) (x z : List ℕ) (end : StepEnd) → HasPassed end → EmptyItem optional z end → EmptyItem optional x end
+empty_front true x z end ok h = h
+empty_front false x z end ok h = grind arith
+
+column_ends_front : (c : Conversion) (x z s : List ℕ) (end : StepEnd) → HasPassed end → ColumnEnds c z s end → ColumnEnds c x s end
+column_ends_front c x z [] end ok h = empty_front c.optional x z end ok h
+column_ends_front c x z (b ∷ s) end ok h = h
+
+front_by : (c : Conversion) (column : Bool) (x z : List ℕ) (n k : ℕ) (end : StepEnd) → HasPassed end → k ≤ length x
+    → StepBy column c (x ++ z) n k end → StepBy column c x n k end
+front_by c true x z n k end ok le (column, ends) = (
+  column_len_front c x z k le column,
+  column_ends_front c x (x ++ z) (take k x) end ok (subst (λ s. ColumnEnds c (x ++ z) s end) (take-append-le k x z le) ends),
+)
+front_by c false x z n k end ok le h = conversion_front c c.shape x z n k end ok le h
+
+-- ---- each directive
 
 -- a directive that passes makes the same step on every front that has the bytes which it consumed
 step_front : (d : Directive) (x z : List ℕ) (n k : ℕ) (end : StepEnd) → HasPassed end → k ≤ length x → Step d (x ++ z) n k end
     → Step d x n k end
-step_front d x z n k end ok le h = grind (arith, skip_front, byte_front, drop-append-le, length-drop, conversion_front)
+step_front d x z n k end ok le h = grind (arith, skip_front, byte_front, drop-append-le, length-drop, front_by)
 
 -- ---- no directive fails as Done
 

@@ -14,17 +14,18 @@ use Rattle.sf_format.specs.declared.directive.Directive.TheVariants.{Space, Byte
 use Rattle.sf_format.specs.Proper.{AreProper}
 use Rattle.sf_report.specs.declared.outcome.Ending.{Ending}
 use Rattle.sf_report.specs.declared.outcome.Ending.TheVariants.{End, Fault}
-use Rattle.sf_report.specs.declared.outcome.Status.TheVariants.{Done, InputFailure, MatchingFailure, OutOfRange}
+use Rattle.sf_report.specs.declared.outcome.Status.TheVariants.{Done, InputFailure, MatchingFailure, OutOfRange, NoMemory}
 use Rattle.sf_report.specs.Steps.{StepEnd, Passes, Stores, Misses, Fails}
 use Rattle.sf_report.specs.Runs.{Ran, GoesOn, Steps, RunReport, c_return}
 use Rattle.sf_report.specs.Limits as limits
-use Rattle.sf_report.specs.Limits.{RunWithin, RunRefused}
+use Rattle.sf_report.specs.Limits.{RunWithin, RunRefused, RunTold}
 use Rattle.sf_report.specs.Runs as runs
 use Rattle.sf_report.specs.Examples.{Reports, int, suppressed, word, chars, set, report, given, most, first_format, second_format}
 use Rattle.sf_report.specs.Examples.{third_format, rest_of_line, fourth_format, Example2, Example3, Example4, C11Examples, PosixExamples}
-use Rattle.sf_report.specs.Examples.{CountExamples, LimitExamples, MemoryExamples, OurExamples}
+use Rattle.sf_report.specs.Examples.{CountExamples, LimitExamples, MemoryExamples, StrictExamples, ColumnExamples, OurExamples}
+use Rattle.sf_report.specs.Examples.{int_column, text_column}
 use Rattle.sf_report.proofs.RunLaws.{steps_is}
-use Rattle.sf_report.proofs.Skips.{skip_is}
+use Rattle.sf_report.proofs.Skips.{skip_is, skip_only}
 use Rattle.sf_report.proofs.Told.{is_open, report_within, report_is, report_only}
 
 -- what is computed is the one report
@@ -298,5 +299,69 @@ refused = record {
   byte = λ m x r. never (Byte 97) (λ y k h. h) m x r;
 }
 
+strict : StrictExamples
+unfolding is_open
+strict = record {
+  blank = row_is _ ((tt, tt), tt) _ _ _ _ refl;
+  plus = row_is _ ((tt, tt), tt) _ _ _ _ refl;
+  zeros = row_is _ ((tt, tt), tt) _ _ _ _ refl;
+  prefix = row_is _ ((tt, tt), tt) _ _ _ _ refl;
+  missing = row_is _ ((tt, tt), ((tt, tt), tt)) _ _ _ _ refl;
+}
+
+-- a limit for memory is met at the first byte that is stored
+not_before_text : RunRefused (text_column 4 1 ∷ []) most (codes " ab") (report NoMemory 1 0 0 0 None []) → ⊥
+not_before_text (k, low, (before, cut, stores, is)) =
+    let used : 0 ≡ k = ap (λ (r : RunReport). r.used) is in
+    let place : 1 ≡ length before + 1 = ap (λ (r : RunReport). r.at) is in
+    by before cut stores (omega (arith, place)) (omega (arith, used))
+  where
+    by : (before : List Ran) (cut : limits.IsCut (text_column 4 1 ∷ []) (codes " ab") k before)
+        → limits.Stores cut.cut.directive (drop (runs.used before) (codes " ab")) (k - runs.used before) → length before ≡ 0 → k ≡ 0 → ⊥
+    by (b ∷ before) cut stores none zero = cc
+    by [] cut stores none zero =
+        let (some, (s, skip, past)) = subst (λ (z : Directive). limits.Stores z (codes " ab") (k - 0))
+        (alone (text_column 4 1) (codes " ab") [] cut.cut cut.rest cut.steps) stores in
+        let one : s ≡ 1 = skip_only (codes " ab") s skip in
+        omega (arith, past, one, zero)
+
+columns_refused : RunTold (text_column 4 1 ∷ []) most (codes " ab") End (report NoMemory 1 0 0 1 None [])
+columns_refused =
+    inr (
+      1,
+      lit< tt,
+      (
+        [],
+        record {
+          cut = record { directive = text_column 4 1; bytes = 3; end = Stores 1 (Bytes (codes "ab")) };
+          rest = [];
+          steps = steps_is (text_column 4 1 ∷ []) ((tt, lit≤ tt), tt) (codes " ab") 0;
+          low = lit≤ tt;
+          high = lit< tt;
+        },
+        (refl, (1, skip_is (codes " ab"), lit≤ tt)),
+        refl,
+      ),
+    )
+
+columns : ColumnExamples
+unfolding is_open stored_in read_float scan_numeral float_is_infinite round to_bits
+columns = record {
+  around = row_is _ ((tt, lit≤ tt), tt) _ _ _ _ refl;
+  inside = row_is _ ((tt, lit≤ tt), tt) _ _ _ _ refl;
+  short = row_is _ ((tt, lit≤ tt), tt) _ _ _ _ refl;
+  nothing = row_is _ ((tt, lit≤ tt), tt) _ _ _ _ refl;
+  blank = row_is _ ((tt, lit≤ tt), tt) _ _ _ _ refl;
+  missing = row_is _ ((tt, lit≤ tt), tt) _ _ _ _ refl;
+  strict_blank = row_is _ ((tt, lit≤ tt), tt) _ _ _ _ refl;
+  strict_number = row_is _ ((tt, lit≤ tt), tt) _ _ _ _ refl;
+  words = row_is _ ((tt, lit≤ tt), tt) _ _ _ _ refl;
+  float = row_is _ ((tt, lit≤ tt), tt) _ _ _ _ refl;
+  next = row_is _ ((tt, lit≤ tt), ((tt, lit≤ tt), tt)) _ _ _ _ refl;
+  refused = columns_refused;
+  not_before = not_before_text;
+  integer = λ m x r. never (int_column 5 1) (λ y k h. h) m x r;
+}
+
 pub our_examples : OurExamples
-our_examples = record { counts = counts; limits = limited; memory = refused }
+our_examples = record { counts = counts; limits = limited; memory = refused; strict = strict; columns = columns }

@@ -1,9 +1,10 @@
 -- What the runs of a format store are values: numbers that their kinds hold, and bytes.
 use Rattle.std.proofs.Common.{◌≡◌, ℕ, zero, suc, ◌+◌, ◌^◌, ◌<◌, inl, inr, Bool, true, false, cond, nat_eq, List, [], ◌∷◌, drop, take}
-use Rattle.std.proofs.Common.{Option, Some, None, refl, sym, ap, subst, arith}
+use Rattle.std.proofs.Common.{Option, Some, None, refl, sym, ap, subst, arith, ◌++◌, ◌∙◌, length}
 use Rattle.std.proofs.lemmas.Bool.Decides.{nat_tests}
 use Rattle.std.proofs.lemmas.Int.{ints}
 use Rattle.std.proofs.lemmas.Nat.{pow_pos}
+use Rattle.std.proofs.Math.Seq.{drop-append_seam, take-append_seam}
 use Rattle.std.specs.Prelude.{find, IfSome, ℤ}
 use Rattle.std.specs.List.{AllByRecursion}
 use Rattle.std.specs.Option.{option_map}
@@ -22,14 +23,17 @@ use Rattle.sf_format.specs.declared.directive.Shape.TheVariants.{Int, Text, Set,
 use Rattle.sf_format.specs.declared.directive.Conversion.{Conversion}
 use Rattle.sf_format.specs.declared.directive.Directive.{Directive}
 use Rattle.sf_format.specs.declared.directive.Directive.TheVariants.{Space, Byte, Percent, Conv}
+use Rattle.sf_format.specs.Leads.{is_strict}
 use Rattle.sf_format.proofs.Outcomes.{by_test}
+use Rattle.sf_item.specs.Columns.{IsTextUnder}
 use Rattle.sf_report.specs.declared.outcome.Ending.{Ending}
 use Rattle.sf_report.specs.declared.outcome.Status.TheVariants.{Done, TooLong, NoMemory}
 use Rattle.sf_report.specs.Limits.{RunTold}
 use Rattle.sf_report.specs.Rows.{IsPattern, IsReadable, IsValue}
 use Rattle.sf_report.specs.Runs.{GoesOn, Ran, RunReport, Steps, values}
 use Rattle.sf_report.specs.Steps.{ByteStep, ConversionStep, CountStep, EmptyItem, Fails, IsReal, ItemEnds, ItemPasses, ItemStep, ItemStored}
-use Rattle.sf_report.specs.Steps.{Misses, NumberStored, Passes, RealStored, Step, StepEnd, Stores}
+use Rattle.sf_report.specs.Steps.{BlankColumn, ColumnEnds, Misses, NumberStored, Passes, RealStored, Step, StepBy, StepEnd, Stores}
+use Rattle.sf_report.specs.Steps.{TextColumn}
 
 -- ---- the numbers of a kind
 
@@ -67,6 +71,10 @@ bytes_to (suc n) [] h = tt
 bytes_to (suc n) (b ∷ x) h = (h.0, bytes_to n x h.1)
 
 -- ---- what a step stores
+
+-- what stands between two parts
+middle : (a t z : List ℕ) → take (length t) (drop (length a) (a ++ (t ++ z))) ≡ t
+middle a t z = ap (take (length t)) (drop-append_seam a (t ++ z)) ∙ take-append_seam t z
 
 -- a value, where the texts that are stored have the property
 abbrev ValueOf : (List ℕ → Type 0) → Datum → Type 0
@@ -134,12 +142,12 @@ module _ (Q : List ℕ → Type 0) (from : (n : ℕ) (x : List ℕ) → Q x → 
 
   stored_given : (c : Conversion) (slot : ℕ) (shape : Shape) (item : List ℕ) (e : StepEnd) → Q item → ItemStored c slot shape item e
       → GivesValue e
-  stored_given c slot (Int base) item e bytes (negative, m, number, h) = number_given c slot negative m (value_of c.kind negative m) e
+  stored_given c slot (Int numeral) item e bytes (negative, m, number, h) = number_given c slot negative m (value_of c.kind negative m) e
       refl h
-  stored_given c slot Text item e bytes h = rw h bytes
+  stored_given c slot (Text lead) item e bytes h = rw h bytes
   stored_given c slot (Set members) item e bytes h = rw h bytes
   stored_given c slot Chars item e bytes h = rw h bytes
-  stored_given c slot Float item e bytes (r, is, h) = real_given c.kind slot item r e is h
+  stored_given c slot (Float lead) item e bytes (r, is, h) = real_given c.kind slot item r e is h
   stored_given c slot Count item e bytes h = rw h bytes
 
   passes_given : (c : Conversion) (slot : Option ℕ) (item : List ℕ) (e : StepEnd) → Q item → ItemPasses c slot item e → GivesValue e
@@ -162,11 +170,36 @@ module _ (Q : List ℕ → Type 0) (from : (n : ℕ) (x : List ℕ) → Q x → 
   conversion_given : (c : Conversion) (shape : Shape) (x : List ℕ) (n k : ℕ) (e : StepEnd) → Q x → ConversionStep c shape x n k e
       → GivesValue e
   conversion_given c Count x n k e bytes h = count_given c c.slot n e h.1
-  conversion_given c (Int base) x n k e bytes h = item_given c x k e bytes h
-  conversion_given c Text x n k e bytes h = item_given c x k e bytes h
+  conversion_given c (Int numeral) x n k e bytes h = item_given c x k e bytes h
+  conversion_given c (Text lead) x n k e bytes h = item_given c x k e bytes h
   conversion_given c (Set members) x n k e bytes h = item_given c x k e bytes h
   conversion_given c Chars x n k e bytes h = item_given c x k e bytes h
-  conversion_given c Float x n k e bytes h = item_given c x k e bytes h
+  conversion_given c (Float lead) x n k e bytes h = item_given c x k e bytes h
+
+  -- the text of a column is a part of it
+  text_part : (strict : Bool) (s t : List ℕ) → Q s → IsTextUnder strict s t → Q t
+  text_part true s t bytes is = subst Q (sym is) bytes
+  text_part false s t bytes is =
+      subst Q (ap (λ y. take (length t) (drop (length is.before) y)) is.whole ∙ middle is.before t is.after)
+      (to (length t) (drop (length is.before) s) (from (length is.before) s bytes))
+
+  blank_given : (optional : Bool) (e : StepEnd) → BlankColumn optional e → GivesValue e
+  blank_given true e h = rw h tt
+  blank_given false e h = rw h tt
+
+  text_given : (c : Conversion) (t : List ℕ) (e : StepEnd) → Q t → TextColumn c t e → GivesValue e
+  text_given c t e bytes (inl h) = passes_given c c.slot t e bytes h.1
+  text_given c t e bytes (inr h) = rw h.1 tt
+
+  column_given : (c : Conversion) (x s : List ℕ) (e : StepEnd) → Q s → ColumnEnds c x s e → GivesValue e
+  column_given c x [] e bytes h = empty_given c.optional x e h
+  column_given c x (b ∷ s) e bytes (inl h) = blank_given c.optional e h.1
+  column_given c x (b ∷ s) e bytes (inr (ink, (t, is, ends))) =
+      text_given c t e (text_part (is_strict c.shape) (b ∷ s) t bytes is) ends
+
+  given_by : (c : Conversion) (column : Bool) (x : List ℕ) (n k : ℕ) (e : StepEnd) → Q x → StepBy column c x n k e → GivesValue e
+  given_by c true x n k e bytes h = column_given c x (take k x) e (to k x bytes) h.1
+  given_by c false x n k e bytes h = conversion_given c c.shape x n k e bytes h
 
   byte_given : (b : ℕ) (x : List ℕ) (k : ℕ) (e : StepEnd) → ByteStep b x k e → GivesValue e
   byte_given b [] k e h = rw h.1 tt
@@ -177,7 +210,7 @@ module _ (Q : List ℕ → Type 0) (from : (n : ℕ) (x : List ℕ) → Q x → 
   step_given Space x n k e bytes h = rw h.1 tt
   step_given (Byte b) x n k e bytes h = byte_given b x k e h
   step_given Percent x n k e bytes (s, j, skip, byte, length) = byte_given 37 (drop s x) j e byte
-  step_given (Conv c) x n k e bytes h = conversion_given c c.shape x n k e bytes h
+  step_given (Conv c) x n k e bytes h = given_by c c.column x n k e bytes h
 
   -- ---- what a run stores
 

@@ -1,15 +1,19 @@
 -- Steps and runs as functions. By sf_run::laws these, and no others, are what the relations of Steps and Runs allow.
-use Rattle.std.specs.Prelude.{ℕ, zero, suc, ◌+◌, Bool, true, false, if◌then◌else◌, nat_eq, List, [], ◌∷◌, ◌++◌, take, drop}
+use Rattle.std.specs.Prelude.{ℕ, zero, suc, ◌+◌, Bool, true, false, if◌then◌else◌, nat_eq, min, List, [], ◌∷◌, ◌++◌, length, take}
+use Rattle.std.specs.Prelude.{drop}
 use Rattle.sf_base.specs.Bytes.{is_white}
+use Rattle.sf_format.specs.declared.directive.Lead.{Lead}
+use Rattle.sf_format.specs.declared.directive.Lead.TheVariants.{Any, Minus, Nothing}
 use Rattle.sf_format.specs.declared.directive.Shape.{Shape}
 use Rattle.sf_format.specs.declared.directive.Shape.TheVariants.{Int, Text, Float, Count}
 use Rattle.sf_format.specs.declared.directive.Conversion.{Conversion}
 use Rattle.sf_format.specs.declared.directive.Directive.{Directive}
 use Rattle.sf_format.specs.declared.directive.Directive.TheVariants.{Space, Byte, Percent, Conv}
+use Rattle.sf_item.specs.Columns.{column_width}
 use Rattle.sf_item.specs.Tests.{can_take}
 use Rattle.sf_report.specs.Steps.{StepEnd, Passes, Fails}
 use Rattle.sf_report.specs.Runs.{Ran}
-use Rattle.sf_report.specs.Machine.{count_end, item_end, nothing_end, empty_end}
+use Rattle.sf_report.specs.Machine.{count_end, item_end, column_end, nothing_end, empty_end}
 use Rattle.sf_report.specs.Residual.{Part}
 
 -- the length of the longest front that is white space
@@ -37,10 +41,15 @@ byte_step a [] = (0, nothing_end false)
 byte_step a (b ∷ x) = byte_choice (nat_eq a b)
 
 -- how much white space is skipped before the item
+abbrev pub skip_under : Lead → List ℕ → ℕ
+skip_under Any x = skip x
+skip_under Minus x = 0
+skip_under Nothing x = 0
+
 abbrev pub skip_before : Shape → List ℕ → ℕ
-skip_before (Int base) x = skip x
-skip_before Text x = skip x
-skip_before Float x = skip x
+skip_before (Int numeral) x = skip_under numeral.lead x
+skip_before (Text lead) x = skip_under lead x
+skip_before (Float lead) x = skip_under lead x
 skip_before _ x = 0
 
 -- the end of a conversion whose item is the first j bytes of y
@@ -59,6 +68,23 @@ abbrev pub conversion_step : Conversion → Shape → List ℕ → ℕ → ℕ �
 conversion_step c Count x n = (0, count_end c c.slot n)
 conversion_step c _ x n = item_step c x
 
+-- how long a column is
+abbrev pub column_len : Conversion → List ℕ → ℕ
+column_len c x = min (length x) (column_width c)
+
+-- the end of a conversion whose column has these bytes of x
+abbrev pub column_ended : Conversion → List ℕ → List ℕ → StepEnd
+column_ended c x [] = empty_end c (has_more x)
+column_ended c x (b ∷ s) = column_end c (b ∷ s)
+
+abbrev pub column_step : Conversion → List ℕ → ℕ × StepEnd
+column_step c x = (column_len c x, column_ended c x (take (column_len c x) x))
+
+-- by whether it has =
+abbrev pub step_by : Bool → Conversion → List ℕ → ℕ → ℕ × StepEnd
+step_by true c x n = column_step c x
+step_by false c x n = conversion_step c c.shape x n
+
 -- the percent sign after s bytes of x, with these
 abbrev pub percent_step : List ℕ → ℕ → ℕ × StepEnd
 percent_step x s = (s + (byte_step 37 (drop s x)).0, (byte_step 37 (drop s x)).1)
@@ -68,7 +94,7 @@ abbrev pub step_of : Directive → List ℕ → ℕ → ℕ × StepEnd
 step_of Space x n = (skip x, Passes)
 step_of (Byte a) x n = byte_step a x
 step_of Percent x n = percent_step x (skip x)
-step_of (Conv c) x n = conversion_step c c.shape x n
+step_of (Conv c) x n = step_by c.column c x n
 
 -- such a step of x, after n bytes of the run: what it leaves
 abbrev pub part_of : ℕ → List ℕ → ℕ × StepEnd → Part

@@ -1,12 +1,15 @@
 -- Worked examples: what a format makes of an input, as C11, POSIX and we say.
-use Rattle.std.specs.Prelude.{◌≡◌, ℕ, zero, suc, ◌+◌, Bool, false, ◌||◌, ◌&&◌, nat_le, List, [], ◌∷◌, ◌++◌, codes, Option, Some, None}
+use Rattle.std.specs.Prelude.{◌≡◌, ℕ, zero, suc, ◌+◌, Bool, true, false, ◌||◌, ◌&&◌, nat_le, List, [], ◌∷◌, ◌++◌, codes, Option, Some, None}
 use Rattle.std.specs.Prelude.{pos, negsuc}
 use Rattle.sf_base.specs.Data.{Datum, Number, Bytes, Real, Assigned}
 use Rattle.sf_base.specs.declared.real.Real.TheVariants.{F32}
 use Rattle.sf_base.specs.declared.values.Kind.{Kind}
 use Rattle.sf_base.specs.declared.values.Kind.TheVariants as kind
 use Rattle.sf_format.specs.declared.directive.Base.{Base}
-use Rattle.sf_format.specs.declared.directive.Base.TheVariants.{Dec}
+use Rattle.sf_format.specs.declared.directive.Base.TheVariants.{Dec, Hex}
+use Rattle.sf_format.specs.declared.directive.Lead.{Lead}
+use Rattle.sf_format.specs.declared.directive.Lead.TheVariants.{Any, Minus, Nothing}
+use Rattle.sf_format.specs.Leads.{as_in_c}
 use Rattle.sf_format.specs.declared.directive.Shape.{Shape}
 use Rattle.sf_format.specs.declared.directive.Shape.TheVariants.{Int, Text, Set, Chars, Float, Count}
 use Rattle.sf_format.specs.declared.directive.Directive.{Directive}
@@ -26,20 +29,54 @@ pub record Reports (ds : List Directive) (m : ℕ) (x : List ℕ) (ending : Endi
 -- ---- directives
 
 abbrev pub conv : Shape → Kind → Option ℕ → Option ℕ → Directive
-conv shape kind width slot = Conv (record { shape = shape; kind = kind; width = width; slot = slot; optional = false })
+conv shape kind width slot = Conv (record { shape = shape; kind = kind; width = width; slot = slot; optional = false; column = false })
 
 -- an integer, assigned to the slot
 abbrev pub int : Base → Kind → Option ℕ → ℕ → Directive
-int base kind width slot = conv (Int base) kind width (Some slot)
+int base kind width slot = conv (Int (as_in_c base)) kind width (Some slot)
 
 abbrev pub suppressed : Base → Kind → Directive
-suppressed base kind = conv (Int base) kind None None
+suppressed base kind = conv (Int (as_in_c base)) kind None None
+
+-- with !
+abbrev pub strict : Base → Lead → Kind → ℕ → Directive
+strict base lead kind slot = conv (Int (record { base = base; lead = lead })) kind None (Some slot)
+
+-- %?!d, for the first slot
+abbrev pub maybe_strict : Directive
+maybe_strict = Conv (record {
+  shape = Int (record { base = Dec; lead = Minus });
+  kind = kind.I32;
+  width = None;
+  slot = Some 1;
+  optional = true;
+  column = false;
+})
+
+-- with = and a width
+abbrev pub in_column : Shape → Kind → ℕ → Bool → ℕ → Directive
+in_column shape kind width optional slot =
+    Conv (record { shape = shape; kind = kind; width = Some width; slot = Some slot; optional = optional; column = true })
+
+abbrev pub int_column : ℕ → ℕ → Directive
+int_column width slot = in_column (Int (as_in_c Dec)) kind.I32 width false slot
+
+abbrev pub text_column : ℕ → ℕ → Directive
+text_column width slot = in_column (Text Any) kind.Text width false slot
+
+-- %?=5d, for the first slot
+abbrev pub maybe_column : Directive
+maybe_column = in_column (Int (as_in_c Dec)) kind.I32 5 true 1
+
+-- %!=2hhu, for the first slot
+abbrev pub strict_column : Directive
+strict_column = in_column (Int (record { base = Dec; lead = Nothing })) kind.U8 2 false 1
 
 abbrev pub float : ℕ → Directive
-float slot = conv Float kind.F32 None (Some slot)
+float slot = conv (Float Any) kind.F32 None (Some slot)
 
 abbrev pub word : Option ℕ → ℕ → Directive
-word width slot = conv Text kind.Text width (Some slot)
+word width slot = conv (Text Any) kind.Text width (Some slot)
 
 abbrev pub chars : Option ℕ → ℕ → Directive
 chars width slot = conv Chars kind.Text width (Some slot)
@@ -175,7 +212,41 @@ pub record MemoryExamples : Type 0 where
   pub integer : (m : ℕ) (x : List ℕ) (r : RunReport) → RunRefused (int Dec kind.I32 None 1 ∷ []) m x r → ⊥
   pub byte : (m : ℕ) (x : List ℕ) (r : RunReport) → RunRefused (Byte 97 ∷ []) m x r → ⊥
 
+-- %!d, %!x and %?!d: no white space, no plus and no prefix
+pub record StrictExamples : Type 0 where
+  pub blank : Reports (strict Dec Minus kind.I32 1 ∷ []) most (codes " 5") End (report MatchingFailure 1 0 0 0 None [])
+  pub plus : Reports (strict Dec Minus kind.I32 1 ∷ []) most (codes "+5") End (report MatchingFailure 1 0 0 0 None [])
+  pub zeros : Reports (strict Dec Minus kind.I32 1 ∷ []) most (codes "-042") End
+      (report Done 0 1 1 4 (Some End) (given 1 (Number kind.I32 (negsuc 41)) ∷ []))
+  pub prefix : Reports (strict Hex Nothing kind.U32 1 ∷ []) most (codes "0x1f") End
+      (report Done 0 1 1 1 None (given 1 (Number kind.U32 (pos 0)) ∷ []))
+  pub missing : Reports (maybe_strict ∷ word None 2 ∷ []) most (codes "x") End
+      (report Done 0 1 1 1 (Some End) (text 2 (codes "x") ∷ []))
+
+-- %=5d, %?=5d, %=!2hhu, %=4s, %=4f and %=3d%=3d: each byte of a column is used, and its text is read
+pub record ColumnExamples : Type 0 where
+  pub around : Reports (int_column 5 1 ∷ []) most (codes "  42 ") End (report Done 0 1 1 5 None (number 1 42 ∷ []))
+  pub inside : Reports (int_column 5 1 ∷ []) most (codes " 4 2 ") End (report MatchingFailure 1 0 0 5 None [])
+  pub short : Reports (int_column 5 1 ∷ []) most (codes "12") End (report Done 0 1 1 2 (Some End) (number 1 12 ∷ []))
+  pub nothing : Reports (int_column 5 1 ∷ []) most [] End (report InputFailure 1 0 0 0 (Some End) [])
+  pub blank : Reports (int_column 5 1 ∷ []) most (codes "     ") End (report MatchingFailure 1 0 0 5 None [])
+  pub missing : Reports (maybe_column ∷ []) most (codes "     ") End (report Done 0 0 0 5 None [])
+  pub strict_blank : Reports (strict_column ∷ []) most (codes "1 ") End (report MatchingFailure 1 0 0 2 None [])
+  pub strict_number : Reports (strict_column ∷ []) most (codes "42") End
+      (report Done 0 1 1 2 None (given 1 (Number kind.U8 (pos 42)) ∷ []))
+  pub words : Reports (text_column 4 1 ∷ []) most (codes " a b") End (report Done 0 1 1 4 None (text 1 (codes "a b") ∷ []))
+  pub float : Reports (in_column (Float Any) kind.F32 4 false 1 ∷ []) most (codes "1.5 ") End
+      (report Done 0 1 1 4 None (pattern 1 1069547520 ∷ []))
+  pub next : Reports (int_column 3 1 ∷ int_column 3 2 ∷ []) most (codes "1  2") End
+      (report Done 0 2 2 4 (Some End) (number 1 1 ∷ number 2 2 ∷ []))
+  -- a text may be refused memory, but not before its first byte; an integer never is
+  pub refused : RunTold (text_column 4 1 ∷ []) most (codes " ab") End (report NoMemory 1 0 0 1 None [])
+  pub not_before : RunRefused (text_column 4 1 ∷ []) most (codes " ab") (report NoMemory 1 0 0 0 None []) → ⊥
+  pub integer : (m : ℕ) (x : List ℕ) (r : RunReport) → RunRefused (int_column 5 1 ∷ []) m x r → ⊥
+
 pub record OurExamples : Type 0 where
   pub counts : CountExamples
   pub limits : LimitExamples
   pub memory : MemoryExamples
+  pub strict : StrictExamples
+  pub columns : ColumnExamples

@@ -1,5 +1,8 @@
 -- Runs under a limit on their bytes, and runs for which memory was refused.
-use Rattle.std.specs.Prelude.{◌≡◌, ℕ, ◌+◌, ◌-◌, ◌<◌, ◌≤◌, ◌⊎◌, List, ◌∷◌, ◌++◌, length, drop, Option, None, IsSome}
+use Rattle.std.specs.Prelude.{◌≡◌, ℕ, ◌+◌, ◌-◌, ◌<◌, ◌≤◌, ◌⊎◌, Bool, true, false, List, ◌∷◌, ◌++◌, length, drop, Option, None}
+use Rattle.std.specs.Prelude.{IsSome}
+use Rattle.sf_base.specs.Bytes.{IsSkip}
+use Rattle.sf_format.specs.declared.directive.Conversion.{Conversion}
 use Rattle.sf_format.specs.declared.directive.Shape.{Shape}
 use Rattle.sf_format.specs.declared.directive.Shape.TheVariants.{Int, Count}
 use Rattle.sf_format.specs.declared.directive.Directive.{Directive}
@@ -44,12 +47,22 @@ TellsWithin ds m x report =
 
 -- past the white space before its item, an assigned text conversion has consumed k bytes of x
 abbrev pub StoresShape : Shape → Option ℕ → List ℕ → ℕ → Type 0
-StoresShape (Int base) slot x k = ⊥
+StoresShape (Int numeral) slot x k = ⊥
 StoresShape Count slot x k = ⊥
 StoresShape shape slot x k = IsSome slot × ((s : ℕ) × IsSkipBefore shape x s × (s ≤ k))
 
+-- the same of a column: past the white space at its front
+abbrev pub StoresColumn : Shape → Option ℕ → List ℕ → ℕ → Type 0
+StoresColumn (Int numeral) slot x k = ⊥
+StoresColumn Count slot x k = ⊥
+StoresColumn shape slot x k = IsSome slot × ((s : ℕ) × IsSkip x s × (s ≤ k))
+
+abbrev pub StoresBy : Bool → Conversion → List ℕ → ℕ → Type 0
+StoresBy true c x k = StoresColumn c.shape c.slot x k
+StoresBy false c x k = StoresShape c.shape c.slot x k
+
 abbrev pub Stores : Directive → List ℕ → ℕ → Type 0
-Stores (Conv c) x k = StoresShape c.shape c.slot x k
+Stores (Conv c) x k = StoresBy c.column c x k
 Stores _ x k = ⊥
 
 -- the report where the storing of a byte was refused, within a limit of m bytes

@@ -1,6 +1,6 @@
 -- Each directive as a machine that is handed bytes. proofs/Ones shows that it makes the directive's step.
 use Rattle.std.specs.Prelude.{ℕ, zero, suc, Bool, true, false, not, ◌&&◌, nat_eq, if◌then◌else◌, List, [], ◌∷◌, ◌++◌, Option, Some, None}
-use Rattle.std.specs.Prelude.{is_some, ℤ}
+use Rattle.std.specs.Prelude.{is_some, ℤ, nat_lt, length}
 use Rattle.sf_base.specs.Bytes.{is_white}
 use Rattle.std.specs.Option.{option_map}
 use Rattle.std.specs.Float.Ieee.{binary32, binary64}
@@ -15,7 +15,11 @@ use Rattle.sf_format.specs.declared.directive.Shape.{Shape}
 use Rattle.sf_format.specs.declared.directive.Shape.TheVariants.{Int, Text, Set, Chars, Float, Count}
 use Rattle.sf_format.specs.declared.directive.Conversion.{Conversion}
 use Rattle.sf_format.specs.declared.directive.Directive.{Directive}
+use Rattle.sf_format.specs.Leads.{is_strict_lead}
 use Rattle.sf_format.specs.declared.directive.Directive.TheVariants.{Space, Byte, Percent, Conv}
+use Rattle.sf_base.specs.Blanks.{are_white}
+use Rattle.sf_item.specs.Columns.{column_width}
+use Rattle.sf_item.specs.ColumnTests.{column_text, fills}
 use Rattle.sf_item.specs.Tests.{integer_at, matches, can_take}
 use Rattle.sf_report.specs.declared.outcome.Status.TheVariants.{InputFailure, MatchingFailure, OutOfRange}
 use Rattle.sf_report.specs.Steps.{StepEnd, Passes, Stores, Misses, Fails}
@@ -30,11 +34,11 @@ pub data Stage : Type 0 where
 
 -- white space is skipped before the item
 abbrev pub shape_skips : Shape → Bool
-shape_skips (Int base) = true
-shape_skips Text = true
+shape_skips (Int numeral) = not (is_strict_lead numeral.lead)
+shape_skips (Text lead) = not (is_strict_lead lead)
 shape_skips (Set members) = false
 shape_skips Chars = false
-shape_skips Float = true
+shape_skips (Float lead) = not (is_strict_lead lead)
 shape_skips Count = false
 
 abbrev pub item_stepped : Conversion → List ℕ → ℕ → Option Stage
@@ -60,12 +64,27 @@ percent_stepped Skipping b = if is_white b then Some Skipping else byte_stepped 
 percent_stepped Taken b = None
 percent_stepped (Item f) b = None
 
+-- ---- columns: the stage Item has all bytes of the column so far
+
+abbrev pub column_taken : Conversion → List ℕ → ℕ → Option Stage
+column_taken c f b = if nat_lt (length f) (column_width c) then Some (Item (f ++ b ∷ [])) else None
+
+abbrev pub column_stepped : Conversion → Stage → ℕ → Option Stage
+column_stepped c Skipping b = column_taken c [] b
+column_stepped c Taken b = None
+column_stepped c (Item f) b = column_taken c f b
+
+-- by whether it has =
+abbrev pub stepped_by : Bool → Conversion → Stage → ℕ → Option Stage
+stepped_by true c q b = column_stepped c q b
+stepped_by false c q b = conversion_stepped c q b
+
 -- the stage with the byte b, where that is taken
 abbrev pub stepped : Directive → Stage → ℕ → Option Stage
 stepped Space q b = space_stepped q b
 stepped (Byte a) q b = byte_stepped a q b
 stepped Percent q b = percent_stepped q b
-stepped (Conv c) q b = conversion_stepped c q b
+stepped (Conv c) q b = stepped_by c.column c q b
 
 -- some number below n passes the test
 abbrev pub some_below : ℕ → (ℕ → Bool) → Bool
@@ -105,8 +124,8 @@ real_end slot None = Fails OutOfRange
 real_end slot (Some r) = Stores slot (Real r)
 
 abbrev pub stored_end : Conversion → ℕ → Shape → List ℕ → StepEnd
-stored_end c slot (Int base) item = integer_end c slot (integer_at base item)
-stored_end c slot Float item = real_end slot (real_at c.kind item)
+stored_end c slot (Int numeral) item = integer_end c slot (integer_at numeral item)
+stored_end c slot (Float lead) item = real_end slot (real_at c.kind item)
 stored_end c slot _ item = Stores slot (Bytes item)
 
 abbrev pub passed_end : Conversion → Option ℕ → List ℕ → StepEnd
@@ -139,9 +158,27 @@ abbrev pub conversion_finished : Conversion → Shape → Stage → ℕ → Bool
 conversion_finished c Count q n more = count_end c c.slot n
 conversion_finished c _ q n more = item_finished c q more
 
+-- a column that has the text t
+abbrev pub text_end : Conversion → List ℕ → StepEnd
+text_end c t = if fills c t then passed_end c c.slot t else Fails MatchingFailure
+
+-- a column with these bytes, one at least; one that is white space alone ends as if a byte stood there that begins no item
+abbrev pub column_end : Conversion → List ℕ → StepEnd
+column_end c f = if are_white f then empty_end c true else text_end c (column_text c f)
+
+abbrev pub column_finished : Conversion → Stage → Bool → StepEnd
+column_finished c Skipping more = empty_end c more
+column_finished c Taken more = Fails MatchingFailure
+column_finished c (Item f) more = column_end c f
+
+-- by whether it has =
+abbrev pub finished_by : Bool → Conversion → Stage → ℕ → Bool → StepEnd
+finished_by true c q n more = column_finished c q more
+finished_by false c q n more = conversion_finished c c.shape q n more
+
 -- how the directive ends after n bytes of the run; more: a byte follows, which was not taken
 abbrev pub finished : Directive → Stage → ℕ → Bool → StepEnd
 finished Space q n more = Passes
 finished (Byte a) q n more = byte_finished q more
 finished Percent q n more = byte_finished q more
-finished (Conv c) q n more = conversion_finished c c.shape q n more
+finished (Conv c) q n more = finished_by c.column c q n more

@@ -1,5 +1,5 @@
 -- What a row is made of.
-use Rattle.std.specs.Prelude.{◌≡◌, ◌⊎◌, ℕ, ◌^◌, ◌<◌, ◌-◌, true, nat_eq, None, to_bits, T, if◌then◌else◌, List, length, map, slice_get}
+use Rattle.std.specs.Prelude.{◌≡◌, ◌⊎◌, ℕ, ◌-◌, true, nat_eq, None, to_bits, T, if◌then◌else◌, List, length, map, slice_get}
 use Rattle.std.specs.Prelude.{Option, Some, IfSome}
 use Rattle.std.specs.List.{AllByRecursion, filter_map}
 use Rattle.std.specs.Option.{option_map}

@@ -2,19 +2,22 @@
 use Rattle.std.specs.Prelude.{◌≡◌, ◌≢◌, ℕ, zero, suc, ◌+◌, ◌⊎◌, Bool, true, false, List, [], ◌∷◌, take, drop, Option, Some, None, ℤ}
 use Rattle.std.specs.Option.{option_map}
 use Rattle.std.specs.Float.Ieee.{binary32, binary64}
-use Rattle.sf_base.specs.Bytes.{IsSkip}
+use Rattle.sf_base.specs.Bytes.{IsSkip, AreWhite}
 use Rattle.sf_base.specs.Data.{Datum, Number, Bytes, Real, value_of}
 use Rattle.sf_base.specs.declared.real.Real as real
 use Rattle.sf_base.specs.declared.real.Real.TheVariants as reals
 use Rattle.sf_base.specs.declared.values.Kind.{Kind}
 use Rattle.sf_base.specs.declared.values.Kind.TheVariants as kinds
 use Rattle.sf_float_read.specs.value.Values.{IsStored}
+use Rattle.sf_format.specs.declared.directive.Lead.{Lead}
+use Rattle.sf_format.specs.declared.directive.Lead.TheVariants.{Any, Minus, Nothing}
 use Rattle.sf_format.specs.declared.directive.Shape.{Shape}
 use Rattle.sf_format.specs.declared.directive.Shape.TheVariants.{Int, Text, Float, Count}
 use Rattle.sf_format.specs.declared.directive.Conversion.{Conversion}
 use Rattle.sf_format.specs.declared.directive.Directive.{Directive}
 use Rattle.sf_format.specs.declared.directive.Directive.TheVariants.{Space, Byte, Percent, Conv}
 use Rattle.sf_item.specs.Matching.{IsInteger, Matches, IsItem}
+use Rattle.sf_item.specs.Columns.{IsColumn, IsTextOf, Fills}
 use Rattle.sf_report.specs.declared.outcome.Status.{Status}
 use Rattle.sf_report.specs.declared.outcome.Status.TheVariants.{InputFailure, MatchingFailure, OutOfRange}
 
@@ -52,9 +55,9 @@ RealStored slot (Some r) end = end ≡ Stores slot (Real r)
 
 -- what an assigned conversion stores of a matching item
 abbrev pub ItemStored : Conversion → ℕ → Shape → List ℕ → StepEnd → Type 0
-ItemStored c slot (Int base) item end =
-    (negative : Bool) × (m : ℕ) × IsInteger base item negative m × NumberStored c slot (value_of c.kind negative m) end
-ItemStored c slot Float item end = (r : Option real.Real) × IsReal c.kind item r × RealStored slot r end
+ItemStored c slot (Int numeral) item end =
+    (negative : Bool) × (m : ℕ) × IsInteger numeral item negative m × NumberStored c slot (value_of c.kind negative m) end
+ItemStored c slot (Float lead) item end = (r : Option real.Real) × IsReal c.kind item r × RealStored slot r end
 ItemStored c slot _ item end = end ≡ Stores slot (Bytes item)
 
 -- a suppressed conversion stores nothing, and is not checked against its kind
@@ -76,11 +79,17 @@ ItemEnds c x (suc j) end =
     Matches c (take (suc j) x) × ItemPasses c c.slot (take (suc j) x) end
     ⊎ (Matches c (take (suc j) x) → ⊥) × (end ≡ Fails MatchingFailure)
 
--- the white space that is skipped before the item of a shape (C11 7.21.6.2p8)
+-- the white space that is skipped before an item (C11 7.21.6.2p8); with ! none is (our own)
+abbrev pub IsSkipUnder : Lead → List ℕ → ℕ → Type 0
+IsSkipUnder Any x s = IsSkip x s
+IsSkipUnder Minus x s = s ≡ 0
+IsSkipUnder Nothing x s = s ≡ 0
+
+-- before the item of a shape
 abbrev pub IsSkipBefore : Shape → List ℕ → ℕ → Type 0
-IsSkipBefore (Int base) x s = IsSkip x s
-IsSkipBefore Text x s = IsSkip x s
-IsSkipBefore Float x s = IsSkip x s
+IsSkipBefore (Int numeral) x s = IsSkipUnder numeral.lead x s
+IsSkipBefore (Text lead) x s = IsSkipUnder lead x s
+IsSkipBefore (Float lead) x s = IsSkipUnder lead x s
 IsSkipBefore _ x s = s ≡ 0
 
 abbrev pub ItemStep : Conversion → List ℕ → ℕ → StepEnd → Type 0
@@ -91,9 +100,36 @@ abbrev pub ConversionStep : Conversion → Shape → List ℕ → ℕ → ℕ �
 ConversionStep c Count x n k end = (k ≡ 0) × CountStep c c.slot n end
 ConversionStep c _ x n k end = ItemStep c x k end
 
+-- ---- columns (our own; C has none)
+
+-- a column that is white space alone
+abbrev pub BlankColumn : Bool → StepEnd → Type 0
+BlankColumn true end = end ≡ Misses
+BlankColumn false end = end ≡ Fails MatchingFailure
+
+-- a column that has the text t
+abbrev pub TextColumn : Conversion → List ℕ → StepEnd → Type 0
+TextColumn c t end = Fills c t × ItemPasses c c.slot t end ⊎ (Fills c t → ⊥) × (end ≡ Fails MatchingFailure)
+
+-- how a conversion ends whose column has these bytes of x
+abbrev pub ColumnEnds : Conversion → List ℕ → List ℕ → StepEnd → Type 0
+ColumnEnds c x [] end = EmptyItem c.optional x end
+ColumnEnds c x (b ∷ s) end =
+    AreWhite (b ∷ s) × BlankColumn c.optional end
+    ⊎ (AreWhite (b ∷ s) → ⊥) × ((t : List ℕ) × IsTextOf c (b ∷ s) t × TextColumn c t end)
+
+-- it consumes the whole column, whatever stands there
+abbrev pub ColumnStep : Conversion → List ℕ → ℕ → StepEnd → Type 0
+ColumnStep c x k end = IsColumn c x k × ColumnEnds c x (take k x) end
+
+-- by whether it has =
+abbrev pub StepBy : Bool → Conversion → List ℕ → ℕ → ℕ → StepEnd → Type 0
+StepBy true c x n k end = ColumnStep c x k end
+StepBy false c x n k end = ConversionStep c c.shape x n k end
+
 -- on the remaining input x, after n bytes, the directive consumes k bytes and ends so
 abbrev pub Step : Directive → List ℕ → ℕ → ℕ → StepEnd → Type 0
 Step Space x n k end = IsSkip x k × (end ≡ Passes)
 Step (Byte b) x n k end = ByteStep b x k end
 Step Percent x n k end = (s : ℕ) × (j : ℕ) × IsSkip x s × ByteStep 37 (drop s x) j end × (k ≡ s + j)
-Step (Conv c) x n k end = ConversionStep c c.shape x n k end
+Step (Conv c) x n k end = StepBy c.column c x n k end

@@ -70,7 +70,8 @@ pub fn bytes_are_tried()
     ensures { EachByteIsTried }
 {}
 
-/// The examples of C11 7.21.6.2, those of POSIX, and ours of what counts, of limits and of memory.
+/// The examples of C11 7.21.6.2, those of POSIX, and ours of what counts, of limits, of memory, of `!` and of
+/// `=`.
 pub fn worked_examples()
     ensures c11 { C11Examples }
     ensures posix { PosixExamples }

@@ -1,10 +1,10 @@
 //! Items of single conversions.
-use sf_format::Base;
+use sf_format::{Base, Lead};
 
 /// What reads an item.
 #[derive(Clone, Copy)]
 pub enum Reader {
-    Integer(Base),
+    Integer(Lead, Base),
     Text,
     /// A set of the decimal digits.
     Digits,
@@ -26,19 +26,34 @@ pub enum Found {
 /// A reader and its width, a text, how many bytes of it are taken, whether the item is then full, and what it is.
 pub type ItemRow = (Reader, Option<u16>, &'static [u8], usize, bool, Found);
 
-const DEC: Reader = Reader::Integer(Base::Dec);
+const DEC: Reader = Reader::Integer(Lead::Any, Base::Dec);
 
-const OCT: Reader = Reader::Integer(Base::Oct);
+const OCT: Reader = Reader::Integer(Lead::Any, Base::Oct);
 
-const HEX: Reader = Reader::Integer(Base::Hex);
+const HEX: Reader = Reader::Integer(Lead::Any, Base::Hex);
 
-const AUTO: Reader = Reader::Integer(Base::Auto);
+const AUTO: Reader = Reader::Integer(Lead::Any, Base::Auto);
 
-const BIN: Reader = Reader::Integer(Base::Bin);
+const BIN: Reader = Reader::Integer(Lead::Any, Base::Bin);
 
-const AUTO_BIN: Reader = Reader::Integer(Base::AutoBin);
+const AUTO_BIN: Reader = Reader::Integer(Lead::Any, Base::AutoBin);
 
-static ITEMS: [ItemRow; 91] = [
+/// As `%!d`.
+const SIGNED: Reader = Reader::Integer(Lead::Minus, Base::Dec);
+
+/// As `%!i`.
+const SIGNED_AUTO: Reader = Reader::Integer(Lead::Minus, Base::Auto);
+
+/// As `%!u`.
+const BARE: Reader = Reader::Integer(Lead::Nothing, Base::Dec);
+
+/// As `%!x`.
+const BARE_HEX: Reader = Reader::Integer(Lead::Nothing, Base::Hex);
+
+/// As `%!b`.
+const BARE_BIN: Reader = Reader::Integer(Lead::Nothing, Base::Bin);
+
+static ITEMS: [ItemRow; 106] = [
     (DEC, None, b"", 0, false, Found::Empty),
     (DEC, None, b" 5", 0, false, Found::Empty),
     (DEC, None, b"-", 1, false, Found::Unmatched),
@@ -284,6 +299,28 @@ static ITEMS: [ItemRow; 91] = [
     (AUTO_BIN, None, b"19", 2, false, Found::Integer(false, 19)),
     (AUTO, None, b"0b11", 1, false, Found::Integer(false, 0)),
     (HEX, None, b"0b1", 3, false, Found::Integer(false, 177)),
+    (SIGNED, None, b" 5", 0, false, Found::Empty),
+    (SIGNED, None, b"+5", 0, false, Found::Empty),
+    (SIGNED, None, b"-042;", 4, false, Found::Integer(true, 42)),
+    (SIGNED, None, b"--1", 1, false, Found::Unmatched),
+    (SIGNED, None, b"7", 1, false, Found::Integer(false, 7)),
+    (SIGNED, Some(2), b"-12", 2, true, Found::Integer(true, 1)),
+    (
+        SIGNED_AUTO,
+        None,
+        b"-0x1f",
+        5,
+        false,
+        Found::Integer(true, 31),
+    ),
+    (SIGNED_AUTO, None, b"+0x1f", 0, false, Found::Empty),
+    (SIGNED_AUTO, None, b"0x", 2, false, Found::Unmatched),
+    (BARE, None, b"-5", 0, false, Found::Empty),
+    (BARE, None, b"007;", 3, false, Found::Integer(false, 7)),
+    (BARE_HEX, None, b"0x1f", 1, false, Found::Integer(false, 0)),
+    (BARE_HEX, None, b"fFg", 2, false, Found::Integer(false, 255)),
+    (BARE_BIN, None, b"0b1", 1, false, Found::Integer(false, 0)),
+    (BARE_BIN, None, b"102", 2, false, Found::Integer(false, 2)),
 ];
 
 /// Items of each shape.

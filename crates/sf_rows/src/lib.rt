@@ -4,6 +4,7 @@
 #![tactic(auto)]
 
 mod binary_scans;
+mod column_scans;
 mod compare;
 mod errors;
 mod fault_rows;
@@ -16,6 +17,7 @@ mod piece_rows;
 mod print_rows;
 mod quick_scans;
 mod scan_rows;
+mod strict_scans;
 mod text_scans;
 mod told;
 

@@ -1,9 +1,11 @@
 //! Scans of whole texts.
 use crate::binary_scans::binary_scans;
+use crate::column_scans::column_scans;
 use crate::compare::{has_values, is};
 use crate::limited_scans::limited_scans;
 use crate::number_scans::number_scans;
 use crate::quick_scans::quick_scans;
+use crate::strict_scans::strict_scans;
 use crate::text_scans::text_scans;
 use crate::told::{Met, Told};
 use sf_base::{Store, Value};
@@ -53,13 +55,15 @@ impl ScanRow {
 }
 
 /// Every row of a scan, in tables by what they show.
-pub fn scans() -> [&'static [ScanRow]; 5] {
+pub fn scans() -> [&'static [ScanRow]; 7] {
     [
         number_scans(),
         text_scans(),
         binary_scans(),
         limited_scans(),
         quick_scans(),
+        strict_scans(),
+        column_scans(),
     ]
 }
 

@@ -3,31 +3,42 @@ use Rattle.std.proofs.lemmas.Grind.{common_steps}
 use Rattle.std.proofs.Common.{◌≡◌, ℕ, ◌+◌, ◌-◌, ◌<◌, ◌≤◌, Bool, true, false, cond, List, [], ◌∷◌, ◌++◌, length, take, drop}
 use Rattle.std.proofs.Common.{Option, Some, None}
 use Rattle.std.proofs.Common.{refl, sym, ap, subst, ◌∙◌, arith, is_some, length-drop, true≢false}
-use Rattle.std.specs.Prelude.{◌≢◌, slice_get}
+use Rattle.std.specs.Prelude.{◌≢◌, slice_get, ℤ}
 use Rattle.std.specs.List.{count_by}
 use Rattle.std.proofs.lemmas.List.Sums.{sum_by_more}
 use Rattle.std.proofs.lemmas.Option.{get_or_from_slice_get, slice_get_within}
 use Rattle.std.proofs.lemmas.List.{append-nil, append_assoc, drop-drop, length-append, take_all, take-append-drop}
-use Rattle.sf_base.specs.Data.{Assigned, Bytes, Real as RealOf}
+use Rattle.sf_base.specs.Blanks.{are_white}
+use Rattle.sf_base.specs.Data.{Assigned, Bytes, Real as RealOf, value_of}
 use Rattle.sf_base.specs.declared.real.Real as real
 use Rattle.sf_base.specs.stores.Kept.{Kept, Opened, nothing_kept, text_of, texts_in, with_text, with_value}
+use Rattle.sf_format.specs.declared.directive.Shape.{Shape}
+use Rattle.sf_format.specs.declared.directive.Shape.TheVariants.{Int, Text, Set, Chars, Float, Count}
+use Rattle.sf_format.specs.declared.directive.Conversion.{Conversion}
 use Rattle.sf_format.specs.declared.directive.Directive.{Directive}
-use Rattle.sf_format.specs.Layout.{assigns_item, items_assigned, items_taken, takes_item}
-use Rattle.sf_format.specs.Proper.{AreProper, IsProper, destinations_of, is_optional, slots_of}
+use Rattle.sf_format.specs.declared.directive.Directive.TheVariants.{Space, Byte, Percent, Conv}
+use Rattle.sf_item.specs.ColumnTests.{column_text, fills}
+use Rattle.sf_item.specs.Tests.{integer_at}
+use Rattle.sf_format.specs.Layout.{assigns_item, is_item, items_assigned, items_taken, takes_item}
+use Rattle.sf_format.specs.Proper.{AreProper, IsColumned, TakesColumn, destinations_of, is_optional, slots_of}
 use Rattle.sf_format.specs.Slots.{AreSlots}
 use Rattle.sf_run.specs.declared.directive.Finished.{Finished}
 use Rattle.sf_run.specs.declared.directive.Ended.{Ended}
 use Rattle.sf_report.specs.declared.outcome.Ending.{Ending}
 use Rattle.sf_report.specs.declared.outcome.Outcome.{Outcome}
 use Rattle.sf_report.specs.declared.outcome.Status.{Status}
-use Rattle.sf_report.specs.declared.outcome.Status.TheVariants.{Done}
+use Rattle.sf_report.specs.declared.outcome.Status.TheVariants.{Done, MatchingFailure}
 use Rattle.sf_run.specs.declared.tally.Tally as code
 use Rattle.sf_run.specs.Holding.{are_among, are_apart, are_placed}
 use Rattle.sf_report.specs.Limits.{RunWithin, TellsWithin}
 use Rattle.sf_report.specs.Memory.{HoldsValues}
-use Rattle.sf_report.specs.Machine.{Stage, Skipping, finished, stepped}
+use Rattle.sf_report.specs.Machine.{Stage, Skipping, Taken, Item, byte_finished, column_end, column_finished, conversion_finished}
+use Rattle.sf_report.specs.Machine.{empty_end}
+use Rattle.sf_report.specs.Machine.{finished, finished_by, integer_end, number_end, passed_end, real_at, real_end, stepped, stored_end}
+use Rattle.sf_report.specs.Machine.{text_end}
 use Rattle.sf_run.specs.Phases.{end_of, is_failing, is_missing, slot_given}
-use Rattle.sf_run.specs.Pieces.{EndsAtOnce, EndsIn}
+use Rattle.sf_run.specs.declared.directive.EndedColumn.{EndedColumn}
+use Rattle.sf_run.specs.Pieces.{EndsAtOnce, EndsIn, EndsWithAll}
 use Rattle.sf_run.specs.Places.{is_destination}
 use Rattle.sf_run.specs.Quick.{EndsSo, GivenSo, GivesTo, IsSure, MayBeGiven, Passes, PassesWithin, done_by, slot_stored, text_stored}
 use Rattle.sf_run.specs.Quick.{ungiven_end}
@@ -42,7 +53,7 @@ use Rattle.sf_report.specs.Runs.{IsOpen, RunReport, is_conversion, passed}
 use Rattle.sf_report.specs.Steps.{StepEnd, Passes as Passed, Stores, Misses, Fails}
 use Rattle.sf_report.specs.Views.{report_by}
 use Rattle.sf_run.specs.Tallies.{PassesSo, tally_of, values_with}
-use Rattle.sf_run.specs.Texts.{slot_of, slots_in}
+use Rattle.sf_run.specs.Texts.{IsSound, slot_of, slots_in}
 use Rattle.sf_run.proofs.Moves.{drop_at, place_taken}
 use Rattle.sf_report.proofs.Openness.{within_limit}
 use Rattle.sf_run.proofs.Slots.{given_more, given_on, joined_text, placed_from, slot_placed, slot_unused, slots_more, slots_none}
@@ -58,17 +69,42 @@ pub free_of : (slots : ℕ) (f : Finished) (d : Directive) (values : List Assign
     → MayBeGiven slots (slot_of d) values → MayBeGiven slots (slot_given f) values
 free_of slots f d values own free = grind arith
 
-pub passes_within : (d : Directive) (n : ℕ) (piece : List ℕ) (e : Ended) (stores : Bool) (old new : Kept) → IsProper d
+-- what it gives is its own slot's
+own_slot : (d : Directive) (f : Finished) (text : List ℕ) → (is_failing f ≡ false → is_missing f ≡ false → slot_given f ≡ slot_of d)
+    → passed (end_of text f) ≡ true → slot_stored (end_of text f) ≡ slot_of d
+own_slot d f text own ok = grind arith
+
+passing_within : (d : Directive) (n : ℕ) (piece : List ℕ) (taken : ℕ) (f : Finished) (text : List ℕ) (stores : Bool) (old new : Kept)
+    → EndsIn d Skipping n piece taken (end_of text f) → (is_failing f ≡ false → is_missing f ≡ false → slot_given f ≡ slot_of d)
+    → GivesTo (end_of text f) stores old new → PassesWithin d n piece taken stores old new
+passing_within d n piece taken f text stores old new ends own gives = record {
+  end = end_of text f;
+  takes = ends;
+  gives = gives;
+  own = own_slot d f text own gives.passes.passes;
+}
+
+pub passes_within : (d : Directive) (n : ℕ) (piece : List ℕ) (e : Ended) (stores : Bool) (old new : Kept) → IsSound d
     → EndsAtOnce d n piece e
     → GivesTo (end_of (take e.item (drop e.before piece)) e.finished) stores old new
     → PassesWithin d n piece (e.before + e.item) stores old new
-passes_within d n piece e stores old new proper is gives = grind arith
+passes_within d n piece e stores old new sound is gives =
+    passing_within d n piece (e.before + e.item) e.finished (take e.item (drop e.before piece)) stores old new (is.ends sound) is.fits.given
+    gives
+
+pub passes_with_all : (d : Directive) (n : ℕ) (piece : List ℕ) (e : EndedColumn) (stores : Bool) (old new : Kept) → IsSound d
+    → EndsWithAll d n piece e
+    → GivesTo (end_of (take e.ended.item (drop e.ended.before piece)) e.ended.finished) stores old new
+    → PassesWithin d n piece (e.ended.before + e.ended.item + e.after) stores old new
+passes_with_all d n piece e stores old new sound is gives =
+    passing_within d n piece (e.ended.before + e.ended.item + e.after) e.ended.finished (take e.ended.item (drop e.ended.before piece))
+    stores old new (is.ends sound) is.fits.given gives
 
 -- one that surely ends, and ends so, gives something for which a store with so much room has room
-pub sure_text : (d : Directive) (n : ℕ) (piece : List ℕ) (room : ℕ) (e : Ended) → IsProper d → EndsAtOnce d n piece e
-    → IsSure d n piece room → length (text_stored (end_of (take e.item (drop e.before piece)) e.finished)) ≤ room
-sure_text d n piece room e proper is sure =
-    subst (λ (p : Part). length (text_stored p.end) ≤ room) ((is.answers proper).goes.takes sure.after) sure.fits
+pub sure_text : (d : Directive) (n : ℕ) (piece : List ℕ) (room : ℕ) (e : EndedColumn) → IsSound d → EndsWithAll d n piece e
+    → IsSure d n piece room → length (text_stored (end_of (take e.ended.item (drop e.ended.before piece)) e.ended.finished)) ≤ room
+sure_text d n piece room e sound is sure =
+    subst (λ (p : Part). length (text_stored p.end) ≤ room) ((is.ends sound).takes sure.after) sure.fits
 
 -- one that passes within the piece
 pub ends_passing : (d : Directive) (n : ℕ) (piece : List ℕ) (taken : ℕ) (old new : Kept) → Passes d n piece taken old new
@@ -82,13 +118,13 @@ given_nothing ends.Misses d end old new other is same = (is, same)
 given_nothing (ends.Fails status) d end old new other is same = (is, same)
 
 -- one that ends so, and gives nothing
-pub ends_giving_nothing : (d : Directive) (n : ℕ) (piece : List ℕ) (e : Ended) (how : PassageEnd) (old new : Kept) → IsProper d
-    → EndsAtOnce d n piece e → how ≢ ends.Passes
-    → end_of (take e.item (drop e.before piece)) e.finished ≡ ungiven_end how → new ≡ old
-    → EndsSo d n piece (record { taken = e.before + e.item; end = how }) old new
-ends_giving_nothing d n piece e how old new proper is other gives same =
-    let end : StepEnd = end_of (take e.item (drop e.before piece)) e.finished in
-    record { end = end; takes = (is.answers proper).goes; gives = given_nothing how d end old new other gives same }
+pub ends_giving_nothing : (d : Directive) (n : ℕ) (piece : List ℕ) (e : EndedColumn) (how : PassageEnd) (old new : Kept) → IsSound d
+    → EndsWithAll d n piece e → how ≢ ends.Passes
+    → end_of (take e.ended.item (drop e.ended.before piece)) e.ended.finished ≡ ungiven_end how → new ≡ old
+    → EndsSo d n piece (record { taken = e.ended.before + e.ended.item + e.after; end = how }) old new
+ends_giving_nothing d n piece e how old new sound is other gives same =
+    let end : StepEnd = end_of (take e.ended.item (drop e.ended.before piece)) e.ended.finished in
+    record { end = end; takes = is.ends sound; gives = given_nothing how d end old new other gives same }
 
 -- a text that the store was given is what the directive gives
 pub text_given : (slot : ℕ) (text : List ℕ) (room : ℕ) (old new : Kept) → new ≡ with_text slot text room old
@@ -190,16 +226,85 @@ assigns_more d end stores n so own = grind arith
 takes_more : (d : Directive) (n : ℕ) → cond (is_conversion d) (n + 1) n ≡ n + cond (takes_item d) 1 0
 takes_more d n = grind arith
 
--- an item that is missing is one that the directive takes, and it may be
-misses_only : (d : Directive) (q : Stage) (n : ℕ) (more : Bool) → finished d q n more ≡ Misses
-    → (is_optional d ≡ true) × (takes_item d ≡ true)
-misses_only d q n more e = grind arith
+byte_given : (q : Stage) (more : Bool) → byte_finished q more ≡ Misses → ⊥
+byte_given q more e = grind arith
 
-pub one_misses : (d : Directive) (q : Stage) (n : ℕ) (x : List ℕ) → (one_from d q n x).end ≡ Misses
+-- an item that is missing is one that the directive takes, and it may be
+misses_item : (c : Conversion) (q : Stage) (n : ℕ) (more : Bool) → conversion_finished c c.shape q n more ≡ Misses
+    → (c.optional ≡ true) × (takes_item (Conv c) ≡ true)
+misses_item c q n more e = grind arith
+
+empty_misses : (c : Conversion) (more : Bool) → empty_end c more ≡ Misses → c.optional ≡ true
+empty_misses c more e = grind arith
+
+number_given : (c : Conversion) (slot : ℕ) (v : Option ℤ) → number_end c slot v ≡ Misses → ⊥
+number_given c slot v e = grind arith
+
+stored_given : (c : Conversion) (slot : ℕ) (shape : Shape) (t : List ℕ) → stored_end c slot shape t ≡ Misses → ⊥
+stored_given c slot (Int numeral) t e = by (integer_at numeral t) e
+  where
+    by : (o : Option (Bool × ℕ)) → integer_end c slot o ≡ Misses → ⊥
+    by None e = cc
+    by (Some i) e = number_given c slot (value_of c.kind i.0 i.1) e
+stored_given c slot (Float lead) t e = by (real_at c.kind t) e
+  where
+    by : (o : Option real.Real) → real_end slot o ≡ Misses → ⊥
+    by None e = cc
+    by (Some r) e = cc
+stored_given c slot (Text lead) t e = cc
+stored_given c slot (Set members) t e = cc
+stored_given c slot Chars t e = cc
+stored_given c slot Count t e = cc
+
+passed_given : (c : Conversion) (slot : Option ℕ) (t : List ℕ) → passed_end c slot t ≡ Misses → ⊥
+passed_given c None t e = cc
+passed_given c (Some slot) t e = stored_given c slot c.shape t e
+
+-- a column that has a text gives it or fails
+text_given_only : (c : Conversion) (t : List ℕ) → text_end c t ≡ Misses → ⊥
+text_given_only c t e = by (fills c t) e
+  where
+    by : (v : Bool) → cond v (passed_end c c.slot t) (Fails MatchingFailure) ≡ Misses → ⊥
+    by true e = passed_given c c.slot t e
+    by false e = cc
+
+column_misses : (c : Conversion) (f : List ℕ) → column_end c f ≡ Misses → c.optional ≡ true
+column_misses c f e = by (are_white f) e
+  where
+    by : (v : Bool) → cond v (empty_end c true) (text_end c (column_text c f)) ≡ Misses → c.optional ≡ true
+    by true e = empty_misses c true e
+    by false e = absurd (text_given_only c (column_text c f) e)
+
+misses_column : (c : Conversion) (q : Stage) (more : Bool) → column_finished c q more ≡ Misses → c.optional ≡ true
+misses_column c Skipping more e = empty_misses c more e
+misses_column c Taken more e = absurd cc
+misses_column c (Item f) more e = column_misses c f e
+
+takes_by : (c : Conversion) (shape : Shape) → c.shape ≡ shape → IsColumned (Conv c) → c.column ≡ true → takes_item (Conv c) ≡ true
+takes_by c Count e sound column = absurd (subst TakesColumn e (sound column).1)
+takes_by c (Int numeral) e sound column = ap is_item e
+takes_by c (Text lead) e sound column = ap is_item e
+takes_by c (Set members) e sound column = ap is_item e
+takes_by c Chars e sound column = ap is_item e
+takes_by c (Float lead) e sound column = ap is_item e
+
+misses_by : (c : Conversion) → IsColumned (Conv c) → (v : Bool) → c.column ≡ v → (q : Stage) (n : ℕ) (more : Bool)
+    → finished_by v c q n more ≡ Misses → (c.optional ≡ true) × (takes_item (Conv c) ≡ true)
+misses_by c sound true column q n more e = (misses_column c q more e, takes_by c c.shape refl sound column)
+misses_by c sound false plain q n more e = misses_item c q n more e
+
+misses_only : (d : Directive) → IsColumned d → (q : Stage) (n : ℕ) (more : Bool) → finished d q n more ≡ Misses
     → (is_optional d ≡ true) × (takes_item d ≡ true)
-one_misses d q n [] e = misses_only d q n false e
-one_misses d q n (b ∷ x) e = by_option (λ p. p.end ≡ Misses → (is_optional d ≡ true) × (takes_item d ≡ true)) (stepped d q b) _ _
-    (misses_only d q n true) (λ r. one_misses d r (n + 1) x) e
+misses_only (Conv c) sound q n more e = misses_by c sound c.column refl q n more e
+misses_only Space sound q n more e = absurd cc
+misses_only (Byte b) sound q n more e = absurd (byte_given q more e)
+misses_only Percent sound q n more e = absurd (byte_given q more e)
+
+pub one_misses : (d : Directive) → IsColumned d → (q : Stage) (n : ℕ) (x : List ℕ) → (one_from d q n x).end ≡ Misses
+    → (is_optional d ≡ true) × (takes_item d ≡ true)
+one_misses d sound q n [] e = misses_only d sound q n false e
+one_misses d sound q n (b ∷ x) e = by_option (λ p. p.end ≡ Misses → (is_optional d ≡ true) × (takes_item d ≡ true)) (stepped d q b) _ _
+    (misses_only d sound q n true) (λ r. one_misses d sound r (n + 1) x) e
 
 abbrev one_if : Bool → ℕ
 one_if v = cond v 1 0
@@ -264,16 +369,16 @@ counting_on ds front rest left p d n missing old new taken at h begins w on =
 
 -- its item is missing
 pub counting_missing : (ds : List Directive) (front rest left : List ℕ) (p : ℕ) (d : Directive) (n : ℕ) (missing more : Missing)
-    (old new : Kept) (taken : ℕ) → slice_get ds p ≡ Some d → (h : Counted ds front rest p missing old)
+    (old new : Kept) (taken : ℕ) → IsColumned d → slice_get ds p ≡ Some d → (h : Counted ds front rest p missing old)
     → n ≡ length front - length rest → EndsIn d Skipping n rest taken Misses → new ≡ old → left ≡ drop taken rest
     → more.assigned ≡ missing.assigned + cond (is_some (slot_of d)) 1 0 → more.converted ≡ missing.converted + 1
     → Counted ds front left (p + 1) more new
-counting_missing ds front rest left p d n missing more old new taken at h begins takes same on assigned' converted' =
+counting_missing ds front rest left p d n missing more old new taken sound at h begins takes same on assigned' converted' =
     let t : code.Tally = h.tally in
     let u : code.Tally = record { used = t.used + taken; assigned = t.assigned; converted = t.converted } in
     let here : n ≡ t.used = begins ∙ sym (used_is ds front rest p missing old h) in
     let is : EndsIn d Skipping t.used rest taken Misses = subst (λ m. EndsIn d Skipping m rest taken Misses) here takes in
-    let item = (one_misses d Skipping t.used (rest ++ []) (ap (λ (q : Part). q.end) (is.takes []))).1 in
+    let item = (one_misses d sound Skipping t.used (rest ++ []) (ap (λ (q : Part). q.end) (is.takes []))).1 in
     let one : one_if (assigns_item d) ≡ one_if (is_some (slot_of d)) = ap one_if (assigns_taken d item) in
     let two : one_if (takes_item d) ≡ 1 = ap one_if item in
     let given = count_more assigns_item ds p d at in
@@ -295,17 +400,17 @@ counting_missing ds front rest left p d n missing more old new taken at h begins
 
 -- the same by how it ended
 pub counting : (ds : List Directive) (front rest left : List ℕ) (p : ℕ) (d : Directive) (n : ℕ) (missing : Missing) (old new : Kept)
-    (passage : Passage) → slice_get ds p ≡ Some d → Counted ds front rest p missing old
+    (passage : Passage) → IsColumned d → slice_get ds p ≡ Some d → Counted ds front rest p missing old
     → n ≡ length front - length rest → EndsSo d n rest passage old new → left ≡ drop passage.taken rest
     → (passage.end ≡ ends.Passes → Counted ds front left (p + 1) missing new)
     × ((more : Missing) → passage.end ≡ ends.Misses → more.assigned ≡ missing.assigned + cond (is_some (slot_of d)) 1 0
     → more.converted ≡ missing.converted + 1 → Counted ds front left (p + 1) more new)
-counting ds front rest left p d n missing old new passage at h begins w on = (
+counting ds front rest left p d n missing old new passage sound at h begins w on = (
   λ is. (let so : GivenSo ends.Passes d w.end old new = subst (λ how. GivenSo how d w.end old new) is w.gives in
       counting_on ds front rest left p d n missing old new passage.taken at h begins
       (so.0, record { end = w.end; takes = w.takes; gives = so.1; own = so.2 }) on),
   λ more is assigned converted. (let so : GivenSo ends.Misses d w.end old new = subst (λ how. GivenSo how d w.end old new) is w.gives in
-      counting_missing ds front rest left p d n missing more old new passage.taken at h begins
+      counting_missing ds front rest left p d n missing more old new passage.taken sound at h begins
       (subst (λ end. EndsIn d Skipping n rest passage.taken end) so.0 w.takes) so.1 on assigned converted),
 )
 
@@ -509,18 +614,18 @@ come_of ds all front rest p from place missing old kept new same is here used on
 
 -- the next directive has ended so
 pub come_on : (ds : List Directive) (front : List ℕ) (place next : Place) (d : Directive) (missing : Missing) (old new : Kept)
-    (passage : Passage) → slice_get ds (length ds - place.left) ≡ Some d → 0 < place.left → place.left ≤ length ds
+    (passage : Passage) → IsColumned d → slice_get ds (length ds - place.left) ≡ Some d → 0 < place.left → place.left ≤ length ds
     → place.used ≤ length front → HasCome ds front place missing old
     → EndsSo d place.used (drop place.used front) passage old new → next.left ≡ place.left - 1 → next.used ≡ place.used + passage.taken
     → (passage.end ≡ ends.Passes → HasCome ds front next missing new)
     × ((more : Missing) → passage.end ≡ ends.Misses → more.assigned ≡ missing.assigned + cond (is_some (slot_of d)) 1 0
     → more.converted ≡ missing.converted + 1 → HasCome ds front next more new)
-come_on ds front place next d missing old new passage at some most low h w left used =
+come_on ds front place next d missing old new passage sound at some most low h w left used =
     let on : drop next.used front ≡ drop passage.taken (drop place.used front) =
     ap (λ n. drop n front) used ∙ sym (drop-drop passage.taken place.used front) in
     let p : length ds - place.left + 1 ≡ length ds - next.left = omega (arith, some, most, left) in
     let both = counting ds front (drop place.used front) (drop next.used front) (length ds - place.left) d place.used missing old new
-    passage at h (after_place front place.used low) w on in (
+    passage sound at h (after_place front place.used low) w on in (
       λ is. subst (λ n. Counted ds front (drop next.used front) n missing new) p (both.0 is),
       λ more is assigned converted. subst (λ n. Counted ds front (drop next.used front) n more new) p (both.1 more is assigned converted),
     )

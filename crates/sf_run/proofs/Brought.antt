@@ -14,24 +14,32 @@ use Rattle.sf_item.proofs.Deciding.{tests_can_take}
 use Rattle.sf_report.specs.Machine.{Stage, Skipping, Item, shape_skips, item_stepped, stepped}
 use Rattle.sf_report.specs.Residual.{choose, stepped_all}
 use Rattle.sf_run.specs.Phases.{CanAll}
+use Rattle.sf_run.proofs.Columns.{stepped_plain}
 
 -- ---- the bytes of an item
 
-pub item_all : (c : Conversion) (f y : List ℕ) → CanAll c f y → stepped_all (Conv c) (Item f) y ≡ Some (Item (f ++ y))
-item_all c f [] can = ap (λ g. Some (Item g)) (sym (append-nil f))
-item_all c f (b ∷ y) can =
+pub item_all : (c : Conversion) → c.column ≡ false → (f y : List ℕ) → CanAll c f y
+    → stepped_all (Conv c) (Item f) y ≡ Some (Item (f ++ y))
+item_all c plain f [] can = ap (λ g. Some (Item g)) (sym (append-nil f))
+item_all c plain f (b ∷ y) can =
     let first : can_take c (f ++ b ∷ []) ≡ true = can 0 (omega arith) in
     let rest : CanAll c (f ++ b ∷ []) y = λ k below.
     let one : suc (k + 1) ≡ k + 1 + 1 = omega arith in
     ap (can_take c) (append_assoc f (b ∷ []) (take (k + 1) y)) ∙ ap (λ n. can_take c (f ++ take n (b ∷ y))) one
     ∙ can (k + 1) (omega (arith, below)) in
-    ap (λ v. choose (cond v (Some (Item (f ++ b ∷ []))) None) None (λ s. stepped_all (Conv c) s y)) first
-    ∙ item_all c (f ++ b ∷ []) y rest ∙ ap (λ g. Some (Item g)) (append_assoc f (b ∷ []) y)
+    let step : stepped (Conv c) (Item f) b ≡ Some (Item (f ++ b ∷ [])) =
+    stepped_plain c plain (Item f) b ∙ ap (λ v. cond v (Some (Item (f ++ b ∷ []))) None) first in
+    ap (λ (o : Option Stage). choose o None (λ s. stepped_all (Conv c) s y)) step
+    ∙ item_all c plain (f ++ b ∷ []) y rest ∙ ap (λ g. Some (Item g)) (append_assoc f (b ∷ []) y)
 
 -- the first byte is not skipped
-pub first_all : (c : Conversion) (b : ℕ) (y : List ℕ) → (shape_skips c.shape && is_white b) ≡ false → CanAll c [] (b ∷ y)
-    → stepped_all (Conv c) Skipping (b ∷ y) ≡ Some (Item (b ∷ y))
-first_all c b y ink can = grind (arith, (item_all c [] (b ∷ y) can))
+pub first_all : (c : Conversion) → c.column ≡ false → (b : ℕ) (y : List ℕ) → (shape_skips c.shape && is_white b) ≡ false
+    → CanAll c [] (b ∷ y) → stepped_all (Conv c) Skipping (b ∷ y) ≡ Some (Item (b ∷ y))
+first_all c plain b y ink can =
+    let first : stepped (Conv c) Skipping b ≡ stepped (Conv c) (Item []) b =
+    stepped_plain c plain Skipping b ∙ ap (λ v. cond v (Some Skipping) (item_stepped c [] b)) ink
+    ∙ sym (stepped_plain c plain (Item []) b) in
+    ap (λ (o : Option Stage). choose o None (λ s. stepped_all (Conv c) s y)) first ∙ item_all c plain [] (b ∷ y) can
 
 -- ---- what a scan shows of them
 
@@ -61,8 +69,9 @@ skips_all d (b ∷ piece) (suc n) within skips =
     ∙ skips_all d piece n (omega (arith, within)) (λ k below. let e : suc k ≡ k + 1 = omega arith in
     ap (λ j. stepped d Skipping (get_or (b ∷ piece) j 0)) e ∙ skips (k + 1) (omega (arith, below)))
 
-pub item_skips : (c : Conversion) (piece : List ℕ) (w : ℕ) → w ≤ length piece
+pub item_skips : (c : Conversion) → c.column ≡ false → (piece : List ℕ) (w : ℕ) → w ≤ length piece
     → ((k : ℕ) → k < w → (shape_skips c.shape && is_white (get_or piece k 0)) ≡ true)
     → stepped_all (Conv c) Skipping (take w piece) ≡ Some Skipping
-item_skips c piece w within white = skips_all (Conv c) piece w within
-    (λ k below. ap (λ v. cond v (Some Skipping) (item_stepped c [] (get_or piece k 0))) (white k below))
+item_skips c plain piece w within white = skips_all (Conv c) piece w within
+    (λ k below. stepped_plain c plain Skipping (get_or piece k 0)
+    ∙ ap (λ v. cond v (Some Skipping) (item_stepped c [] (get_or piece k 0))) (white k below))

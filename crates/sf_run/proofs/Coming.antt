@@ -1,6 +1,7 @@
 -- How far a run has come with the bytes that it consumed.
 use Rattle.std.proofs.Common.{◌≡◌, ℕ, suc, ◌+◌, ◌≤◌, Bool, true, false, cond, ◌&&◌, List, [], ◌∷◌, ◌++◌, length, take, drop, append_assoc}
-use Rattle.std.proofs.Common.{append-nil, length-append, length-drop, Option, Some, None, refl, sym, ap, ap₂, subst, ◌∙◌, arith, is_some}
+use Rattle.std.proofs.Common.{not, append-nil, length-append, length-drop, Option, Some, None, refl, sym, ap, ap₂, subst, ◌∙◌, arith}
+use Rattle.std.proofs.Common.{is_some}
 use Rattle.std.proofs.Common.{true≢false}
 use Rattle.std.specs.Prelude.{IsSome, slice_get}
 use Rattle.std.proofs.lemmas.List.{drop-append-le, drop-drop, drop_all, length-take-le, take-append-drop, take_all}
@@ -8,7 +9,10 @@ use Rattle.std.proofs.lemmas.List.Sums.{sum_by-append}
 use Rattle.std.proofs.Math.Seq.{take-add}
 use Rattle.sf_base.specs.Bytes.{is_white}
 use Rattle.sf_base.specs.stores.Kept.{Opened, text_of}
+use Rattle.sf_format.specs.declared.directive.Lead.{Lead}
+use Rattle.sf_format.specs.declared.directive.Lead.TheVariants.{Any, Minus, Nothing}
 use Rattle.sf_format.specs.declared.directive.Shape.{Shape}
+use Rattle.sf_format.specs.Leads.{is_strict_lead}
 use Rattle.sf_format.specs.declared.directive.Conversion.{Conversion}
 use Rattle.sf_format.specs.declared.directive.Directive.{Directive}
 use Rattle.sf_format.specs.declared.directive.Directive.TheVariants.{Space, Byte, Percent, Conv}
@@ -23,21 +27,22 @@ use Rattle.sf_report.specs.Steps.{StepEnd, Fails, Passes, Stores, Misses}
 use Rattle.sf_report.specs.Runs.{Ran, used}
 use Rattle.sf_report.specs.Limits.{IsCut}
 use Rattle.sf_report.specs.Machine.{Stage, Skipping, Item, item_stepped, shape_skips}
-use Rattle.sf_report.specs.Computed.{go_on, part_of, ran_of, skip, skip_before, step_of}
+use Rattle.sf_report.specs.Computed.{go_on, part_of, ran_of, skip, skip_under, skip_before, step_of}
 use Rattle.sf_report.specs.Residual.{Part, Tally, choose, one_from, stepped_all}
-use Rattle.sf_run.specs.Phases.{Brings, Shows, end_of, slot_in}
-use Rattle.sf_run.specs.Pieces.{IsEnd, item_of}
-use Rattle.sf_run.specs.Standing.{Advances, Comes, ComesBy, Ends, IsTextUnderWay, IsUnderWay, LedFirst, ShowsFirst, Standing, TakesAll}
-use Rattle.sf_run.specs.Standing.{text_begun}
+use Rattle.sf_run.specs.Phases.{Brings, Shows, end_of, slot_in, stage_of}
+use Rattle.sf_run.specs.Pieces.{IsEnd}
+use Rattle.sf_run.specs.Standing.{Advances, Comes, ComesBy, Ends, IsTextBy, IsTextUnderWay, IsUnderWay, LedFirst, ShowsFirst, Standing}
+use Rattle.sf_run.specs.Standing.{TakesAll, text_begun}
 use Rattle.sf_run.specs.Standing.{Passes as Passed}
-use Rattle.sf_run.specs.Texts.{IsNextSlot, opened_for, opened_with, text_slot}
+use Rattle.sf_run.specs.Texts.{IsNextSlot, closing_text, item_of, opened_for, opened_with, text_slot}
 use Rattle.sf_report.proofs.Joined.{all-append, one_from-all}
 use Rattle.sf_report.proofs.Machines.{some_is}
 use Rattle.sf_report.proofs.Ones.{one_made}
 use Rattle.sf_report.proofs.Openness.{counted-used}
 use Rattle.sf_report.proofs.RunLaws.{ran_at, steps_only}
 use Rattle.sf_report.proofs.StepLaws.{skip_before_is}
-use Rattle.sf_run.proofs.Moves.{Reaches, closing_text, drop_at, opened_grown, reaches_taken, shows_fresh}
+use Rattle.sf_run.proofs.Columns.{column_item, column_stage, stepped_plain}
+use Rattle.sf_run.proofs.Moves.{Reaches, closed_text, drop_at, opened_grown, reaches_taken, shows_fresh}
 use Rattle.sf_run.proofs.Pieces.{parted, same_part}
 
 -- what has come so far, by the fields
@@ -91,10 +96,10 @@ module _ (ds : List Directive) (p : ℕ) (d : Directive) (at : slice_get ds p �
   abbrev left : List ℕ
   left = drop (used h.before) x
 
-  showing : Shows d current h.stage × (opened ≡ opened_for (text_slot d) h.stage)
+  pub showing : Shows d current h.stage × (opened ≡ opened_for d h.stage)
   showing = subst (λ rest. ShowsFirst rest current opened h.stage) (drop_at ds p d at) h.shown
 
-  leading : stepped_all d Skipping left ≡ Some h.stage
+  pub leading : stepped_all d Skipping left ≡ Some h.stage
   leading = subst (λ rest. LedFirst rest left h.stage) (drop_at ds p d at) h.led
 
   size : used h.before + length left ≡ n
@@ -155,7 +160,7 @@ made_step d ds w l u k f is =
 pub passes_on : (ds : List Directive) (p : ℕ) (d : Directive) → slice_get ds p ≡ Some d
     → (current : Phase) (opened : Option Opened) (n : ℕ) (x y : List ℕ)
     → ComesBy ds p current opened n x y → (k : ℕ) (f : StepEnd) → ((status : Status) → f ≡ Fails status → ⊥) → k ≤ length y
-    → ((q : Stage) → Shows d current q → opened ≡ opened_for (text_slot d) q → (z : List ℕ)
+    → ((q : Stage) → Shows d current q → opened ≡ opened_for d q → (z : List ℕ)
     → one_from d q n (y ++ z) ≡ record { used = n + k; left = drop k y ++ z; end = f })
     → ComesBy ds (p + 1) phase.Skipping None (n + k) (x ++ take k y) (drop k y)
 passes_on ds p d at current opened n x y h k f ok within takes = record {
@@ -233,14 +238,14 @@ waits_advance new old d run m piece front item at waits is within all own takes 
 ends_advance : (new mid old : Standing) (d : Directive) (f : StepEnd) (y : List ℕ) (n : ℕ) → slice_get old.directives old.passed ≡ Some d
     → Reaches mid old → mid.tally.used ≡ old.tally.used + n → Ends new mid d f
     → n ≤ length y
-    → ((q : Stage) → Shows d old.phase q → old.opened ≡ opened_for (text_slot d) q → (z : List ℕ)
+    → ((q : Stage) → Shows d old.phase q → old.opened ≡ opened_for d q → (z : List ℕ)
     → one_from d q old.tally.used (y ++ z) ≡ record { used = old.tally.used + n; left = drop n y ++ z; end = f })
     → Advances new old y n
 unfolding Advances
 ends_advance new mid old d f y n at here used ends within takes x h still = by f ends takes
   where
     passes : (g : StepEnd) → ((status : Status) → g ≡ Fails status → ⊥) → Passed new mid d g
-        → ((q : Stage) → Shows d old.phase q → old.opened ≡ opened_for (text_slot d) q → (z : List ℕ)
+        → ((q : Stage) → Shows d old.phase q → old.opened ≡ opened_for d q → (z : List ℕ)
         → one_from d q old.tally.used (y ++ z) ≡ record { used = old.tally.used + n; left = drop n y ++ z; end = g })
         → Comes new (x ++ take n y) (drop n y)
     passes g ok passed takes =
@@ -250,7 +255,7 @@ ends_advance new mid old d f y n at here used ends within takes x h still = by f
         (passes_on old.directives old.passed d at old.phase old.opened old.tally.used x y h n g ok within takes)
 
     by : (g : StepEnd) → Ends new mid d g
-        → ((q : Stage) → Shows d old.phase q → old.opened ≡ opened_for (text_slot d) q → (z : List ℕ)
+        → ((q : Stage) → Shows d old.phase q → old.opened ≡ opened_for d q → (z : List ℕ)
         → one_from d q old.tally.used (y ++ z) ≡ record { used = old.tally.used + n; left = drop n y ++ z; end = g })
         → Comes new (x ++ take n y) (drop n y)
     by Passes ends takes = passes Passes (λ status e. cc) ends takes
@@ -261,21 +266,22 @@ ends_advance new mid old d f y n at here used ends within takes x h still = by f
 pub answer_advances : (new mid old : Standing) (d : Directive) (run : Run) (end : Finished) (front y : List ℕ)
     → slice_get old.directives old.passed ≡ Some d
     → TakesAll mid old run.phase (run.before + run.item) (opened_with (slot_in run.phase)
-    (take run.item (drop run.before front)) old.opened) → Ends new mid d (end_of (text_of mid.opened) end)
+    (take run.item (drop run.before front)) old.opened) → Ends new mid d (end_of (closing_text d (text_of mid.opened)) end)
     → IsNextSlot (text_slot d) (slot_in old.phase) (slot_in run.phase) → IsEnd d run.phase end → run.before + run.item ≤ length y
     → ((q : Stage) → Shows d old.phase q → (z : List ℕ)
     → one_from d q old.tally.used (y ++ z) ≡ record {
       used = old.tally.used + (run.before + run.item);
       left =
           drop (run.before + run.item) y ++ z;
-      end = end_of (item_of q ++ take run.item (drop run.before front)) end;
+      end = end_of (closing_text d (item_of d q ++ take run.item (drop run.before front))) end;
     })
     → Advances new old y (run.before + run.item)
 answer_advances new mid old d run end front y at takes ends next own within parts =
-    ends_advance new mid old d (end_of (text_of mid.opened) end) y (run.before + run.item) at (reaches_taken mid old run.phase _ _ takes)
+    ends_advance new mid old d (end_of (closing_text d (text_of mid.opened)) end) y (run.before + run.item) at (reaches_taken mid old
+    run.phase _ _ takes)
     (ap (λ (t : Tally). t.used) takes.tally) ends within
     (λ q shows is z. parts q shows z ∙ same_part refl refl
-    (sym (ap (λ o. end_of (text_of o) end) takes.opened ∙ closing_text d old.phase run.phase q old.opened
+    (sym (ap (λ o. end_of (closing_text d (text_of o)) end) takes.opened ∙ closed_text d old.phase run.phase q old.opened
     (take run.item (drop run.before front)) end shows is next own)))
 
 -- no byte was taken yet
@@ -307,38 +313,42 @@ advances_on old mid new y n k waits first second x h still =
 
 -- ---- the text under way
 
--- the stage after these bytes of an item
-abbrev stage_of : List ℕ → Stage
-stage_of [] = Skipping
-stage_of (b ∷ item) = Item (b ∷ item)
-
 abbrev skip_if : Bool → List ℕ → ℕ
 skip_if v y = cond v (skip y) 0
 
-skip_is_if : (shape : Shape) (y : List ℕ) → skip_before shape y ≡ skip_if (shape_skips shape) y
-skip_is_if shape y = grind arith
+under_is_if : (lead : Lead) (y : List ℕ) → skip_under lead y ≡ skip_if (not (is_strict_lead lead)) y
+under_is_if Any y = refl
+under_is_if Minus y = refl
+under_is_if Nothing y = refl
 
-item_stage : (c : Conversion) (f y : List ℕ) (q : Stage) → stepped_all (Conv c) (Item f) y ≡ Some q → q ≡ Item (f ++ y)
-item_stage c f [] q e = let same : Item f ≡ q = cc in sym same ∙ ap Item (sym (append-nil f))
-item_stage c f (b ∷ y) q e = by (can_take c (f ++ b ∷ [])) e (λ more. item_stage c (f ++ b ∷ []) y q more
-    ∙ ap Item (append_assoc f (b ∷ []) y))
+skip_is_if : (shape : Shape) (y : List ℕ) → skip_before shape y ≡ skip_if (shape_skips shape) y
+skip_is_if shape y = grind (arith, under_is_if)
+
+item_stage : (c : Conversion) → c.column ≡ false → (f y : List ℕ) (q : Stage) → stepped_all (Conv c) (Item f) y ≡ Some q
+    → q ≡ Item (f ++ y)
+item_stage c plain f [] q e = let same : Item f ≡ q = cc in sym same ∙ ap Item (sym (append-nil f))
+item_stage c plain f (b ∷ y) q e =
+    by (can_take c (f ++ b ∷ [])) (ap (λ (o : Option Stage). choose o None (λ r. stepped_all (Conv c) r y))
+    (sym (stepped_plain c plain (Item f) b)) ∙ e)
+    (λ more. item_stage c plain (f ++ b ∷ []) y q more ∙ ap Item (append_assoc f (b ∷ []) y))
   where
     by : (v : Bool) → choose (cond v (Some (Item (f ++ b ∷ []))) None) None (λ r. stepped_all (Conv c) r y) ≡ Some q
         → (stepped_all (Conv c) (Item (f ++ b ∷ [])) y ≡ Some q → q ≡ Item (f ++ b ∷ y)) → q ≡ Item (f ++ b ∷ y)
     by true e more = more e
     by false e more = absurd cc
 
-start_stage : (c : Conversion) (v : Bool) → shape_skips c.shape ≡ v → (y : List ℕ) (q : Stage) → stepped_all (Conv c) Skipping y ≡ Some q
-    → q ≡ stage_of (drop (skip_if v y) y)
-start_stage c v is [] q e = by v
+start_stage : (c : Conversion) → c.column ≡ false → (v : Bool) → shape_skips c.shape ≡ v → (y : List ℕ) (q : Stage)
+    → stepped_all (Conv c) Skipping y ≡ Some q → q ≡ stage_of (drop (skip_if v y) y)
+start_stage c plain v is [] q e = by v
   where
     by : (v : Bool) → q ≡ stage_of (drop (skip_if v []) [])
     by true = cc
     by false = cc
-start_stage c v is (b ∷ y) q e =
+start_stage c plain v is (b ∷ y) q e =
     by v (is_white b) (can_take c (b ∷ [])) (subst (λ t. choose (cond (t && is_white b) (Some Skipping) (item_stepped c [] b)) None
-    (λ r. stepped_all (Conv c) r y) ≡ Some q) is e)
-    (start_stage c v is y q) (item_stage c (b ∷ []) y q)
+    (λ r. stepped_all (Conv c) r y) ≡ Some q) is
+    (ap (λ (o : Option Stage). choose o None (λ r. stepped_all (Conv c) r y)) (sym (stepped_plain c plain Skipping b)) ∙ e))
+    (start_stage c plain v is y q) (item_stage c plain (b ∷ []) y q)
   where
     by : (v w k : Bool) → choose (cond (v && w) (Some Skipping) (cond k (Some (Item (b ∷ []))) None)) None (λ r. stepped_all (Conv c) r y)
         ≡ Some q
@@ -351,24 +361,31 @@ start_stage c v is (b ∷ y) q e =
     by true false false e skipping taking = absurd cc
     by false w false e skipping taking = absurd cc
 
-begun_is : (slot : Option ℕ) (item : List ℕ) → opened_for slot (stage_of item) ≡ text_begun slot item
-begun_is slot item = grind arith
+plain_item : (c : Conversion) → c.column ≡ false → (item : List ℕ) → item_of (Conv c) (stage_of item) ≡ item
+plain_item c plain [] = refl
+plain_item c plain (b ∷ item) = rw plain refl
 
-text_at : (d : Directive) (y : List ℕ) (q : Stage) → stepped_all d Skipping y ≡ Some q → IsTextUnderWay d y (opened_for (text_slot d) q)
-text_at Space y q led = refl
-text_at (Byte b) y q led = refl
-text_at Percent y q led = refl
-text_at (Conv c) y q led = (
+text_by : (c : Conversion) (v : Bool) → c.column ≡ v → (y : List ℕ) (q : Stage) → stepped_all (Conv c) Skipping y ≡ Some q
+    → IsTextBy v c y (opened_for (Conv c) q)
+text_by c true column y q led =
+    ap (opened_for (Conv c)) (column_stage c column [] y q led) ∙ ap (text_begun (text_slot (Conv c))) (column_item c column y)
+text_by c false plain y q led = (
   skip_before c.shape y,
   skip_before_is c.shape y,
-  ap (opened_for (text_slot (Conv c))) (start_stage c (shape_skips c.shape) refl y q led)
-      ∙ begun_is (text_slot (Conv c)) (drop (skip_if (shape_skips c.shape) y) y)
+  ap (opened_for (Conv c)) (start_stage c plain (shape_skips c.shape) refl y q led)
+      ∙ ap (text_begun (text_slot (Conv c))) (plain_item c plain (drop (skip_if (shape_skips c.shape) y) y))
       ∙ ap (λ n. text_begun (text_slot (Conv c)) (drop n y)) (sym (skip_is_if c.shape y)),
 )
 
+text_at : (d : Directive) (y : List ℕ) (q : Stage) → stepped_all d Skipping y ≡ Some q → IsTextUnderWay d y (opened_for d q)
+text_at Space y q led = refl
+text_at (Byte b) y q led = refl
+text_at Percent y q led = refl
+text_at (Conv c) y q led = text_by c c.column refl y q led
+
 -- ---- where it is cut off
 
-same_front : (a b : List Ran) (u v : List Ran) → length a ≡ length b → a ++ u ≡ b ++ v → a ≡ b
+pub same_front : (a b : List Ran) (u v : List Ran) → length a ≡ length b → a ++ u ≡ b ++ v → a ≡ b
 same_front [] [] u v e f = refl
 same_front [] (r ∷ b) u v e f = absurd (omega (arith, e))
 same_front (r ∷ a) [] u v e f = absurd (omega (arith, e))
@@ -392,7 +409,7 @@ module _ (ds : List Directive) (proper : AreProper ds) (p : ℕ) (d : Directive)
       same_front h.before before _ _ (omega (arith, c, count)) (sym (h.steps (b ∷ []))
       ∙ sym (steps_only ds proper (x ++ b ∷ []) 0 _ cut.steps))
 
-  shows : Shows d current h.stage × (opened ≡ opened_for (text_slot d) h.stage)
+  shows : Shows d current h.stage × (opened ≡ opened_for d h.stage)
   shows = showing ds p d at current opened n x [] h
 
   led : stepped_all d Skipping (drop (used h.before) x) ≡ Some h.stage

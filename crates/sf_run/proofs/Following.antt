@@ -6,6 +6,7 @@ use Rattle.sf_base.specs.Data.{Datum}
 use Rattle.sf_base.specs.stores.Kept.{Kept}
 use Rattle.sf_format.specs.declared.directive.Directive.{Directive}
 use Rattle.sf_format.specs.Proper.{AreProper}
+use Rattle.sf_run.specs.Texts.{AreSound}
 use Rattle.sf_report.specs.Limits.{RunWithin}
 use Rattle.sf_report.specs.Machine.{Skipping}
 use Rattle.sf_report.specs.Residual.{one_from}
@@ -26,21 +27,21 @@ written_as text d n piece run run' old room room' run_is room_is w =
     (subst (λ (y : List ℕ). PassesWriting text d n piece run.used old (take run.end y)) (sym room_is) w)
 
 -- the next directive of a run that is Done within the piece, and whose texts the room has, is surely written
-pub next_written : (text : Datum → List ℕ) (spare : ℕ) (ds all : List Directive) → ds ≡ all → AreProper ds → (limit most n : ℕ)
+pub next_written : (text : Datum → List ℕ) (spare : ℕ) (ds all : List Directive) → ds ≡ all → AreSound ds → (limit most n : ℕ)
     (piece front rest : List ℕ) (p : ℕ) (d : Directive) (kept : Kept) (capacity end : ℕ) (room : List ℕ) → slice_get ds p ≡ Some d
     → front ≡ take most piece → length front ≡ most → most ≡ min limit (length piece)
     → Counted ds front rest p (record { assigned = 0; converted = 0 }) kept
     → n ≡ length front - length rest → kept.room ≡ capacity → end ≤ length room → take end room ≡ texts_by text kept.values
     → (done : IsDoneWithin all limit piece capacity) → length (texts_by text done.report.values) + spare ≤ length room
     → (free : ℕ) × IsWrittenSurely text d n rest free × (end + free + spare ≤ length room)
-next_written text spare ds all same proper limit most n piece front rest p d kept capacity end room at is long least h begins roomy
+next_written text spare ds all same sound limit most n piece front rest p d kept capacity end room at is long least h begins roomy
     place written =
     subst (λ (l : List Directive). (done : IsDoneWithin l limit piece capacity)
     → length (texts_by text done.report.values) + spare ≤ length room
     → (free : ℕ) × IsWrittenSurely text d n rest free × (end + free + spare ≤ length room)) same (λ done fits.
-    let next = next_of ds proper limit most n piece front rest p d (record { assigned = 0; converted = 0 }) kept capacity at is long
+    let next = next_of ds sound.0 limit most n piece front rest p d (record { assigned = 0; converted = 0 }) kept capacity at is long
     least h begins (omega (arith, roomy)) (ended_of done) in
-    let passes = next_passes ds proper limit most n piece front rest p d kept capacity at is h begins done in
+    let passes = next_passes ds sound limit most n piece front rest p d kept capacity at is h begins done in
     let after : List ℕ = drop most piece in
     let whole : length (take end room) ≡ end = length-take-le end room place in
     let texts : length (take end room) ≡ length (texts_by text kept.values) = ap length written in

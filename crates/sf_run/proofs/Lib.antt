@@ -17,9 +17,11 @@ pub use Rattle.sf_report.proofs.Values
 pub use Rattle.sf_report.proofs.HaveRows
 -- of what makes one
 pub mod FloatTexts
+pub mod Columns
 pub mod Stages
 pub mod Brought
 pub mod Pieces
+pub mod ColumnAnswers
 pub mod Moves
 pub mod RowsLeft
 pub mod Coming
@@ -30,5 +32,8 @@ pub mod TwoStores
 pub mod AtOnce
 pub mod Surely
 pub mod Writing
+pub mod WholeColumns
+pub mod ColumnNumbers
+pub mod StrictRows
 pub mod Following
 pub mod Ordered

@@ -1,15 +1,16 @@
 -- How the rest of a run changes with each move of the scanner.
 use Rattle.std.proofs.lemmas.Grind.{common_steps}
-use Rattle.std.proofs.Common.{◌≡◌, ℕ, ◌+◌, ◌≤◌, ◌<◌, Bool, true, false, cond, ltb, List, [], ◌∷◌, ◌++◌, length, take, drop, get_or}
-use Rattle.std.proofs.Common.{append_assoc, length-append, Option, Some, None, is_some, inl, inr, refl, sym, ap, subst, ◌∙◌, arith}
+use Rattle.std.proofs.Common.{◌≡◌, ℕ, ◌+◌, ◌≤◌, ◌<◌, Bool, true, false, cond, ltb, List, [], ◌∷◌, ◌++◌, length, take, drop}
+use Rattle.std.proofs.Common.{length-append, Option, Some, None, is_some, inl, inr, refl, sym, ap, subst, ◌∙◌, arith}
 use Rattle.std.specs.Prelude.{slice_get, IfNone, IsSome}
 use Rattle.std.specs.List.{AllByRecursion}
 use Rattle.std.proofs.lemmas.Option.{slice_get_within, slice_get_cases, get_or_from_slice_get}
-use Rattle.std.proofs.lemmas.List.{drop_more, drop_all, take-append-drop, length-take-le}
+use Rattle.std.proofs.lemmas.List.{drop_more, drop_all, length-take-le}
 use Rattle.std.proofs.lemmas.Bool.{lt-ltb}
 use Rattle.sf_base.specs.stores.Kept.{Opened, text_of}
 use Rattle.sf_format.specs.declared.directive.Directive.{Directive}
-use Rattle.sf_format.specs.Proper.{IsProper, AreProper, destinations_of}
+use Rattle.sf_format.specs.Proper.{IsAccepted, IsColumned, IsProper, AreColumned, AreProper, destinations_of}
+use Rattle.sf_item.specs.declared.item.ItemScan.{ItemScan}
 use Rattle.sf_run.specs.declared.directive.Finished.{Finished}
 use Rattle.sf_run.specs.declared.directive.Phase.{Phase}
 use Rattle.sf_run.specs.declared.directive.Phase.TheVariants as phase
@@ -20,17 +21,19 @@ use Rattle.sf_run.specs.declared.scanner.Stop.{Stop}
 use Rattle.sf_report.specs.Steps.{StepEnd, Passes, Stores, Misses, Fails}
 use Rattle.sf_report.specs.Runs.{RunReport}
 use Rattle.sf_report.specs.Machine.{Stage, Skipping, stepped, finished}
-use Rattle.sf_run.specs.Phases.{Shows, GrowsBy, Brings, end_of, slot_in}
-use Rattle.sf_run.specs.Pieces.{IsEnd, item_of}
+use Rattle.sf_run.specs.Phases.{Shows, ShowsItem, GrowsBy, Brings, end_of, is_failing, slot_closed, slot_in}
+use Rattle.sf_run.specs.Pieces.{IsEnd}
 use Rattle.sf_run.specs.Places.{is_destination, places_left}
 use Rattle.sf_report.specs.Residual.{Tally, stepped_all, one_from, with_used, counted, out_of, by_end, run_of, run_from}
 use Rattle.sf_run.specs.Stopping.{is_no_memory}
-use Rattle.sf_run.specs.Standing.{Standing, ShowsFirst, DoesBy, Does, Ends, Follows, Keeps, Stops, TakesAll, Refuses, RefusesIn, RunsOut}
+use Rattle.sf_run.specs.Standing.{Standing, ShowsFirst, DoesBy, Does, Ends, Follows, Keeps, Stops, TakesAll, Refuses, RefusesIn}
 use Rattle.sf_run.specs.Standing.{Passes as Passed}
-use Rattle.sf_run.specs.Texts.{IsNextSlot, StoresByte, text_slot, opened_for, opened_with}
+use Rattle.sf_run.specs.Texts.{AreSound, IsNextSlot, IsSound, closing_text, item_of, opened_for, opened_slot, opened_with}
+use Rattle.sf_run.specs.Texts.{text_begun, text_slot, text_taken}
 use Rattle.sf_report.proofs.Openness.{counted-used}
 use Rattle.sf_report.proofs.Machines.{grows}
 use Rattle.sf_report.proofs.Joined.{one_from-all}
+use Rattle.sf_run.proofs.Columns.{none_begun, some_begun}
 use Rattle.sf_run.proofs.Pieces.{parted, same_part}
 
 -- ---- the directive at a place
@@ -44,6 +47,17 @@ all_behind P xs i h = grind (arith, common_steps)
 
 pub proper_at : (ds : List Directive) (p : ℕ) (d : Directive) → AreProper ds → slice_get ds p ≡ Some d → IsProper d
 proper_at ds p d h at = grind (arith, drop_at, all_behind)
+
+columned_at : (ds : List Directive) (p : ℕ) (d : Directive) → AreColumned ds → slice_get ds p ≡ Some d → IsColumned d
+columned_at ds p d h at =
+    (subst (λ (l : List Directive). AreColumned l) (drop_at ds p d at) (all_behind IsColumned ds p h)).0
+
+-- the directives of an accepted format are sound
+pub sound_of : (ds all : List Directive) → ds ≡ all → AreProper ds → IsAccepted all → AreSound ds
+sound_of ds all same proper accepted = (proper, subst (λ (l : List Directive). AreColumned l) (sym same) accepted.columns)
+
+pub sound_at : (ds : List Directive) (p : ℕ) (d : Directive) → AreSound ds → slice_get ds p ≡ Some d → IsSound d
+sound_at ds p d h at = (proper_at ds p d h.0 at, columned_at ds p d h.1 at)
 
 -- ---- places
 
@@ -87,7 +101,7 @@ module _ (ds : List Directive) (p : ℕ) (d : Directive) (at : slice_get ds p �
     (t : Tally) (k : ℕ) (y : List ℕ)
     (report : RunReport) (does : DoesBy None ds p current opened t k y report) where
   -- the stage that the phase shows
-  pub shows : Shows d current does.0 × (opened ≡ opened_for (text_slot d) does.0)
+  pub shows : Shows d current does.0 × (opened ≡ opened_for d does.0)
   shows = subst (λ rest. ShowsFirst rest current opened does.0) (drop_at ds p d at) does.1
 
   went : report ≡ run_from (Some k) (d ∷ drop (p + 1) ds) does.0 (p + 1) t y
@@ -97,7 +111,7 @@ module _ (ds : List Directive) (p : ℕ) (d : Directive) (at : slice_get ds p �
   too_long more = went ∙ over_limit k d (drop (p + 1) ds) does.0 (p + 1) t y (more does.0 shows.0)
 
   module _ (u : Tally) (z : List ℕ) (f : StepEnd) (within : u.used ≤ k) (same : u ≡ with_used u.used t)
-      (takes : (q : Stage) → Shows d current q → opened ≡ opened_for (text_slot d) q
+      (takes : (q : Stage) → Shows d current q → opened ≡ opened_for d q
       → one_from d q t.used y ≡ record { used = u.used; left = z; end = f }) where
     ended : report ≡ by_end f (run_of (Some k) (drop (p + 1) ds) (p + 1 + 1) (counted d f u) z) (λ status. out_of status (p + 1) u)
     ended = went ∙ ended_part k d (drop (p + 1) ds) does.0 (p + 1) t u y z f within same (takes does.0 shows.0 shows.1)
@@ -151,11 +165,39 @@ passed_limit k ds p d q r t b z at e full =
     let over : ltb k (one_from d r (t.used + 1) z).used ≡ true = lt-ltb _ _ (omega (arith, full, grows d r (t.used + 1) z)) in
     rw (drop_at ds p d at, e, over, ← full) refl
 
+-- the text of an item that has begun
+item_begun : (d : Directive) (slot : Option ℕ) (scan : ItemScan) (q : Stage) → ShowsItem d slot scan q
+    → opened_slot (opened_for d q) ≡ slot
+item_begun d slot scan q shows =
+    ap (λ r. opened_slot (text_begun (text_slot d) (item_of d r))) shows.stage
+    ∙ ap (λ v. opened_slot (text_begun (text_slot d) (text_taken v shows.item))) shows.plain
+    ∙ some_begun (text_slot d) shows.item shows.begun ∙ shows.text
+
+-- the phase has the slot of the text at each stage that it shows
+pub shown_slot : (d : Directive) (p : Phase) (q : Stage) → Shows d p q → opened_slot (opened_for d q) ≡ slot_in p
+shown_slot d phase.Skipping q shows =
+    ap (λ r. opened_slot (text_begun (text_slot d) (item_of d r))) shows ∙ none_begun (text_slot d)
+shown_slot d (phase.Item scan) q shows = item_begun d None scan q shows
+shown_slot d (phase.Text slot scan) q shows = item_begun d (Some slot) scan q shows
+shown_slot d (phase.Column slot scan) q shows = shows.text
+
+begun_more : (slot : Option ℕ) (t g : List ℕ)
+    → opened_with (opened_slot (text_begun slot (t ++ g))) g (text_begun slot t) ≡ text_begun slot (t ++ g)
+begun_more None t g = refl
+begun_more (Some n) [] [] = refl
+begun_more (Some n) [] (b ∷ g) = refl
+begun_more (Some n) (x ∷ t) g = refl
+
 -- what was opened is that of the stage that the bytes of the item lead to
-pub opened_grown : (d : Directive) (p : Phase) (q r : Stage) (g : List ℕ) (opened : Option Opened) → Shows d p r → GrowsBy q g r
-    → opened ≡ opened_for (text_slot d) q
-    → opened_with (slot_in p) g opened ≡ opened_for (text_slot d) r
-opened_grown d p q r g opened showing grown is = grind arith
+pub opened_grown : (d : Directive) (p : Phase) (q r : Stage) (g : List ℕ) (opened : Option Opened) → Shows d p r → GrowsBy d q g r
+    → opened ≡ opened_for d q
+    → opened_with (slot_in p) g opened ≡ opened_for d r
+opened_grown d p q r g opened showing grown is =
+    let slot : slot_in p ≡ opened_slot (text_begun (text_slot d) (item_of d q ++ g)) =
+    sym (shown_slot d p r showing) ∙ ap (λ t. opened_slot (text_begun (text_slot d) t)) grown in
+    ap (λ o. opened_with o g opened) slot
+    ∙ ap (opened_with (opened_slot (text_begun (text_slot d) (item_of d q ++ g))) g) is
+    ∙ begun_more (text_slot d) (item_of d q) g ∙ ap (text_begun (text_slot d)) (sym grown)
 
 pub took_all : (k : ℕ) (ds : List Directive) (p : ℕ) (d : Directive) (q r : Stage) (t : Tally) (y z : List ℕ) → slice_get ds p ≡ Some d
     → stepped_all d q y ≡ Some r
@@ -170,7 +212,7 @@ pub takes_all_follows : (new old : Standing) (d : Directive) (n : ℕ) (y g : Li
 takes_all_follows new old d n y g p at waits long takes brings z k report low high does =
     let own : DoesBy None old.directives old.passed old.phase old.opened old.tally k (y ++ z) report =
     waiting old k (y ++ z) report waits does in
-    let here : Shows d old.phase own.0 × (old.opened ≡ opened_for (text_slot d) own.0) =
+    let here : Shows d old.phase own.0 × (old.opened ≡ opened_for d own.0) =
     subst (λ rest. ShowsFirst rest old.phase old.opened own.0) (drop_at old.directives old.passed d at) own.1 in
     let b = brings own.0 here.0 in
     same_does new None old.directives old.passed p (opened_with (slot_in p) g old.opened)
@@ -219,7 +261,7 @@ reaches_taken new old p n text takes = record {
 passes_follows : (new mid old : Standing) (d : Directive) (f : StepEnd) (y z : List ℕ) → slice_get old.directives old.passed ≡ Some d
     → old.ended ≡ None → Reaches mid old → Passed new mid d f
     → ((status : Status) → f ≡ Fails status → ⊥)
-    → ((q : Stage) → Shows d old.phase q → old.opened ≡ opened_for (text_slot d) q
+    → ((q : Stage) → Shows d old.phase q → old.opened ≡ opened_for d q
     → one_from d q old.tally.used y ≡ record { used = mid.tally.used; left = z; end = f }) → Follows new old z y
 passes_follows new mid old d f y z at waits here passes ok takes k report low high does =
     let u : new.tally.used ≡ mid.tally.used = ap (λ (t : Tally). t.used) passes.tally ∙ counted-used d f mid.tally in
@@ -233,7 +275,7 @@ passes_follows new mid old d f y z at waits here passes ok takes k report low hi
 fails_follows : (new mid old : Standing) (d : Directive) (status : Status) (y z : List ℕ) → slice_get old.directives old.passed ≡ Some d
     → old.ended ≡ None → Reaches mid old
     → Stops new mid (record { status = status; at = mid.passed + 1 })
-    → ((q : Stage) → Shows d old.phase q → old.opened ≡ opened_for (text_slot d) q
+    → ((q : Stage) → Shows d old.phase q → old.opened ≡ opened_for d q
     → one_from d q old.tally.used y ≡ record { used = mid.tally.used; left = z; end = Fails status })
     → Follows new old z y
 fails_follows new mid old d status y z at waits here stops takes k report low high does =
@@ -246,7 +288,7 @@ fails_follows new mid old d status y z at waits here stops takes k report low hi
 -- the directive has ended after some bytes, as it does on y
 pub ends_follows : (new mid old : Standing) (d : Directive) (f : StepEnd) (y z : List ℕ) → slice_get old.directives old.passed ≡ Some d
     → old.ended ≡ None → Reaches mid old → Ends new mid d f
-    → ((q : Stage) → Shows d old.phase q → old.opened ≡ opened_for (text_slot d) q
+    → ((q : Stage) → Shows d old.phase q → old.opened ≡ opened_for d q
     → one_from d q old.tally.used y ≡ record { used = mid.tally.used; left = z; end = f }) → Follows new old z y
 ends_follows new mid old d Passes y z at waits here ends takes =
     passes_follows new mid old d Passes y z at waits here ends (λ status e. cc) takes
@@ -259,7 +301,7 @@ ends_follows new mid old d (Fails status) y z at waits here ends takes = fails_f
 -- where nothing follows
 pub last_follows : (new old : Standing) (d : Directive) (f : StepEnd) → slice_get old.directives old.passed ≡ Some d → old.ended ≡ None
     → Ends new old d f
-    → ((q : Stage) → Shows d old.phase q → old.opened ≡ opened_for (text_slot d) q → f ≡ finished d q old.tally.used false)
+    → ((q : Stage) → Shows d old.phase q → old.opened ≡ opened_for d q → f ≡ finished d q old.tally.used false)
     → Follows new old [] []
 last_follows new old d f at waits ends is =
     ends_follows new old old d f [] [] at waits (record {
@@ -272,30 +314,65 @@ last_follows new old d f at waits ends is =
     (λ q shows opened. ap (λ (e : StepEnd). record { used = old.tally.used; left = []; end = e }) (sym (is q shows opened)))
 
 -- what closes the text under way closes the whole item
-pub closing_text : (d : Directive) (current new : Phase) (q : Stage) (opened : Option Opened) (g : List ℕ) (end : Finished)
-    → Shows d current q → opened ≡ opened_for (text_slot d) q
+-- how a directive ends that closes no text, whichever is under way
+same_end : (t u : List ℕ) (end : Finished) → slot_closed end ≡ None → end_of t end ≡ end_of u end
+same_end t u end none = grind arith
+
+failing_end : (t u : List ℕ) (end : Finished) → is_failing end ≡ true → end_of t end ≡ end_of u end
+failing_end t u end fails = grind arith
+
+unclosed_end : (d : Directive) (p : Phase) (t u : List ℕ) (end : Finished) → slot_in p ≡ None → IsEnd d p end
+    → end_of t end ≡ end_of u end
+unclosed_end d p t u end none own = by (is_failing end) refl
+  where
+    by : (v : Bool) → is_failing end ≡ v → end_of t end ≡ end_of u end
+    by true fails = failing_end t u end fails
+    by false ok = same_end t u end (sym (own.text ok) ∙ none)
+
+-- the text under way, with the bytes that it is given, is that of the directive
+next_text : (text current new : Option ℕ) (t g : List ℕ) (n : ℕ) → new ≡ Some n → IsNextSlot text current new
+    → opened_slot (text_begun text t) ≡ current → text_of (opened_with new g (text_begun text t)) ≡ t ++ g
+next_text text current (Some n) [] g m is next slot = begun_text text
+  where
+    begun_text : (o : Option ℕ) → text_of (opened_with (Some n) g (text_begun o [])) ≡ g
+    begun_text None = refl
+    begun_text (Some k) = refl
+next_text None None (Some n) (b ∷ t) g m is next slot = absurd cc
+next_text None (Some k) (Some n) (b ∷ t) g m is next slot = absurd cc
+next_text (Some k) current (Some n) (b ∷ t) g m is next slot = refl
+next_text text current None t g m is next slot = absurd cc
+
+pub closed_text : (d : Directive) (current new : Phase) (q : Stage) (opened : Option Opened) (g : List ℕ) (end : Finished)
+    → Shows d current q → opened ≡ opened_for d q
     → IsNextSlot (text_slot d) (slot_in current) (slot_in new) → IsEnd d new end
-    → end_of (text_of (opened_with (slot_in new) g opened)) end ≡ end_of (item_of q ++ g) end
-closing_text d current new q opened g end shows is next own = grind arith
+    → end_of (closing_text d (text_of (opened_with (slot_in new) g opened))) end ≡ end_of (closing_text d (item_of d q ++ g)) end
+closed_text d current new q opened g end shows is next own = by (slot_in new) refl
+  where
+    by : (o : Option ℕ) → slot_in new ≡ o
+        → end_of (closing_text d (text_of (opened_with (slot_in new) g opened))) end ≡ end_of (closing_text d (item_of d q ++ g)) end
+    by None e = unclosed_end d new _ _ end e own
+    by (Some n) e = ap (λ t. end_of (closing_text d t) end) (ap (λ o. text_of (opened_with (slot_in new) g o)) is
+        ∙ next_text (text_slot d) (slot_in current) (slot_in new) (item_of d q) g n e next (shown_slot d current q shows))
 
 -- the directive under way has ended within the piece
 pub answer_follows : (new mid old : Standing) (d : Directive) (run : Run) (end : Finished) (front : List ℕ) (y z : List ℕ)
     → slice_get old.directives old.passed ≡ Some d → old.ended ≡ None
     → TakesAll mid old run.phase (run.before + run.item) (opened_with (slot_in run.phase)
-    (take run.item (drop run.before front)) old.opened) → Ends new mid d (end_of (text_of mid.opened) end)
+    (take run.item (drop run.before front)) old.opened) → Ends new mid d (end_of (closing_text d (text_of mid.opened)) end)
     → IsNextSlot (text_slot d) (slot_in old.phase) (slot_in run.phase) → IsEnd d run.phase end
     → ((q : Stage) → Shows d old.phase q
     → one_from d q old.tally.used y ≡ record {
       used = old.tally.used + (run.before + run.item);
       left = z;
       end =
-          end_of (item_of q ++ take run.item (drop run.before front)) end;
+          end_of (closing_text d (item_of d q ++ take run.item (drop run.before front))) end;
     })
     → Follows new old z y
 answer_follows new mid old d run end front y z at waits takes ends next own parts =
-    ends_follows new mid old d (end_of (text_of mid.opened) end) y z at waits (reaches_taken mid old run.phase _ _ takes) ends
+    ends_follows new mid old d (end_of (closing_text d (text_of mid.opened)) end) y z at waits
+    (reaches_taken mid old run.phase _ _ takes) ends
     (λ q shows is. parts q shows ∙ same_part (sym (ap (λ (t : Tally). t.used) takes.tally)) refl
-    (sym (ap (λ o. end_of (text_of o) end) takes.opened ∙ closing_text d old.phase run.phase q old.opened
+    (sym (ap (λ o. end_of (closing_text d (text_of o)) end) takes.opened ∙ closed_text d old.phase run.phase q old.opened
     (take run.item (drop run.before front)) end shows is next own)))
 
 -- ---- the limit, and memory that is refused
@@ -311,46 +388,6 @@ limit_follows new old d at waits stops full y more k report low high does =
     (too_long old.directives old.passed d at old.phase old.opened old.tally k y report (waiting old k y report waits does)
     (λ q shows. let h = more q shows in omega (arith, same, h))
     ∙ ap (λ m. out_of TooLong (old.passed + 1) (with_used m old.tally)) same ∙ ap (out_of TooLong (old.passed + 1)) (sym stops.tally))
-
--- the storing of a byte of the item was refused
-pub runs_out_refuses : (new old : Standing) (d : Directive) (before item : ℕ) (piece : List ℕ)
-    → slice_get old.directives old.passed ≡ Some d → old.ended ≡ None → RunsOut new old before item
-    → before + item ≤ length piece → old.tally.used + (before + item) ≤ old.limit
-    → ((q : Stage) → Shows d old.phase q → (z : List ℕ) → old.tally.used + (before + item)
-    ≤ (one_from d q old.tally.used (piece ++ z)).used)
-    → ((q : Stage) → Shows d old.phase q → (j : ℕ) → j < item → StoresByte d (get_or piece (before + j) 0)) → RefusesIn new old piece
-runs_out_refuses new old d before item piece at waits r within limit uses stores = record {
-  front = take i piece;
-  byte = get_or piece i 0;
-  rest = drop (i + 1) piece;
-  whole = sym (take-append-drop i piece) ∙ ap (λ (l : List ℕ). take i piece ++ l) (drop_more piece i 0 below);
-  used = used ∙ ap (λ n. old.tally.used + n) (sym (length-take-le i piece (omega (arith, below))));
-  refuses = λ z. record {
-    at = old.passed;
-    directive = d;
-    under_way = ap (λ ds. slice_get ds old.passed) r.keeps.directives ∙ at;
-    ended = r.ended;
-    below = (let l = r.keeps.limit in let s = r.short in let u = used in omega (arith, limit, l, s, u));
-    cut = λ report does.
-        let own : DoesBy None old.directives old.passed old.phase old.opened old.tally new.tally.used (piece ++ z) report =
-        waiting old new.tally.used (piece ++ z) report waits does in
-        let here = shows old.directives old.passed d at old.phase old.opened old.tally new.tally.used (piece ++ z) report own in (
-          stores own.0 here.0 r.stored r.short,
-          too_long old.directives old.passed d at old.phase old.opened old.tally new.tally.used (piece ++ z) report own
-              (λ q showing. let all = uses q showing z in let s = r.short in let u = used in omega (arith, all, s, u))
-              ∙ ap (λ n. out_of TooLong (old.passed + 1) (with_used n old.tally)) used ∙ ap (out_of TooLong (old.passed + 1)) (sym r.tally),
-        );
-  };
-}
-  where
-    i : ℕ
-    i = before + r.stored
-
-    used : new.tally.used ≡ old.tally.used + i
-    used = ap (λ (t : Tally). t.used) r.tally
-
-    below : i < length piece
-    below = (let s = r.short in omega (arith, s, within))
 
 -- every directive has passed
 pub done_follows : (new old : Standing) → slice_get old.directives old.passed ≡ None → old.ended ≡ None
@@ -380,27 +417,19 @@ pub follows_on : (old mid new : Standing) (x y z : List ℕ) → mid.tally.used 
 follows_on old mid new x y z more same first second = grind arith
 
 -- one that is refused after others
-pub refuses_on : (old mid new : Standing) (b : ℕ) (y z : List ℕ) → mid.tally.used ≤ new.tally.used → new.limit ≡ old.limit
-    → Follows mid old y z → Refuses new mid b y → Refuses new old b z
-refuses_on old mid new b y z more same first r = grind arith
+pub refuses_on : (old mid new : Standing) (at : ℕ) (d : Directive) (b : ℕ) (y z : List ℕ) → mid.tally.used ≤ new.tally.used
+    → new.limit ≡ old.limit → Follows mid old y z → Refuses new mid at d b y → Refuses new old at d b z
+refuses_on old mid new at d b y z more same first r = record {
+  under_way = r.under_way;
+  ended = r.ended;
+  below = r.below;
+  cut = λ report does. (let low = r.below in r.cut report (first new.tally.used report more (omega (arith, low, same)) does));
+}
 
 -- of no byte none is refused
 pub none_refused : (new old : Standing) (xs : List ℕ) → length xs ≡ 0 → (is_no_memory new.ended ≡ true → RefusesIn new old xs)
     → is_no_memory new.ended ≡ false
 none_refused new old xs none h = grind (arith, length-append)
-
--- a byte that is refused after the first of a piece
-pub refused_behind : (old mid new : Standing) (xs : List ℕ) (i : ℕ) → i ≤ length xs → new.limit ≡ old.limit
-    → mid.tally.used ≡ old.tally.used + i → ((z : List ℕ) → Follows mid old (drop i xs ++ z) (xs ++ z))
-    → RefusesIn new mid (drop i xs) → RefusesIn new old xs
-refused_behind old mid new xs i within limit used first w = record {
-  front = take i xs ++ w.front;
-  byte = w.byte;
-  rest = w.rest;
-  whole = sym (take-append-drop i xs) ∙ ap (λ l. take i xs ++ l) w.whole ∙ sym (append_assoc (take i xs) w.front (w.byte ∷ w.rest));
-  used = grind (arith, length-append, length-take-le);
-  refuses = λ z. grind (arith, refuses_on);
-}
 
 -- an ended one does the same whatever follows
 pub ended_does : (s : Standing) (k : ℕ) (y z : List ℕ) (report : RunReport) → IsSome s.ended → Does s k y report → Does s k z report

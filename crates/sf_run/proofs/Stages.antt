@@ -1,21 +1,25 @@
 -- What the phases of the code show of a directive's stage.
 use Rattle.std.proofs.lemmas.Bool.{false_from_ne_true}
-use Rattle.std.proofs.lemmas.Grind.{common_steps}
 use Rattle.std.proofs.Common.{◌≡◌, ℕ, ◌<◌, Bool, true, false, cond, nat_eq, List, [], ◌∷◌, ◌++◌, Option, Some, None, refl, sym, ap, subst}
 use Rattle.std.proofs.Common.{◌∙◌, arith, lit<, true≢false}
-use Rattle.std.specs.Prelude.{IsTrue, ◌≢◌, ◌↔◌}
+use Rattle.std.specs.Prelude.{IsTrue, is_some, ◌≢◌, ◌↔◌}
+use Rattle.sf_format.specs.declared.layout.Way.{Way}
+use Rattle.sf_format.specs.declared.layout.Way.TheVariants as ways
+use Rattle.sf_format.specs.Layout.{way_placed}
 use Rattle.sf_base.specs.Data.{Bytes, value_of}
 use Rattle.sf_base.specs.declared.values.Kind.{Kind}
+use Rattle.sf_format.specs.declared.directive.Lead.{Lead}
+use Rattle.sf_format.specs.declared.directive.Numeral.{Numeral}
 use Rattle.sf_format.specs.declared.directive.Shape.{Shape}
 use Rattle.sf_format.specs.declared.directive.Shape.TheVariants.{Int, Text, Set, Chars, Float, Count}
 use Rattle.sf_format.specs.declared.directive.Conversion.{Conversion}
 use Rattle.sf_format.specs.declared.directive.Directive.{Directive}
 use Rattle.sf_format.specs.declared.directive.Directive.TheVariants.{Space, Byte, Percent, Conv}
-use Rattle.sf_format.specs.Proper.{IsProper, IsProperShape}
-use Rattle.sf_item.specs.Matching.{Matches, ShapeMatches}
+use Rattle.sf_format.specs.Proper.{IsColumned, IsProper, IsProperShape, TakesColumn}
+use Rattle.sf_item.specs.Matching.{IsInteger, Matches, ShapeMatches}
 use Rattle.sf_item.specs.Scan.{HoldsNumber}
 use Rattle.sf_item.specs.Taking.{CanTake, HasTaken, conversion_of, Ends}
-use Rattle.sf_item.specs.Tests.{can_take}
+use Rattle.sf_item.specs.Tests.{can_take, integer_at}
 use Rattle.sf_item.proofs.Fronts.{HasItem}
 use Rattle.sf_item.specs.declared.item.ItemScan.{ItemScan}
 use Rattle.sf_item.specs.declared.item.ItemEnd.{ItemEnd}
@@ -24,11 +28,12 @@ use Rattle.sf_item.proofs.Deciding.{Tests, tests_same, tests_can_take, tests_mat
 use Rattle.sf_report.specs.declared.outcome.Status.TheVariants.{MatchingFailure}
 use Rattle.sf_report.specs.Steps.{Passes, Stores, Fails}
 use Rattle.sf_run.specs.Pieces.{IsTextShape}
-use Rattle.sf_run.specs.Texts.{text_slot, slot_of_text, is_count, counts_bytes}
+use Rattle.sf_run.specs.Texts.{is_column, text_slot, slot_of_text, is_count, counts_bytes}
 use Rattle.sf_report.specs.Machine.{Stage, Skipping, Taken, Item, stepped, is_full, count_end, integer_end, stored_end, passed_end}
 use Rattle.sf_report.specs.Machine.{item_end, item_finished, conversion_finished, real_at, real_end}
 use Rattle.sf_run.specs.Phases.{ShowsItem, passed_number}
 use Rattle.sf_report.proofs.Machines.{can_take_one, not_full, full_of_none, item_not_full}
+use Rattle.sf_run.proofs.Columns.{stepped_plain}
 
 -- ---- a byte more
 
@@ -37,41 +42,59 @@ module _ (scan : ItemScan) (f : List ℕ) (b : ℕ) (proper : IsProperShape (con
   decides = tests_can_take (conversion_of scan) proper (f ++ b ∷ [])
 
 -- n takes nothing
-pub count_takes_nothing : (c : Conversion) (b : ℕ) → c.shape ≡ Count → stepped (Conv c) Skipping b ≡ None
-count_takes_nothing c b e = grind arith
+pub count_takes_nothing : (c : Conversion) (b : ℕ) → c.column ≡ false → c.shape ≡ Count → stepped (Conv c) Skipping b ≡ None
+count_takes_nothing c b plain e = grind (arith, stepped_plain)
 
 -- ---- full
+
+-- n has no column
+pub count_plain : (c : Conversion) → IsColumned (Conv c) → c.shape ≡ Count → c.column ≡ false
+count_plain c columned e = false_from_ne_true c.column (λ column. subst TakesColumn e (columned column).1)
+
+-- nor has a conversion without a width
+pub no_width_plain : (c : Conversion) → IsColumned (Conv c) → c.width ≡ None → c.column ≡ false
+no_width_plain c columned e =
+    false_from_ne_true c.column (λ column. true≢false (sym (columned column).0 ∙ ap is_some e))
+
+-- nor one that is passed the way that its row says
+pub way_plain : (column : Bool) (shape : Shape) (numeric : Bool) (way : Way) → way_placed column shape numeric ≡ way
+    → (way ≡ ways.Another → ⊥) → column ≡ false
+way_plain true shape numeric way is other = absurd (other (sym is))
+way_plain false shape numeric way is other = refl
 
 same_test : (a : ℕ) → nat_eq a a ≡ true
 same_test a = (tests_same a a).to refl
 
-pub skipping_full : (d : Directive) → IsProper d → counts_bytes d ≡ is_full d Skipping
-skipping_full Space proper = sym (not_full Space Skipping 32 Skipping (lit< tt) refl)
-skipping_full (Byte a) proper = sym (not_full (Byte a) Skipping a Taken proper (ap (λ v. cond v (Some Taken) None) (same_test a)))
-skipping_full Percent proper = sym (not_full Percent Skipping 37 Taken (lit< tt) refl)
-skipping_full (Conv c) proper = by_shape c.shape refl
-  where
-    never : HasItem c.shape → false ≡ is_full (Conv c) Skipping
-    never item = grind (arith, item_not_full)
+has_item : (shape : Shape) → is_count shape ≡ false → HasItem shape
+has_item shape e = grind arith
 
-    by_shape : (shape : Shape) → c.shape ≡ shape → is_count shape ≡ is_full (Conv c) Skipping
-    by_shape shape e = grind (arith, never, full_of_none, count_takes_nothing, common_steps)
+-- each takes a byte but n
+pub skipping_open : (d : Directive) → IsProper d → counts_bytes d ≡ false → is_full d Skipping ≡ false
+skipping_open Space proper other = not_full Space Skipping 32 Skipping (lit< tt) refl
+skipping_open (Byte a) proper other = not_full (Byte a) Skipping a Taken proper (ap (λ v. cond v (Some Taken) None) (same_test a))
+skipping_open Percent proper other = not_full Percent Skipping 37 Taken (lit< tt) refl
+skipping_open (Conv c) proper other = false_from_ne_true (is_full (Conv c) Skipping) (item_not_full c proper (has_item c.shape other))
+
+pub count_full : (c : Conversion) → c.column ≡ false → c.shape ≡ Count → is_full (Conv c) Skipping ≡ true
+count_full c plain e = full_of_none (Conv c) Skipping (λ b below. count_takes_nothing c b plain e)
 
 pub taken_full : (d : Directive) → true ≡ is_full d Taken
 taken_full d = grind (arith, full_of_none)
 
 pub item_full : (scan : ItemScan) (f : List ℕ) (full : Bool) → IsProperShape (conversion_of scan).shape
+    → (conversion_of scan).column ≡ false
     → (IsTrue full ↔ ((b : ℕ) → b < 256 → CanTake (conversion_of scan) (f ++ b ∷ []) → ⊥))
     → full ≡ is_full (Conv (conversion_of scan)) (Item f)
-item_full scan f full proper says = by_case (is_full (Conv (conversion_of scan)) (Item f)) refl
+item_full scan f full proper plain says = by_case (is_full (Conv (conversion_of scan)) (Item f)) refl
   where
     taken : (b : ℕ) (r : Stage) → stepped (Conv (conversion_of scan)) (Item f) b ≡ Some r
         → can_take (conversion_of scan) (f ++ b ∷ []) ≡ true
-    taken b r is = grind arith
+    taken b r is = grind (arith, (stepped_plain (conversion_of scan) plain (Item f) b))
 
     by_case : (v : Bool) → is_full (Conv (conversion_of scan)) (Item f) ≡ v → full ≡ v
     by_case true e = says.1 (λ b below can. true≢false (sym e ∙ not_full (Conv (conversion_of scan)) (Item f) b (Item (f ++ b ∷ [])) below
-        (rw ((decides scan f b proper).to can) refl)))
+        (stepped_plain (conversion_of scan) plain (Item f) b
+        ∙ ap (λ v. cond v (Some (Item (f ++ b ∷ []))) None) ((decides scan f b proper).to can))))
     by_case false e =
         let (b, below, r, is) = can_take_one (Conv (conversion_of scan)) (Item f) e in
         false_from_ne_true full (λ on. says.0 on b below ((decides scan f b proper).from (taken b r is)))
@@ -88,6 +111,11 @@ held_value kind negative magnitude m overflowed h = grind arith
 
 matched_end : (c : Conversion) (f : List ℕ) → Matches c f → passed_end c c.slot f ≡ item_end c f
 matched_end c f m = ap (λ v. cond v (passed_end c c.slot f) (Fails MatchingFailure)) (sym ((tests_matches c f).to m))
+
+-- the number of an integer
+pub integer_is : (numeral : Numeral) (f : List ℕ) (negative : Bool) (m : ℕ) → IsInteger numeral f negative m
+    → integer_at numeral f ≡ Some (negative, m)
+integer_is numeral f negative m is = integer_at_is numeral f negative m is
 
 -- an integer's item ends with its number
 pub integer_ends : (c : Conversion) (f : List ℕ) (negative : Bool) (magnitude : ℕ) (overflowed : Bool)
@@ -108,12 +136,12 @@ pub matched_unstored : (c : Conversion) (f : List ℕ) → Ends c f ends.Matched
 matched_unstored c f h none = by_shape c.shape refl
   where
     by_shape : (shape : Shape) → c.shape ≡ shape → c.slot ≡ None
-    by_shape (Int base) e = absurd (h.2 (base, e))
+    by_shape (Int numeral) e = absurd (h.2 (numeral, e))
     by_shape Count e = absurd (subst (λ (s : Shape). ShapeMatches s c.width f) e h.1)
-    by_shape Text e = ap (λ s. slot_of_text s c.slot) (sym e) ∙ none
+    by_shape (Text lead) e = ap (λ s. slot_of_text s c.slot) (sym e) ∙ none
     by_shape (Set members) e = ap (λ s. slot_of_text s c.slot) (sym e) ∙ none
     by_shape Chars e = ap (λ s. slot_of_text s c.slot) (sym e) ∙ none
-    by_shape Float e = ap (λ s. slot_of_text s c.slot) (sym e) ∙ none
+    by_shape (Float lead) e = ap (λ s. slot_of_text s c.slot) (sym e) ∙ none
 
 -- a suppressed one passes
 pub suppressed_end : (c : Conversion) (f : List ℕ) → c.slot ≡ None → Matches c f → Passes ≡ item_end c f
@@ -138,9 +166,9 @@ text_end c f slot text own m =
     sym (text_stored c f slot c.shape text) ∙ ap (λ o. passed_end c o f) (sym own) ∙ matched_end c f m
 
 -- a float is stored where it is in range
-pub float_end : (c : Conversion) (f : List ℕ) (slot : ℕ) → c.shape ≡ Float → c.slot ≡ Some slot → Matches c f
+pub float_end : (c : Conversion) (f : List ℕ) (slot : ℕ) (lead : Lead) → c.shape ≡ Float lead → c.slot ≡ Some slot → Matches c f
     → real_end slot (real_at c.kind f) ≡ item_end c f
-float_end c f slot shape own m = ap (λ s. stored_end c slot s f) (sym shape) ∙ ap (λ o. passed_end c o f) (sym own) ∙ matched_end c f m
+float_end c f slot lead shape own m = ap (λ s. stored_end c slot s f) (sym shape) ∙ ap (λ o. passed_end c o f) (sym own) ∙ matched_end c f m
 
 -- a text that is no match
 pub text_fails : (c : Conversion) (f : List ℕ) (slot : ℕ) (e : ItemEnd) → text_slot (Conv c) ≡ Some slot → f ≢ [] → Ends c f e
@@ -177,5 +205,5 @@ pub shown_full : (d : Directive) (slot : Option ℕ) (scan : ItemScan) (q : Stag
     → full ≡ is_full d q
 shown_full d slot scan q full proper s says =
     let own : IsProper (Conv (conversion_of scan)) = subst IsProper s.own proper in
-    item_full scan s.item full own.0 (says s.item s.taken own.0)
+    item_full scan s.item full own.0 (ap is_column (sym s.own) ∙ s.plain) (says s.item s.taken own.0)
     ∙ ap (λ e. is_full e (Item s.item)) (sym s.own) ∙ ap (is_full d) (sym s.stage)

@@ -10,7 +10,7 @@ use Rattle.sf_base.specs.Data.{Assigned, Datum}
 use Rattle.sf_base.specs.stores.Kept.{Kept, texts_in, text_of, Opened, buffer_of}
 use Rattle.sf_format.specs.declared.directive.Directive.{Directive}
 use Rattle.sf_format.specs.Layout.{items_taken, takes_item}
-use Rattle.sf_format.specs.Proper.{AreProper, has_optional, is_optional}
+use Rattle.sf_format.specs.Proper.{AreProper, IsColumned, has_optional, is_optional}
 use Rattle.sf_report.specs.declared.outcome.Ending.{Ending}
 use Rattle.sf_report.specs.declared.outcome.Status.{Status}
 use Rattle.sf_report.specs.declared.outcome.Status.TheVariants.{Done}
@@ -27,7 +27,8 @@ use Rattle.sf_run.specs.Tallies.{tally_of}
 use Rattle.sf_run.specs.Written.{text_given, texts_by}
 use Rattle.sf_run.specs.Counting.{Counted, Going}
 use Rattle.sf_run.proofs.AtOnce.{one_misses, used_is}
-use Rattle.sf_run.proofs.Moves.{drop_at}
+use Rattle.sf_run.proofs.Moves.{drop_at, sound_at}
+use Rattle.sf_run.specs.Texts.{AreSound}
 use Rattle.sf_report.proofs.Machines.{some_is}
 use Rattle.sf_report.proofs.Openness.{counted-used, uses_more}
 use Rattle.sf_run.proofs.Refusals.{never_done}
@@ -91,12 +92,12 @@ behind d ds at t p end = by_end end (run_of None ds (at + 1) (counted d end (wit
     (λ status. out_of status at (with_used p.used t))
 
 -- where all are counted that a run may count, its first directive isn't missing
-none_missing : (d : Directive) (ds : List Directive) (at : ℕ) (t : Tally) (x : List ℕ)
+none_missing : (d : Directive) → IsColumned d → (ds : List Directive) (at : ℕ) (t : Tally) (x : List ℕ)
     → (is_optional d ≡ true → (run_of None (d ∷ ds) at t x).converted ≡ t.converted + items_taken (d ∷ ds))
     → (one_from d Skipping t.used x).end ≡ Misses → ⊥
-none_missing d ds at t x whole is =
+none_missing d sound ds at t x whole is =
     let p : Part = one_from d Skipping t.used x in
-    let (optional, takes) = one_misses d Skipping t.used x is in
+    let (optional, takes) = one_misses d sound Skipping t.used x is in
     let all = whole optional in
     let same = ap (λ (r : RunReport). r.converted) (ap (behind d ds at t p) is) in
     let most = converted_most ds (at + 1) (with_used p.used t) p.left in
@@ -164,13 +165,14 @@ first_of d ds at t x = by_case (one_from d Skipping t.used x).end refl
     by_case (Fails status) is = over status is
 
 -- where the run is Done, and counts all that it may count, it passes
-first_passes : (d : Directive) (ds : List Directive) (at : ℕ) (t : Tally) (x : List ℕ) → (run_of None (d ∷ ds) at t x).status ≡ Done
+first_passes : (d : Directive) → IsColumned d → (ds : List Directive) (at : ℕ) (t : Tally) (x : List ℕ)
+    → (run_of None (d ∷ ds) at t x).status ≡ Done
     → (is_optional d ≡ true → (run_of None (d ∷ ds) at t x).converted ≡ t.converted + items_taken (d ∷ ds))
     → passed (one_from d Skipping t.used x).end ≡ true
-first_passes d ds at t x done whole = by_case (one_from d Skipping t.used x).end refl
+first_passes d sound ds at t x done whole = by_case (one_from d Skipping t.used x).end refl
   where
     by_case : (end : StepEnd) → (one_from d Skipping t.used x).end ≡ end → passed (one_from d Skipping t.used x).end ≡ true
-    by_case Misses is = absurd (none_missing d ds at t x whole is)
+    by_case Misses is = absurd (none_missing d sound ds at t x whole is)
     by_case Passes is = ap passed is
     by_case (Stores slot v) is = ap passed is
     by_case (Fails status) is = absurd (never_done d Skipping t.used x status is
@@ -231,14 +233,15 @@ next_at ds front rest p d t kept capacity at h early fits roomy =
     }
 
 -- and where it is Done, and no item of it is missing, the next directive passes
-passes_at : (ds : List Directive) (front rest : List ℕ) (p : ℕ) (d : Directive) (t : code.Tally) (kept : Kept) → slice_get ds p ≡ Some d
+passes_at : (ds : List Directive) (front rest : List ℕ) (p : ℕ) (d : Directive) (t : code.Tally) (kept : Kept) → IsColumned d
+    → slice_get ds p ≡ Some d
     → Going ds front p t kept → (run_of None ds 1 nothing_yet (front ++ rest)).status ≡ Done → t.converted ≡ items_taken (take p ds)
     → (has_optional ds ≡ true → (run_of None ds 1 nothing_yet (front ++ rest)).converted ≡ items_taken ds)
     → passed (one_from d Skipping t.used (drop t.used front ++ rest)).end ≡ true
-passes_at ds front rest p d t kept at h done counts all =
+passes_at ds front rest p d t kept sound at h done counts all =
     let u : Tally = tally_of t kept.values in
     let whole = whole_at ds front rest p d t kept at h in
-    first_passes d (drop (p + 1) ds) (p + 1) u (drop t.used front ++ rest) (sym (ap (λ (r : RunReport). r.status) whole) ∙ done)
+    first_passes d sound (drop (p + 1) ds) (p + 1) u (drop t.used front ++ rest) (sym (ap (λ (r : RunReport). r.status) whole) ∙ done)
     (λ is. sym (ap (λ (r : RunReport). r.converted) whole) ∙ all (optional_at ds p d at is) ∙ items_split ds p
     ∙ ap (λ n. n + items_taken (drop p ds)) (sym counts) ∙ ap (λ l. t.converted + items_taken l) (drop_at ds p d at))
 
@@ -288,18 +291,19 @@ next_of ds proper limit most n piece front rest p d missing kept capacity at is 
     record { early = of.early; fits = of.fits; written = of.written }
 
 -- and where it is Done, and no item of it is missing
-pub next_passes : (ds : List Directive) → AreProper ds → (limit most n : ℕ) (piece front rest : List ℕ) (p : ℕ) (d : Directive)
+pub next_passes : (ds : List Directive) → AreSound ds → (limit most n : ℕ) (piece front rest : List ℕ) (p : ℕ) (d : Directive)
     (kept : Kept) (capacity : ℕ) → slice_get ds p ≡ Some d → front ≡ take most piece
     → Counted ds front rest p (record { assigned = 0; converted = 0 }) kept
     → n ≡ length front - length rest → IsDoneWithin ds limit piece capacity
     → passed (one_from d Skipping n (rest ++ drop most piece)).end ≡ true
-next_passes ds proper limit most n piece front rest p d kept capacity at is h begins done =
-    let same = on_front ds proper limit most piece front capacity is (ended_of done) in
+next_passes ds sound limit most n piece front rest p d kept capacity at is h begins done =
+    let same = on_front ds sound.0 limit most piece front capacity is (ended_of done) in
     let here : h.tally.used ≡ n = used_is ds front rest p (record { assigned = 0; converted = 0 }) kept h ∙ sym begins in
     let counts = h.converted in
     subst (λ m. passed (one_from d Skipping m (rest ++ drop most piece)).end ≡ true) here
     (subst (λ y. passed (one_from d Skipping h.tally.used (y ++ drop most piece)).end ≡ true) (sym h.rest)
-    (passes_at ds front (drop most piece) p d h.tally kept at h.going (ap (λ (r : RunReport). r.status) same ∙ done.done)
+    (passes_at ds front (drop most piece) p d h.tally kept (sound_at ds p d sound at).1 at h.going (ap (λ (r : RunReport). r.status) same
+    ∙ done.done)
     (omega (arith, counts)) (λ is. ap (λ (r : RunReport). r.converted) same ∙ done.whole is)))
 
 pub sure_next : (ds : List Directive) → AreProper ds → (limit most n : ℕ) (piece front rest : List ℕ) (p : ℕ) (d : Directive)

@@ -1,10 +1,11 @@
 -- When a scanner waits, what it has used, and what it tells.
 use Rattle.std.proofs.Common.{◌≡◌, ℕ, ◌+◌, ◌<◌, ◌≤◌, inl, inr, true, false, cond, List, [], ◌∷◌, ◌++◌, length, drop, Option, Some, None}
-use Rattle.std.proofs.Common.{is_some, refl, sym, ap, subst, ◌∙◌, arith, append_assoc, length-append}
+use Rattle.std.proofs.Common.{is_some, refl, sym, ap, subst, ◌∙◌, arith, append_assoc, length-append, lit<, true≢false}
 use Rattle.std.specs.Prelude.{slice_get, IfNone, IsSome}
 use Rattle.std.proofs.lemmas.Bool.{le-ltb, cases_lt}
 use Rattle.std.proofs.lemmas.List.{append-nil}
 use Rattle.sf_format.specs.declared.directive.Conversion.{Conversion}
+use Rattle.sf_format.specs.declared.directive.Lead.{Lead}
 use Rattle.sf_format.specs.declared.directive.Shape.{Shape}
 use Rattle.sf_format.specs.declared.directive.Shape.TheVariants.{Int, Text, Set, Chars, Float, Count}
 use Rattle.sf_format.specs.declared.directive.Directive.{Directive}
@@ -13,6 +14,9 @@ use Rattle.sf_format.specs.Proper.{IsProper, AreProper}
 use Rattle.sf_item.specs.declared.item.ItemScan.{ItemScan}
 use Rattle.sf_item.specs.Taking.{conversion_of}
 use Rattle.sf_item.specs.Tests.{can_take}
+use Rattle.sf_item.specs.declared.column.ColumnScan.{ColumnScan}
+use Rattle.sf_item.specs.Columns.{column_width}
+use Rattle.sf_item.specs.ColumnScans as columns
 use Rattle.sf_run.specs.declared.directive.Phase.{Phase}
 use Rattle.sf_run.specs.declared.directive.Phase.TheVariants as phase
 use Rattle.sf_report.specs.declared.outcome.Ending.{Ending}
@@ -20,19 +24,20 @@ use Rattle.sf_report.specs.declared.outcome.Status.TheVariants.{TooLong}
 use Rattle.sf_run.specs.declared.scanner.Stop.{Stop}
 use Rattle.sf_report.specs.Runs.{Ran, RunReport, IsOpen}
 use Rattle.sf_report.specs.Limits.{IsCut, RunWithin, TellsWithin, cut_report}
-use Rattle.sf_report.specs.Machine.{Stage, Skipping, Item, stepped, is_full}
-use Rattle.sf_run.specs.Phases.{ShowsItem, Shows}
+use Rattle.sf_report.specs.Machine.{Stage, Skipping, Item, conversion_stepped, stepped, is_full}
+use Rattle.sf_run.specs.Phases.{ShowsColumn, ShowsItem, Shows, stage_of}
 use Rattle.sf_report.specs.Residual.{Tally, nothing_yet, with_used, out_of, run_of, run_from}
 use Rattle.sf_run.specs.Standing.{Standing, ShowsFirst, DoesBy, Does, Follows, Waits, IsSettled, Keeps, Advances, After, Comes, ComesBy}
 use Rattle.sf_run.specs.Standing.{HasCome, report_by, report_of, Gives}
 use Rattle.sf_base.specs.Data.{Assigned}
 use Rattle.sf_run.specs.declared.tally.Tally as code
 use Rattle.sf_run.specs.Tallies.{tally_of}
-use Rattle.sf_run.specs.Texts.{text_slot, opened_for}
+use Rattle.sf_run.specs.Texts.{AreSound, is_column, opened_for}
 use Rattle.sf_report.specs.Limits.{RunTold}
 use Rattle.sf_base.specs.stores.Kept.{Opened}
 use Rattle.sf_report.proofs.Inputs.{open_all}
 use Rattle.sf_report.proofs.Machines.{some_is, can_take_one, IsReal, item_byte, item_byte-below, item_takes}
+use Rattle.sf_run.proofs.Columns.{column_is_full, column_takes, stage_begun, stepped_plain}
 use Rattle.sf_run.proofs.FloatTexts.{float_alike}
 use Rattle.sf_run.proofs.Coming.{came, item_of_cut, text_of_cut}
 use Rattle.sf_run.proofs.Moves.{drop_at, proper_at, ended_does, waiting, byte_took, byte_past}
@@ -58,9 +63,9 @@ abbrev OneByte : Directive → Phase → Type 0
 OneByte d current = OneByteOf d (Shows d current)
 
 -- a float may go on in many ways, but each item that the scan may have taken goes on alike
-float_one : (d : Directive) (slot : Option ℕ) (scan : ItemScan) (q : Stage) → ShowsItem d slot scan q
-    → is_full d q ≡ false → (conversion_of scan).shape ≡ Float → OneByteOf d (ShowsItem d slot scan)
-float_one d slot scan q shows some is =
+float_one : (d : Directive) (slot : Option ℕ) (scan : ItemScan) (lead : Lead) (q : Stage) → ShowsItem d slot scan q
+    → is_full d q ≡ false → (conversion_of scan).shape ≡ Float lead → OneByteOf d (ShowsItem d slot scan)
+float_one d slot scan lead q shows some is =
     let c : Conversion = conversion_of scan in
     let (b, below, r, first) = can_take_one (Conv c) (Item shows.item)
     (subst (λ s. is_full s (Item shows.item) ≡ false) shows.own (subst (λ s. is_full d s ≡ false) shows.stage some)) in
@@ -68,14 +73,17 @@ float_one d slot scan q shows some is =
       byte = b;
       is_byte = below;
       taken = λ p e.
-          let same = float_alike scan e.item shows.item b is e.taken shows.taken in (
+          let plain : c.column ≡ false = ap is_column (sym shows.own) ∙ shows.plain in
+          let same = float_alike scan lead e.item shows.item b is e.taken shows.taken in (
             Item (e.item ++ b ∷ []),
-            ap (λ s. stepped d s b) e.stage ∙ ap (λ s. stepped s (Item e.item) b) shows.own
-                ∙ ap (λ v. cond v (Some (Item (e.item ++ b ∷ []))) None) (same ∙ taken_by c shows.item b r first),
+            ap (λ s. stepped d s b) e.stage ∙ ap (λ s. stepped s (Item e.item) b) shows.own ∙ stepped_plain c plain (Item e.item) b
+                ∙ ap (λ v. cond v (Some (Item (e.item ++ b ∷ []))) None)
+                (same ∙ taken_by c shows.item b r (sym (stepped_plain c plain (Item shows.item) b) ∙ first)),
           );
     }
   where
-    taken_by : (c : Conversion) (f : List ℕ) (b : ℕ) (r : Stage) → stepped (Conv c) (Item f) b ≡ Some r → can_take c (f ++ b ∷ []) ≡ true
+    taken_by : (c : Conversion) (f : List ℕ) (b : ℕ) (r : Stage) → conversion_stepped c (Item f) b ≡ Some r
+        → can_take c (f ++ b ∷ []) ≡ true
     taken_by c f b r e = grind arith
 
 other_one : (d : Directive) → IsProper d → (slot : Option ℕ) (scan : ItemScan) (q : Stage) → ShowsItem d slot scan q
@@ -104,12 +112,37 @@ item_one d proper slot scan q shows more = by_shape (conversion_of scan).shape r
     other shape is none = other_one d proper slot scan q shows more (λ real. none (subst IsReal is real))
 
     by_shape : (shape : Shape) → (conversion_of scan).shape ≡ shape → OneByteOf d (ShowsItem d slot scan)
-    by_shape Float is = float_one d slot scan q shows (more q shows) is
-    by_shape (Int base) is = other (Int base) is (λ real. absurd real)
-    by_shape Text is = other Text is (λ real. absurd real)
+    by_shape (Float lead) is = float_one d slot scan lead q shows (more q shows) is
+    by_shape (Int numeral) is = other (Int numeral) is (λ real. absurd real)
+    by_shape (Text lead) is = other (Text lead) is (λ real. absurd real)
     by_shape (Set members) is = other (Set members) is (λ real. absurd real)
     by_shape Chars is = other Chars is (λ real. absurd real)
     by_shape Count is = other Count is (λ real. absurd real)
+
+-- a column that isn't full takes any byte
+column_one : (d : Directive) (slot : Option ℕ) (scan : ColumnScan) (q : Stage) → ShowsColumn d slot scan q → is_full d q ≡ false
+    → OneByteOf d (ShowsColumn d slot scan)
+column_one d slot scan q shows some =
+    let c : Conversion = columns.conversion_of scan in
+    let column : c.column ≡ true = ap is_column (sym shows.own) ∙ shows.placed in
+    record {
+      byte = 0;
+      is_byte = lit< tt;
+      taken = λ p e.
+          let low : length e.column < column_width c = elim (cases_lt (length e.column) (column_width c)) [
+            | inl low ↦ low
+            | inr high ↦ (let own = shows.taken.left in
+                let other = e.taken.left in
+                let full : is_full d q ≡ true = ap (is_full d) shows.stage ∙ ap (λ x. is_full x (Item shows.column)) shows.own
+                ∙ ap (is_full (Conv c)) (sym (stage_begun shows.column shows.begun))
+                ∙ column_is_full c column shows.column (omega (arith, own, other, high)) in
+                absurd (true≢false (sym full ∙ some)))
+          ] in (
+            stage_of (e.column ++ 0 ∷ []),
+            ap (λ s. stepped d s 0) (e.stage ∙ sym (stage_begun e.column e.begun))
+                ∙ ap (λ s. stepped s (stage_of e.column) 0) shows.own ∙ column_takes c column e.column 0 low,
+          );
+    }
 
 one_byte : (d : Directive) → IsProper d → (current : Phase) (q : Stage) → Shows d current q
     → ((p : Stage) → Shows d current p → is_full d p ≡ false) → OneByte d current
@@ -118,6 +151,7 @@ one_byte d proper phase.Skipping q shows more =
     record { byte = b; is_byte = below; taken = λ p e. (r, ap (λ s. stepped d s b) e ∙ is) }
 one_byte d proper (phase.Item scan) q shows more = item_one d proper None scan q shows more
 one_byte d proper (phase.Text slot scan) q shows more = item_one d proper (Some slot) scan q shows more
+one_byte d proper (phase.Column slot scan) q shows more = column_one d slot scan q shows (more q shows)
 
 -- ---- what a scanner has used
 
@@ -167,7 +201,7 @@ module _ (ds : List Directive) (m : ℕ) (s : Standing) (x : List ℕ) (h : Afte
     shown : (k : ℕ) (z : List ℕ) (report : RunReport) (does : DoesBy None s.directives s.passed s.phase s.opened s.tally k z report)
         → Shows waits.under_way s.phase does.0
     shown k z report does =
-        let both : Shows waits.under_way s.phase does.0 × (s.opened ≡ opened_for (text_slot waits.under_way) does.0) =
+        let both : Shows waits.under_way s.phase does.0 × (s.opened ≡ opened_for waits.under_way does.0) =
         subst (λ rest. ShowsFirst rest s.phase s.opened does.0) (drop_at s.directives s.passed waits.under_way waits.current) does.1 in
         both.0
 
@@ -326,6 +360,7 @@ after_more ds m s x z h ended = record {
   format = h.format;
   limit = h.limit;
   proper = h.proper;
+  columns = h.columns;
   low = h.low;
   same = λ k y below within.
       let w = h.same k (z ++ y) below within in
@@ -358,20 +393,21 @@ none_before o p h e = grind arith
 -- after a piece was pushed
 pub after_push : (ds : List Directive) (m : ℕ) (old new : Standing) (x piece : List ℕ) (n : ℕ) → After ds m old x
     → new.tally.used ≤ new.limit
-    → (AreProper old.directives → (z : List ℕ) → Follows new old z (piece ++ z)) → new.tally.used ≡ old.tally.used + n → n ≤ length piece
+    → (AreSound old.directives → (z : List ℕ) → Follows new old z (piece ++ z)) → new.tally.used ≡ old.tally.used + n → n ≤ length piece
     → IfNone new.ended (n ≡ length piece)
     → (IsSome old.ended → IsSome new.ended) → Keeps new old → (IsSettled old → IsSettled new)
-    → (AreProper old.directives → Advances new old piece n) → After ds m new (x ++ piece)
+    → (AreSound old.directives → Advances new old piece n) → After ds m new (x ++ piece)
 after_push ds m old new x piece n h low follows used within all stays keeps settled advances = record {
   format = keeps.directives ∙ h.format;
   limit = keeps.limit ∙ h.limit;
   proper = h.proper;
+  columns = h.columns;
   low = grind (arith, low);
   same = λ k z below fits.
       let w = h.same k (piece ++ z) (omega (arith, below, used)) fits in
       let limit = h.limit in (
         w.0,
-        follows (subst AreProper (sym h.format) h.proper) z k w.0 below (omega (arith, fits, limit)) w.1,
+        follows (subst AreSound (sym h.format) (h.proper, h.columns)) z k w.0 below (omega (arith, fits, limit)) w.1,
         subst (λ v. TellsWithin ds k v w.0) (sym (append_assoc x piece z)) w.2,
       );
   settled = settled h.settled;
@@ -387,7 +423,7 @@ after_push ds m old new x piece n h low follows used within all stays keeps sett
         let waited : old.ended ≡ None = none_before old.ended new.ended stays e in
         let here : Comes old x [] = subst (λ (o : Option Stop). IfNone o (Comes old x [])) waited h.come in
         let whole : n ≡ length piece = subst (λ (o : Option Stop). IfNone o (n ≡ length piece)) e all in
-        came new old x piece n (advances (subst AreProper (sym h.format) h.proper)) whole here e
+        came new old x piece n (advances (subst AreSound (sym h.format) (h.proper, h.columns))) whole here e
 
     go : (o : Option Stop) → new.ended ≡ o → IfNone o (new.tally.used ≡ length (x ++ piece))
     go o e = grind (arith, none_before, length-append)
@@ -416,16 +452,17 @@ run_out_gives ds m old new x ending h waiting follows used ended met = by_case n
         }
 
 -- one that was given nothing yet
-pub after_nothing : (ds : List Directive) (m : ℕ) (s : Standing) → s.directives ≡ ds → s.limit ≡ m → AreProper ds
+pub after_nothing : (ds : List Directive) (m : ℕ) (s : Standing) → s.directives ≡ ds → s.limit ≡ m → AreSound ds
     → ((k : ℕ) (z : List ℕ) → k ≤ m → Does s k z (run_of (Some k) ds 1 nothing_yet z)) → IsSettled s → s.tally.used ≡ 0 → s.met ≡ None
     → (s.ended ≡ None → Comes s [] [])
     → After ds m s []
-after_nothing ds m s format limit proper does settled used met come = record {
+after_nothing ds m s format limit sound does settled used met come = record {
   format = format;
   limit = limit;
-  proper = proper;
+  proper = sound.0;
+  columns = sound.1;
   low = omega (arith, used);
-  same = λ k z below within. (run_of (Some k) ds 1 nothing_yet z, does k z within, told_exists ds proper k z);
+  same = λ k z below within. (run_of (Some k) ds 1 nothing_yet z, does k z within, told_exists ds sound.0 k z);
   settled = settled;
   all = none_all s.ended;
   come = none_come s.ended refl;

@@ -10,7 +10,6 @@ use Rattle.std.proofs.lemmas.Grind.{flat_map-append}
 use Rattle.sf_base.specs.Data.{Assigned, Datum}
 use Rattle.sf_base.specs.stores.Kept.{Kept, texts_in}
 use Rattle.sf_format.specs.declared.directive.Directive.{Directive}
-use Rattle.sf_format.specs.Proper.{IsProper}
 use Rattle.sf_report.specs.Machine.{Skipping}
 use Rattle.sf_report.specs.Residual.{Part as Part', one_from}
 use Rattle.sf_report.specs.Runs.{passed, stored}
@@ -18,11 +17,12 @@ use Rattle.sf_report.specs.Steps.{StepEnd, Passes, Stores, Misses, Fails}
 use Rattle.sf_run.specs.declared.directive.Ended.{Ended}
 use Rattle.sf_run.specs.declared.directive.Finished.{Finished}
 use Rattle.sf_run.specs.Phases.{end_of, is_failing, is_missing, slot_given}
-use Rattle.sf_run.specs.Pieces.{EndsAtOnce}
+use Rattle.sf_run.specs.declared.directive.EndedColumn.{EndedColumn}
+use Rattle.sf_run.specs.Pieces.{EndsAtOnce, EndsIn, EndsWithAll}
 use Rattle.sf_run.specs.Quick.{IsSure, slot_stored, text_stored}
 use Rattle.sf_run.specs.Quick as quick
 use Rattle.sf_run.specs.Tallies.{values_with}
-use Rattle.sf_run.specs.Texts.{slot_of}
+use Rattle.sf_run.specs.Texts.{IsSound, slot_of}
 use Rattle.sf_run.specs.Written.{AreParts, AreRecords, IsPart, IsRecord, IsWrittenSurely, Part, PassesWriting, records_by, text_given}
 use Rattle.sf_run.specs.Written.{texts_by, used_by}
 use Rattle.sf_run.specs.declared.written.WrittenRun.{WrittenRun}
@@ -70,29 +70,55 @@ own_slot : (d : Directive) (f : Finished) (item : List ℕ) → (is_failing f �
 own_slot d f item given ok = grind arith
 
 -- a directive that ends so within the piece has passed, where what it gives was written
-pub passes_writing : (text : Datum → List ℕ) (d : Directive) (n : ℕ) (piece : List ℕ) (e : Ended) (old new : List ℕ) → IsProper d
+pub passes_writing : (text : Datum → List ℕ) (d : Directive) (n : ℕ) (piece : List ℕ) (e : Ended) (old new : List ℕ) → IsSound d
     → EndsAtOnce d n piece e
     → passed (end_of (take e.item (drop e.before piece)) e.finished) ≡ true
     → new ≡ old ++ text_given text (end_of (take e.item (drop e.before piece)) e.finished)
     → PassesWriting text d n piece (e.before + e.item) old new
-passes_writing text d n piece e old new proper is ok written = record {
+passes_writing text d n piece e old new sound is ok written = record {
   end = end_of (take e.item (drop e.before piece)) e.finished;
-  takes = (is.answers proper).goes;
+  takes = is.ends sound;
   passes = ok;
   own = own_slot d e.finished (take e.item (drop e.before piece)) is.fits.given ok;
   written = written;
 }
 
+surely_ended : (text : Datum → List ℕ) (d : Directive) (n : ℕ) (piece : List ℕ) (room : ℕ) (end : StepEnd) (taken : ℕ)
+    → EndsIn d Skipping n piece taken end → IsWrittenSurely text d n piece room
+    → (passed end ≡ true) × (length (text_given text end) ≤ room)
+surely_ended text d n piece room end taken ends sure =
+    let same : (one_from d Skipping n (piece ++ sure.after)).end ≡ end = ap (λ (p : Part'). p.end) (ends.takes sure.after) in
+    (ap passed (sym same) ∙ sure.passes, subst (λ (t : StepEnd). length (text_given text t) ≤ room) same sure.fits)
+
 -- one that passes surely, and ends so, has passed, and what is written of it fits
-pub surely_given : (text : Datum → List ℕ) (d : Directive) (n : ℕ) (piece : List ℕ) (room : ℕ) (e : Ended) → IsProper d
+pub surely_given : (text : Datum → List ℕ) (d : Directive) (n : ℕ) (piece : List ℕ) (room : ℕ) (e : Ended) → IsSound d
     → EndsAtOnce d n piece e → IsWrittenSurely text d n piece room
     → (passed (end_of (take e.item (drop e.before piece)) e.finished) ≡ true)
     × (length (text_given text (end_of (take e.item (drop e.before piece)) e.finished)) ≤ room)
-surely_given text d n piece room e proper is sure =
-    let end : StepEnd = end_of (take e.item (drop e.before piece)) e.finished in
-    let same : (one_from d Skipping n (piece ++ sure.after)).end ≡ end =
-    ap (λ (p : Part'). p.end) ((is.answers proper).goes.takes sure.after) in
-    (ap passed (sym same) ∙ sure.passes, subst (λ (t : StepEnd). length (text_given text t) ≤ room) same sure.fits)
+surely_given text d n piece room e sound is sure =
+    surely_ended text d n piece room (end_of (take e.item (drop e.before piece)) e.finished) (e.before + e.item) (is.ends sound) sure
+
+-- the same of one that takes bytes that are no part of its item too
+pub passes_writing_all : (text : Datum → List ℕ) (d : Directive) (n : ℕ) (piece : List ℕ) (e : EndedColumn) (old new : List ℕ) → IsSound d
+    → EndsWithAll d n piece e
+    → passed (end_of (take e.ended.item (drop e.ended.before piece)) e.ended.finished) ≡ true
+    → new ≡ old ++ text_given text (end_of (take e.ended.item (drop e.ended.before piece)) e.ended.finished)
+    → PassesWriting text d n piece (e.ended.before + e.ended.item + e.after) old new
+passes_writing_all text d n piece e old new sound is ok written = record {
+  end = end_of (take e.ended.item (drop e.ended.before piece)) e.ended.finished;
+  takes = is.ends sound;
+  passes = ok;
+  own = own_slot d e.ended.finished (take e.ended.item (drop e.ended.before piece)) is.fits.given ok;
+  written = written;
+}
+
+pub surely_given_all : (text : Datum → List ℕ) (d : Directive) (n : ℕ) (piece : List ℕ) (room : ℕ) (e : EndedColumn) → IsSound d
+    → EndsWithAll d n piece e → IsWrittenSurely text d n piece room
+    → (passed (end_of (take e.ended.item (drop e.ended.before piece)) e.ended.finished) ≡ true)
+    × (length (text_given text (end_of (take e.ended.item (drop e.ended.before piece)) e.ended.finished)) ≤ room)
+surely_given_all text d n piece room e sound is sure =
+    surely_ended text d n piece room (end_of (take e.ended.item (drop e.ended.before piece)) e.ended.finished)
+    (e.ended.before + e.ended.item + e.after) (is.ends sound) sure
 
 -- a store with enough room may keep what is written of one that passes surely
 pub stored_surely : (text : Datum → List ℕ) (d : Directive) (n : ℕ) (piece : List ℕ) (room : ℕ) → IsWrittenSurely text d n piece room

@@ -1,10 +1,11 @@
 -- Where a run stands, and of what input.
-use Rattle.std.specs.Prelude.{ℕ, suc, ◌+◌, ◌-◌, ◌≡◌, ◌<◌, ◌≤◌, Bool, false, List, [], ◌∷◌, ◌++◌, length, take, drop, slice_get, Option}
-use Rattle.std.specs.Prelude.{Some, None, IfNone, is_some}
+use Rattle.std.specs.Prelude.{ℕ, suc, ◌+◌, ◌-◌, ◌≡◌, ◌<◌, ◌≤◌, Bool, true, false, List, [], ◌∷◌, ◌++◌, length, take, drop, slice_get}
+use Rattle.std.specs.Prelude.{Option, Some, None, IfNone, is_some}
 use Rattle.sf_base.specs.stores.Kept.{Opened}
+use Rattle.sf_format.specs.declared.directive.Conversion.{Conversion}
 use Rattle.sf_format.specs.declared.directive.Directive.{Directive}
 use Rattle.sf_format.specs.declared.directive.Directive.TheVariants.{Conv}
-use Rattle.sf_format.specs.Proper.{IsProper, AreProper}
+use Rattle.sf_format.specs.Proper.{AreColumned, AreProper, IsProper}
 use Rattle.sf_run.specs.declared.directive.Phase.{Phase}
 use Rattle.sf_run.specs.declared.directive.Phase.TheVariants.{Skipping}
 use Rattle.sf_report.specs.declared.outcome.Ending.{Ending}
@@ -18,7 +19,9 @@ use Rattle.sf_report.specs.Machine.{Stage, is_full}
 use Rattle.sf_report.specs.Machine as start
 use Rattle.sf_run.specs.Phases.{Shows, slot_in}
 use Rattle.sf_run.specs.Stopping.{is_no_memory}
+use Rattle.sf_base.specs.Blanks.{trimmed_front}
 use Rattle.sf_run.specs.Texts.{StoresByte, text_slot, opened_for}
+pub use Rattle.sf_run.specs.Texts.{text_begun}
 use Rattle.sf_report.specs.Residual.{Tally, with_used, counted, out_of, run_from, choose, stepped_all}
 
 -- the fields of a scanner, with what its store has been given
@@ -38,7 +41,7 @@ pub record Standing : Type 0 where
 -- the first of the directives, if there is one, has come to this stage, and its text is under way
 abbrev pub ShowsFirst : List Directive → Phase → Option Opened → Stage → Type 0
 ShowsFirst [] phase opened q = Unit {0}
-ShowsFirst (d ∷ ds) phase opened q = Shows d phase q × (opened ≡ opened_for (text_slot d) q)
+ShowsFirst (d ∷ ds) phase opened q = Shows d phase q × (opened ≡ opened_for d q)
 
 -- Under the limit k, what a run that has come so far makes of the rest of the input: the report where it has stopped,
 -- else what the directives that are left make of it.
@@ -139,23 +142,33 @@ pub record RunsOut (new old : Standing) (before item : ℕ) : Type 0 where
   pub ended : new.ended ≡ Some (record { status = NoMemory; at = old.passed + 1 })
   pub tally : new.tally ≡ with_used (old.tally.used + (before + stored)) old.tally
 
--- the new one stopped as the storing of the byte b was refused, which is next in y for the old one
-pub record Refuses (new old : Standing) (b : ℕ) (y : List ℕ) : Type 0 where
-  pub at : ℕ
-  pub directive : Directive
+-- the new one stopped in this directive as the storing of the byte b was refused, which is next in y for the old one
+pub record Refuses (new old : Standing) (at : ℕ) (directive : Directive) (b : ℕ) (y : List ℕ) : Type 0 where
   pub under_way : slice_get new.directives at ≡ Some directive
   pub ended : new.ended ≡ Some (record { status = NoMemory; at = at + 1 })
   pub below : new.tally.used < new.limit
-  pub cut : (report : RunReport) → Does old new.tally.used y report → StoresByte directive b × (report ≡ out_of TooLong (at + 1) new.tally)
+  pub cut : (report : RunReport) → Does old new.tally.used y report → report ≡ out_of TooLong (at + 1) new.tally
+
+-- With x consumed, and b next, the directive after those that have passed stores b, which it takes of what they left of x.
+pub record StoresAfter (ds : List Directive) (at : ℕ) (d : Directive) (x : List ℕ) (b : ℕ) (rest : List ℕ) : Type 0 where
+  pub before : List Ran
+  pub count : at ≡ length before
+  pub within : used before ≤ length x
+  pub steps : (z : List ℕ) → ran_of ds (x ++ b ∷ (rest ++ z)) 0
+      ≡ before ++ ran_of (drop at ds) (drop (used before) x ++ b ∷ (rest ++ z)) (used before)
+  pub stores : StoresByte d (drop (used before) x) b
 
 -- the same within a piece: the bytes of its front were taken before
 pub record RefusesIn (new old : Standing) (piece : List ℕ) : Type 0 where
   pub front : List ℕ
   pub byte : ℕ
   pub rest : List ℕ
+  pub at : ℕ
+  pub directive : Directive
   pub whole : piece ≡ front ++ byte ∷ rest
   pub used : new.tally.used ≡ old.tally.used + length front
-  pub refuses : (z : List ℕ) → Refuses new old byte (piece ++ z)
+  pub refuses : (z : List ℕ) → Refuses new old at directive byte (piece ++ z)
+  pub stores : (x : List ℕ) → Comes old x piece → StoresAfter old.directives at directive (x ++ front) byte rest
 
 -- memory for a text was refused
 abbrev pub ran_out : Standing → Bool
@@ -183,6 +196,7 @@ pub record After (ds : List Directive) (m : ℕ) (s : Standing) (x : List ℕ) :
   pub format : s.directives ≡ ds
   pub limit : s.limit ≡ m
   pub proper : AreProper ds
+  pub columns : AreColumned ds
   pub low : s.tally.used ≤ m
   pub same : (k : ℕ) (z : List ℕ) → s.tally.used ≤ k → k ≤ m → (report : RunReport) × Does s k z report × TellsWithin ds k (x ++ z) report
   pub settled : IsSettled s
@@ -213,16 +227,15 @@ pub record Gives (ds : List Directive) (m : ℕ) (s : Standing) (x : List ℕ) (
   pub is : report_of s ≡ Some report
   pub right : RunTold ds m x ending report
 
--- the text of an item for this slot, where the item has a byte
-abbrev pub text_begun : Option ℕ → List ℕ → Option Opened
-text_begun None item = None
-text_begun (Some slot) [] = None
-text_begun (Some slot) (b ∷ item) = Some (record { slot = slot; text = b ∷ item })
+-- by whether a conversion takes a column
+abbrev pub IsTextBy : Bool → Conversion → List ℕ → Option Opened → Type 0
+IsTextBy true c y opened = opened ≡ text_begun (text_slot (Conv c)) (trimmed_front y)
+IsTextBy false c y opened = (s : ℕ) × IsSkipBefore c.shape y s × (opened ≡ text_begun (text_slot (Conv c)) (drop s y))
 
 -- The text under way of a directive that has consumed y: where it stores a text, the bytes of its item so far, which are y past the
--- white space that it skips.
+-- white space that it skips; of a column, y past the white space at its front.
 abbrev pub IsTextUnderWay : Directive → List ℕ → Option Opened → Type 0
-IsTextUnderWay (Conv c) y opened = (s : ℕ) × IsSkipBefore c.shape y s × (opened ≡ text_begun (text_slot (Conv c)) (drop s y))
+IsTextUnderWay (Conv c) y opened = IsTextBy c.column c y opened
 IsTextUnderWay _ y opened = opened ≡ None
 
 -- the bytes y bring the directive to a stage, which the phase shows

@@ -2,43 +2,53 @@
 ghost use Rattle.std.specs.Prelude.{◌≡◌, ◌≢◌, ◌+◌, ◌<◌, ◌≤◌, ◌&&◌, ◌^◌, true, false, ℕ, ℤ, List, [], ◌∷◌, ◌++◌, length};
 ghost use Rattle.std.specs.Prelude.{◌-◌, slice_get, take, drop, get_or, if◌then◌else◌, not};
 ghost use Rattle.std.specs.Prelude.{Option, Some, None, IfSome, IsNone};
+ghost use Rattle.sf_base.specs.Blanks.{trimmed_front};
 ghost use Rattle.sf_base.specs.Bytes.{is_white};
 ghost use Rattle.std.specs.Option.{option_map};
 ghost use Rattle.sf_base.specs.Data.{Number as NumberOf, Real as RealOf, datum_of_number, value_of};
 ghost use Rattle.sf_base.specs.stores.Kept.{Opened, text_of};
 ghost use Rattle.sf_base.specs.Kinds.{bounds_of};
+ghost use Rattle.sf_float_read.specs.item.Tests.{is_float};
 ghost use Rattle.sf_format.specs.declared.directive.Conversion.{Conversion};
 ghost use Rattle.sf_format.specs.declared.directive.Directive.{Directive};
 ghost use Rattle.sf_format.specs.declared.directive.Directive.TheVariants as directive;
+ghost use Rattle.sf_format.specs.declared.directive.Lead.{Lead};
+ghost use Rattle.sf_format.specs.declared.directive.Lead.TheVariants.{Any};
+ghost use Rattle.sf_format.specs.Leads.{as_in_c, is_strict_lead};
 ghost use Rattle.sf_format.specs.declared.directive.Shape.TheVariants.{Chars, Float, Int, Text};
 ghost use Rattle.sf_format.specs.declared.layout.Way.TheVariants as ways;
 ghost use Rattle.sf_format.specs.Layout.{most_of, row_of};
 ghost use Rattle.sf_format.specs.Proper.{IsProper, IsProperShape};
+ghost use Rattle.sf_item.specs.ColumnScans as columns;
+ghost use Rattle.sf_item.specs.ColumnScans.{HasTakenColumn};
 ghost use Rattle.sf_item.specs.Scan.{HasLeft};
 ghost use Rattle.sf_item.specs.Taking.{CanTake, HasTaken, conversion_of, left_of};
 ghost use Rattle.sf_item.specs.Tests.{can_take};
-ghost use Rattle.sf_item.specs.Wholes.{EndsWithin, ItemWithin};
+ghost use Rattle.sf_item.specs.Wholes.{EndsWithin, ItemWithin, led_by};
 ghost use Rattle.sf_report.specs.Steps.{StepEnd};
 ghost use Rattle.sf_run.specs.declared.directive.Phase.TheVariants as phase;
 ghost use Rattle.sf_run.specs.declared.directive.Finished.TheVariants as finish;
 ghost use Rattle.sf_report.specs.Machine.{Stage, Skipping, Item, shape_skips, is_full, item_end, passed_end};
-ghost use Rattle.sf_report.specs.Machine.{item_finished, count_end, finished};
-ghost use Rattle.sf_run.specs.Texts.{text_slot, opened_for, slot_of, slot_of_text, is_count};
-ghost use Rattle.sf_run.specs.Holding.{FallsBy};
+ghost use Rattle.sf_report.specs.Machine.{column_end, count_end, finished, finished_by};
+ghost use Rattle.sf_run.specs.Texts.{IsSound, closing_text, is_column, is_count, is_cut, opened_for, opened_slot};
+ghost use Rattle.sf_run.specs.Texts.{slot_of};
+ghost use Rattle.sf_run.specs.Texts.{IsNextSlot, text_begun, text_slot};
+ghost use Rattle.sf_run.specs.Holding.{FallsBy, left_before};
 ghost use Rattle.sf_run.specs.Phases.{ShowsItem, Shows, CanAll, IsNumberGiven, end_of, is_failing, is_memory_failure};
+ghost use Rattle.sf_run.specs.Phases.{is_in_column, stage_of};
 ghost use Rattle.sf_run.specs.Phases.{is_missing, passed_number, slot_closed, slot_given, slot_in};
-ghost use Rattle.sf_run.specs.Pieces.{Answers, EndsAt, EndsAtOnce, IsEnd, IsEndIn, IsEndOf, IsNumberRow};
+ghost use Rattle.sf_run.specs.Pieces.{Answers, EndsAt, EndsAtOnce, EndsWithAll, IsEnd, IsEndIn, IsEndOf, IsNumberRow};
 ghost use Rattle.sf_run.specs.Pieces.{IsSetItem, IsTextRow, StaysAt, Suits, run_of};
 ghost use Rattle.sf_run.specs.Quick.{IsSure};
 ghost use Rattle.sf_run.specs.Stopping.{is_memory_status};
 
 use crate::number::{decimal_real, number_of};
-use sf_base::{Kind, Number, Real, digit_value, is_space, space_run};
+use sf_base::{Kind, Number, Real, digit_value, is_space, space_run, trimmed_end};
 use sf_float_read::numeral_within;
-use sf_format::{Base, Conversion, Directive, Row, ScanFormat, Shape};
+use sf_format::{Base, Conversion, Directive, Lead, Numeral, Row, ScanFormat, Shape};
 use sf_item::{
-    ItemEnd, ItemScan, WholeInteger, characters_item, decimal_within, hex_within, members_item,
-    text_item, until_item, whole_auto, whole_decimal, whole_hex,
+    ColumnScan, ItemEnd, ItemScan, WholeInteger, characters_item, decimal_within, hex_within,
+    members_item, text_item, until_item, whole_auto, whole_decimal, whole_hex,
 };
 use sf_report::Status;
 
@@ -50,7 +60,31 @@ pub(crate) enum Phase<'f> {
     /// It took bytes of an item that is not stored as it stands.
     Item(ItemScan<'f>),
     /// It took bytes of an item that is the text of this slot, or of its float.
-    Text { slot: u8, scan: ItemScan<'f> },
+    Text {
+        slot: u8,
+        scan: ItemScan<'f>,
+    },
+    /// It took bytes of a column. Once its text has begun, that is the text of this slot, or of its float.
+    Column {
+        slot: Option<u8>,
+        scan: ColumnScan<'f>,
+    },
+}
+
+impl<'f> Phase<'f> {
+    ghost use Rattle.sf_run.specs.Phases.{slot_in};
+
+    /// The slot of the text under way.
+    #[inline(always)]
+    pub(crate) fn slot(&self) -> Option<u8>
+        ensures { result ≡ slot_in self.now }
+    {
+        match *self {
+            Phase::Skipping | Phase::Item(_) => None,
+            Phase::Text { slot, .. } => Some(slot),
+            Phase::Column { slot, .. } => slot,
+        }
+    }
 }
 
 /// How a directive ended.
@@ -101,6 +135,14 @@ pub(crate) struct Ended {
     pub(crate) finished: Finished,
 }
 
+/// A directive that took nothing yet, and ends so within a piece, after it took bytes that are no part of its item too.
+#[derive(Clone, Copy)]
+pub(crate) struct EndedColumn {
+    pub(crate) ended: Ended,
+    /// The bytes after those of the item.
+    pub(crate) after: usize,
+}
+
 /// The slot whose text the bytes of the item are, as they stand or while a float is read, if there is one.
 #[inline(always)]
 pub(crate) fn text_slot(conversion: &Conversion) -> Option<u8>
@@ -108,7 +150,7 @@ pub(crate) fn text_slot(conversion: &Conversion) -> Option<u8>
 {
     match conversion.shape {
         Shape::Int(_) | Shape::Count => None,
-        Shape::Text | Shape::Set(_) | Shape::Chars | Shape::Float => conversion.slot,
+        Shape::Text(_) | Shape::Set(_) | Shape::Chars | Shape::Float(_) => conversion.slot,
     }
 }
 
@@ -125,7 +167,31 @@ pub(crate) fn is_count(shape: &Shape) -> bool
 fn skips_space(shape: &Shape) -> bool
     ensures { result ≡ shape_skips shape.now }
 {
-    matches!(shape, Shape::Int(_) | Shape::Text | Shape::Float)
+    match shape {
+        Shape::Int(numeral) => !numeral.lead.is_strict(),
+        Shape::Text(lead) | Shape::Float(lead) => !lead.is_strict(),
+        Shape::Set(_) | Shape::Chars | Shape::Count => false,
+    }
+}
+
+/// How far a directive has come with which the text of this slot begins.
+pub(crate) fn opened_phase<'f>(conversion: &'f Conversion, phase: Phase<'f>, slot: u8) -> Phase<'f>
+    requires none { slot_in phase ≡ None }
+    requires own { text_slot (directive.Conv conversion.now) ≡ Some slot }
+    ensures slot { slot_in result ≡ Some slot }
+    ensures left { left_before (directive.Conv conversion.now) result
+        ≡ left_before (directive.Conv conversion.now) phase.entry }
+{
+    match phase {
+        Phase::Column { scan, .. } => Phase::Column {
+            slot: Some(slot),
+            scan,
+        },
+        _ => Phase::Text {
+            slot,
+            scan: ItemScan::start(conversion),
+        },
+    }
 }
 
 /// How far a directive has come that took bytes of its item; `slot` is that of its text.
@@ -134,6 +200,7 @@ fn item_phase<'f>(slot: Option<u8>, scan: ItemScan<'f>) -> Phase<'f>
     ensures slot { slot_in result ≡ slot }
     ensures shown { (d : Directive) (q : Stage) → Shows d result q → ShowsItem d slot scan.entry q }
     ensures run { (n : Option ℕ) (k : ℕ) → HasLeft n (left_of scan.entry) k → FallsBy n result k }
+    ensures item { is_in_column result ≡ false }
 {
     match slot {
         None => Phase::Item(scan),
@@ -262,7 +329,7 @@ fn finish_kept(conversion: &Conversion, slot: u8) -> Finished
     ensures memory { is_memory_failure result ≡ false }
 {
     match conversion.shape {
-        Shape::Float => Finished::Reads {
+        Shape::Float(_) => Finished::Reads {
             slot,
             kind: conversion.kind,
         },
@@ -288,6 +355,7 @@ pub(crate) fn finish_text(conversion: &Conversion, slot: u8, scan: ItemScan<'_>)
 }
 
 /// `n` after so many bytes of the run.
+#[inline(always)]
 fn finish_count(conversion: &Conversion, used: u32) -> Finished
     ensures end { (text : List ℕ) → end_of text result ≡ count_end conversion.now conversion.now.slot used }
     ensures closes { slot_closed result ≡ None }
@@ -335,18 +403,85 @@ fn finish_nothing(conversion: &Conversion, status: Status) -> Finished
     }
 }
 
-/// How a conversion ends where the input ends.
-fn finish_conversion(conversion: &Conversion, phase: Phase<'_>) -> Finished
+/// A column whose text has begun, which is that of the slot, or of its float.
+fn finish_column_text(conversion: &Conversion, slot: u8, scan: &ColumnScan<'_>) -> Finished
+    requires { text_slot (directive.Conv conversion.now) ≡ Some slot }
+    ensures end { (f : List ℕ) → conversion.now ≡ columns.conversion_of scan.now → conversion.now.column ≡ true
+        → HasTakenColumn scan.now f
+        → opened_slot (text_begun (text_slot (directive.Conv conversion.now)) (trimmed_front f)) ≡ Some slot
+        → end_of (closing_text (directive.Conv conversion.now) (trimmed_front f)) result ≡ column_end conversion.now f }
+    ensures text { is_failing result ≡ false → Some slot ≡ slot_closed result }
+    ensures given { is_failing result ≡ false → slot_given result ≡ conversion.now.slot }
+    ensures number { IsNumberGiven result }
+    ensures memory { is_memory_failure result ≡ false }
+{
+    match scan.finish() {
+        ItemEnd::Matched => finish_kept(conversion, slot),
+        _ => Finished::Fails(Status::MatchingFailure),
+    }
+}
+
+/// A column that is white space alone, or whose text is not stored. White space alone ends as if a byte stood there
+/// that begins no item.
+fn finish_column_item(conversion: &Conversion, scan: &ColumnScan<'_>) -> Finished
+    ensures end { (text f : List ℕ) → conversion.now ≡ columns.conversion_of scan.now → HasTakenColumn scan.now f
+        → opened_slot (text_begun (text_slot (directive.Conv conversion.now)) (trimmed_front f)) ≡ None
+        → end_of text result ≡ column_end conversion.now f }
+    ensures closes { slot_closed result ≡ None }
+    ensures given { is_failing result ≡ false → is_missing result ≡ false → slot_given result ≡ conversion.now.slot }
+    ensures number { IsNumberGiven result }
+    ensures memory { is_memory_failure result ≡ false }
+{
+    match scan.finish() {
+        ItemEnd::Empty => finish_nothing(conversion, Status::MatchingFailure),
+        ItemEnd::Unmatched => Finished::Fails(Status::MatchingFailure),
+        ItemEnd::Matched => finish_matched(conversion.slot),
+        ItemEnd::Integer {
+            negative,
+            magnitude,
+            overflowed,
+        } => finish_number(
+            conversion,
+            number_of(conversion.kind, negative, magnitude, overflowed),
+        ),
+    }
+}
+
+/// A column that has ended, of which one byte at least was taken; `slot` is that of its text, where that has begun.
+fn finish_column(conversion: &Conversion, slot: Option<u8>, scan: &ColumnScan<'_>) -> Finished
+    requires { IfSome slot (λ n. text_slot (directive.Conv conversion.now) ≡ Some n) }
+    ensures end { (f : List ℕ) → conversion.now ≡ columns.conversion_of scan.now → conversion.now.column ≡ true
+        → HasTakenColumn scan.now f
+        → opened_slot (text_begun (text_slot (directive.Conv conversion.now)) (trimmed_front f)) ≡ slot
+        → end_of (closing_text (directive.Conv conversion.now) (trimmed_front f)) result ≡ column_end conversion.now f }
+    ensures text { is_failing result ≡ false → slot ≡ slot_closed result }
+    ensures given { is_failing result ≡ false → is_missing result ≡ false → slot_given result ≡ conversion.now.slot }
+    ensures number { IsNumberGiven result }
+    ensures memory { is_memory_failure result ≡ false }
+{
+    match slot {
+        Some(slot) => finish_column_text(conversion, slot, scan),
+        None => finish_column_item(conversion, scan),
+    }
+}
+
+/// How a conversion ends where the input ends, so many bytes into the run.
+fn finish_conversion(conversion: &Conversion, phase: Phase<'_>, used: u32) -> Finished
     requires { IfSome (slot_in phase) (λ slot. text_slot (directive.Conv conversion.now) ≡ Some slot) }
     ensures end { (q : Stage) (opened : Option Opened) → Shows (directive.Conv conversion.now) phase.entry q
-        → opened ≡ opened_for (text_slot (directive.Conv conversion.now)) q
-        → end_of (text_of opened) result ≡ item_finished conversion.now q false }
+        → opened ≡ opened_for (directive.Conv conversion.now) q
+        → end_of (closing_text (directive.Conv conversion.now) (text_of opened)) result
+        ≡ finished_by conversion.now.column conversion.now q used false }
     ensures is { IsEnd (directive.Conv conversion.now) phase.entry result }
 {
     match phase {
+        Phase::Skipping if is_count(&conversion.shape) && !conversion.column => {
+            finish_count(conversion, used)
+        }
         Phase::Skipping => finish_nothing(conversion, Status::InputFailure),
         Phase::Item(scan) => finish_item(conversion, scan),
         Phase::Text { slot, scan } => finish_text(conversion, slot, scan),
+        Phase::Column { slot, scan } => finish_column(conversion, slot, &scan),
     }
 }
 
@@ -354,17 +489,37 @@ fn finish_conversion(conversion: &Conversion, phase: Phase<'_>) -> Finished
 pub(crate) fn finish(directive: &Directive, phase: Phase<'_>, used: u32) -> Finished
     requires { IfSome (slot_in phase) (λ slot. text_slot directive.now ≡ Some slot) }
     ensures end { (q : Stage) (opened : Option Opened) → Shows directive.now phase.entry q
-        → opened ≡ opened_for (text_slot directive.now) q
-        → end_of (text_of opened) result ≡ finished directive.now q used false }
+        → opened ≡ opened_for directive.now q
+        → end_of (closing_text directive.now (text_of opened)) result ≡ finished directive.now q used false }
     ensures is { IsEnd directive.now phase.entry result }
 {
     match directive {
         Directive::Space => Finished::Passes,
         Directive::Byte(_) | Directive::Percent => Finished::Fails(Status::InputFailure),
-        Directive::Conv(conversion) if is_count(&conversion.shape) => {
-            finish_count(conversion, used)
-        }
-        Directive::Conv(conversion) => finish_conversion(conversion, phase),
+        Directive::Conv(conversion) => finish_conversion(conversion, phase, used),
+    }
+}
+
+/// Whether the directive takes a column without `!`, which gives its text without the white space at its end.
+#[inline(always)]
+pub(crate) fn is_cut(directive: &Directive) -> bool
+    ensures { result ≡ is_cut directive.now }
+{
+    match directive {
+        Directive::Conv(conversion) => conversion.column && !conversion.shape.is_strict(),
+        _ => false,
+    }
+}
+
+/// The text that the directive gives of the one under way.
+#[inline(always)]
+pub(crate) fn closing_text<'t>(directive: &Directive, text: &'t [u8]) -> &'t [u8]
+    ensures { result.now ≡ closing_text directive.now text.now }
+{
+    if is_cut(directive) {
+        trimmed_end(text)
+    } else {
+        text
     }
 }
 
@@ -399,6 +554,7 @@ fn ends<'f>(before: usize, item: usize, finished: Finished) -> Run<'f>
 fn run_space<'f>(piece: &[u8]) -> Run<'f>
     ensures answers { (n : ℕ) → Answers directive.Space Skipping n piece.now result }
     ensures suits { Suits directive.Space phase.Skipping piece.now result }
+    ensures phase { result.phase ≡ phase.Skipping }
 {
     let space = space_before(piece);
     if space < piece.len() {
@@ -416,6 +572,7 @@ fn run_byte<'f>(due: u8, piece: &[u8]) -> Run<'f>
         → Answers directive.Percent Skipping n piece.now result }
     ensures suits { Suits (directive.Byte due) phase.Skipping piece.now result }
     ensures suits_percent { Suits directive.Percent phase.Skipping piece.now result }
+    ensures phase { result.phase ≡ phase.Skipping }
 {
     match piece.first() {
         None => waits(0),
@@ -427,7 +584,7 @@ fn run_byte<'f>(due: u8, piece: &[u8]) -> Run<'f>
 /// Whether the item ends after so many bytes of the piece, which it took.
 fn is_over(scan: &ItemScan<'_>, item: usize, piece: &[u8]) -> bool
     ensures over { (f : List ℕ) → IsProper (directive.Conv (conversion_of scan.now))
-        → HasTaken scan.now (f ++ take item piece.now)
+        → (conversion_of scan.now).column ≡ false → HasTaken scan.now (f ++ take item piece.now)
         → (item < length piece.now → CanTake (conversion_of scan.now) (f ++ take (item + 1) piece.now) → ⊥)
         → result ≡ true
         → StaysAt (directive.Conv (conversion_of scan.now)) (Item (f ++ take item piece.now)) (drop item piece.now) }
@@ -453,17 +610,18 @@ fn go_on<'f>(
     ensures stops { (f : List ℕ) → HasTaken scan.entry f → result.item < length piece.now
         → CanTake (conversion_of scan.entry) (f ++ take (result.item + 1) piece.now) → ⊥ }
     ensures shows { (d : Directive) (f : List ℕ) → d ≡ directive.Conv (conversion_of scan.entry) → text_slot d ≡ slot
-        → HasTaken scan.entry f
+        → is_column d ≡ false → HasTaken scan.entry f
         → f ++ take result.item piece.now ≢ [] → Shows d result.phase (Item (f ++ take result.item piece.now)) }
     ensures waits { result.ends ≡ None → result.item ≡ length piece.now }
     ensures more { result.ends ≡ None → (d : Directive) (q : Stage) → IsProper d → Shows d result.phase q
         → is_full d q ≡ false }
     ensures ends { (f : List ℕ) → IsProper (directive.Conv conversion.now) → conversion.now ≡ conversion_of scan.entry
-        → HasTaken scan.entry f
+        → conversion.now.column ≡ false → HasTaken scan.entry f
         → text_slot (directive.Conv conversion.now) ≡ slot → f ++ take result.item piece.now ≢ []
         → IfSome result.ends (EndsAt (directive.Conv conversion.now) (f ++ take result.item piece.now)
         (drop result.item piece.now)) }
     ensures slot { slot_in result.phase ≡ slot }
+    ensures item { is_in_column result.phase ≡ false }
     ensures left { FallsBy (left_of scan.entry) result.phase result.item }
     ensures is { IfSome result.ends (IsEnd (directive.Conv conversion.now) result.phase) }
 {
@@ -485,11 +643,11 @@ fn go_on<'f>(
     }
 }
 
-/// The integer of the base that the piece begins with, where there is a quick way to read it and a byte of the piece
-/// follows.
+/// The integer of the base, without `!`, that the piece begins with, where there is a quick way to read it and a byte
+/// of the piece follows.
 #[inline(always)]
 fn whole_integer(base: Base, width: Option<u16>, piece: &[u8]) -> Option<WholeInteger>
-    ensures { IfSome result (EndsWithin base width piece.now) }
+    ensures { IfSome result (EndsWithin (as_in_c base) width piece.now) }
 {
     match base {
         Base::Dec => whole_decimal(width, piece),
@@ -502,7 +660,8 @@ fn whole_integer(base: Base, width: Option<u16>, piece: &[u8]) -> Option<WholeIn
 /// How the item of a conversion of this base ends, whose first byte is that of the piece, where it is read as a whole.
 #[inline(always)]
 fn whole_number(conversion: &Conversion, base: Base, piece: &[u8]) -> Option<Ended>
-    requires { conversion.now.shape ≡ Int base }
+    requires plain { conversion.now.column ≡ false }
+    requires shape { conversion.now.shape ≡ Int (as_in_c base) }
     ensures answers { IsProper (directive.Conv conversion.now)
         → (0 < length piece.now → (shape_skips conversion.now.shape && is_white (get_or piece.now 0 0)) ≡ false)
         → (n : ℕ)
@@ -523,6 +682,7 @@ fn whole_number(conversion: &Conversion, base: Base, piece: &[u8]) -> Option<End
 /// As `whole_number`, of a conversion of any shape: an item of no integer isn't read so.
 #[inline(always)]
 fn number_within(conversion: &Conversion, piece: &[u8]) -> Option<Ended>
+    requires { conversion.now.column ≡ false }
     ensures answers { IsProper (directive.Conv conversion.now)
         → (0 < length piece.now → (shape_skips conversion.now.shape && is_white (get_or piece.now 0 0)) ≡ false)
         → (n : ℕ)
@@ -532,7 +692,12 @@ fn number_within(conversion: &Conversion, piece: &[u8]) -> Option<Ended>
     ensures closes { IfSome result (λ e. slot_closed e.finished ≡ None) }
 {
     match &conversion.shape {
-        Shape::Int(base) => whole_number(conversion, *base, piece),
+        Shape::Int(
+            Numeral {
+                base,
+                lead: Lead::Any,
+            },
+        ) => whole_number(conversion, *base, piece),
         _ => None,
     }
 }
@@ -540,7 +705,8 @@ fn number_within(conversion: &Conversion, piece: &[u8]) -> Option<Ended>
 /// The item of a conversion, whose first byte is that of the piece.
 #[inline(always)]
 fn begin_item<'f>(conversion: &'f Conversion, piece: &[u8]) -> Run<'f>
-    requires { is_count conversion.now.shape ≡ false }
+    requires plain { conversion.now.column ≡ false }
+    requires item { is_count conversion.now.shape ≡ false }
     ensures answers { IsProper (directive.Conv conversion.now)
         → (0 < length piece.now → (shape_skips conversion.now.shape && is_white (get_or piece.now 0 0)) ≡ false)
         → (n : ℕ)
@@ -579,15 +745,89 @@ fn behind<'f>(before: usize, run: Run<'f>) -> Run<'f>
     }
 }
 
+/// The slot of the text of a column after so many more bytes of it; before them it is this one.
+fn slot_after(conversion: &Conversion, slot: Option<u8>, text: usize) -> Option<u8>
+    requires { IfSome slot (λ n. text_slot (directive.Conv conversion.now) ≡ Some n) }
+    ensures same { text ≡ 0 → result ≡ slot }
+    ensures begun { text ≢ 0 → result ≡ text_slot (directive.Conv conversion.now) }
+    ensures own { IfSome result (λ n. text_slot (directive.Conv conversion.now) ≡ Some n) }
+    ensures next { IsNextSlot (text_slot (directive.Conv conversion.now)) slot result }
+{
+    if text == 0 {
+        slot
+    } else {
+        text_slot(conversion)
+    }
+}
+
+/// Takes as many bytes of the piece as the column has left; `slot` is that of its text, where that has begun. It ends
+/// where it has no byte left, whatever follows.
+fn run_column<'f>(
+    conversion: &'f Conversion,
+    slot: Option<u8>,
+    mut scan: ColumnScan<'f>,
+    piece: &[u8],
+) -> Run<'f>
+    requires { IfSome slot (λ n. text_slot (directive.Conv conversion.now) ≡ Some n) }
+    ensures answers { (f : List ℕ) → IsProper (directive.Conv conversion.now)
+        → conversion.now ≡ columns.conversion_of scan.entry → conversion.now.column ≡ true
+        → HasTakenColumn scan.entry f → f ++ piece.now ≢ []
+        → opened_slot (opened_for (directive.Conv conversion.now) (stage_of f)) ≡ slot → (n : ℕ)
+        → Answers (directive.Conv conversion.now) (stage_of f) n piece.now result }
+    ensures within { result.before + result.item ≤ length piece.now }
+    ensures all { result.ends ≡ None → result.before + result.item ≡ length piece.now }
+    ensures more { result.ends ≡ None → (q : Stage) → Shows (directive.Conv conversion.now) result.phase q
+        → is_full (directive.Conv conversion.now) q ≡ false }
+    ensures slot { IsNextSlot (text_slot (directive.Conv conversion.now)) slot (slot_in result.phase) }
+    ensures column { is_in_column result.phase ≡ true }
+    ensures left { FallsBy (Some (columns.column_left scan.entry)) result.phase result.item }
+    ensures end { IfSome result.ends (IsEnd (directive.Conv conversion.now) result.phase) }
+{
+    let taken = scan.take_run(piece);
+    let slot = slot_after(conversion, slot, taken.text);
+    let phase = Phase::Column { slot, scan };
+    if !scan.is_full() {
+        return Run {
+            before: taken.before,
+            item: taken.text,
+            phase,
+            ends: None,
+        };
+    }
+    Run {
+        before: taken.before,
+        item: taken.text,
+        phase,
+        ends: Some(finish_column(conversion, slot, &scan)),
+    }
+}
+
+/// The column of a conversion that took nothing yet.
+fn begin_column<'f>(conversion: &'f Conversion, piece: &[u8]) -> Run<'f>
+    requires column { conversion.now.column ≡ true }
+    requires item { is_count conversion.now.shape ≡ false }
+    ensures answers { IsProper (directive.Conv conversion.now) → (n : ℕ)
+        → Answers (directive.Conv conversion.now) Skipping n piece.now result }
+    ensures suits { Suits (directive.Conv conversion.now) phase.Skipping piece.now result }
+{
+    if piece.is_empty() {
+        return waits(0);
+    }
+    run_column(conversion, None, ColumnScan::start(conversion), piece)
+}
+
 /// Hands a conversion that took nothing yet the piece, which comes so many bytes into the run.
 #[inline(always)]
 fn begin<'f>(conversion: &'f Conversion, piece: &[u8], used: u32) -> Run<'f>
-    ensures answers { IsProper (directive.Conv conversion.now)
+    ensures answers { IsSound (directive.Conv conversion.now)
         → Answers (directive.Conv conversion.now) Skipping used piece.now result }
     ensures suits { Suits (directive.Conv conversion.now) phase.Skipping piece.now result }
 {
     if is_count(&conversion.shape) {
         return ends(0, 0, finish_count(conversion, used));
+    }
+    if conversion.column {
+        return begin_column(conversion, piece);
     }
     let before = skipped(&conversion.shape, piece);
     let (_, rest) = piece.split_at(before);
@@ -603,7 +843,7 @@ fn run_conversion<'f>(
     used: u32,
 ) -> Run<'f>
     requires { IfSome (slot_in phase) (λ slot. text_slot (directive.Conv conversion.now) ≡ Some slot) }
-    ensures answers { (q : Stage) → IsProper (directive.Conv conversion.now)
+    ensures answers { (q : Stage) → IsSound (directive.Conv conversion.now)
         → Shows (directive.Conv conversion.now) phase.entry q
         → Answers (directive.Conv conversion.now) q used piece.now result }
     ensures suits { Suits (directive.Conv conversion.now) phase.entry piece.now result }
@@ -612,6 +852,7 @@ fn run_conversion<'f>(
         Phase::Skipping => begin(conversion, piece, used),
         Phase::Item(scan) => go_on(conversion, None, scan, piece),
         Phase::Text { slot, scan } => go_on(conversion, Some(slot), scan, piece),
+        Phase::Column { slot, scan } => run_column(conversion, slot, scan, piece),
     }
 }
 
@@ -620,6 +861,7 @@ fn run_conversion<'f>(
 fn run_percent<'f>(piece: &[u8]) -> Run<'f>
     ensures answers { (n : ℕ) → Answers directive.Percent Skipping n piece.now result }
     ensures suits { Suits directive.Percent phase.Skipping piece.now result }
+    ensures phase { result.phase ≡ phase.Skipping }
 {
     let before = space_before(piece);
     let (_, rest) = piece.split_at(before);
@@ -635,7 +877,7 @@ pub(crate) fn run_on<'f>(
     used: u32,
 ) -> Run<'f>
     requires { IfSome (slot_in phase) (λ slot. text_slot directive.now ≡ Some slot) }
-    ensures answers { (q : Stage) → IsProper directive.now → Shows directive.now phase.entry q
+    ensures answers { (q : Stage) → IsSound directive.now → Shows directive.now phase.entry q
         → Answers directive.now q used piece.now result }
     ensures suits { Suits directive.now phase.entry piece.now result }
 {
@@ -690,30 +932,31 @@ fn finish_by(row: &Row, whole: WholeInteger) -> Finished
     }
 }
 
-/// As `whole_integer`, where the most bytes of the integer are known.
+/// As `whole_integer`, of an integer so written, where its most bytes are known.
 #[inline(always)]
-fn integer_within(base: Base, most: usize, piece: &[u8]) -> Option<WholeInteger>
-    ensures { (width : Option ℕ) → most ≡ most_of width → IfSome result (EndsWithin base width piece.now) }
+fn integer_within(lead: Lead, base: Base, most: usize, piece: &[u8]) -> Option<WholeInteger>
+    ensures { (width : Option ℕ) → most ≡ most_of width
+        → IfSome result (EndsWithin (led_by lead base) width piece.now) }
 {
     match base {
-        Base::Dec => decimal_within(most, piece),
-        Base::Hex => hex_within(most, piece),
+        Base::Dec => decimal_within(lead, most, piece),
+        Base::Hex => hex_within(lead, most, piece),
         _ => None,
     }
 }
 
-/// As `whole_number`, of a conversion of the base with the row.
+/// As `whole_number`, of a conversion of an integer so written with the row.
 #[inline(always)]
-fn number_by(row: &Row, base: Base, piece: &[u8]) -> Option<Ended>
+fn number_by(row: &Row, lead: Lead, base: Base, piece: &[u8]) -> Option<Ended>
     requires { bounds_of row.now.kind ≡ Some (row.now.signed, row.now.greatest) }
-    ensures answers { (c : Conversion) → IsNumberRow row.now base c → IsProper (directive.Conv c)
+    ensures answers { (c : Conversion) → IsNumberRow row.now (led_by lead base) c → IsProper (directive.Conv c)
         → (0 < length piece.now → (shape_skips c.shape && is_white (get_or piece.now 0 0)) ≡ false)
         → (n : ℕ) → IfSome result (λ e. Answers (directive.Conv c) Skipping n piece.now (run_of e)) }
-    ensures fits { (c : Conversion) → IsNumberRow row.now base c
+    ensures fits { (c : Conversion) → IsNumberRow row.now (led_by lead base) c
         → IfSome result (IsEndIn (directive.Conv c) piece.now) }
     ensures before { IfSome result (λ e. e.before ≡ 0) }
 {
-    let whole = integer_within(base, row.width, piece)?;
+    let whole = integer_within(lead, base, row.width, piece)?;
     let item = whole.bytes;
     Some(Ended {
         before: 0,
@@ -722,21 +965,37 @@ fn number_by(row: &Row, base: Base, piece: &[u8]) -> Option<Ended>
     })
 }
 
-/// As `number_by`, of a conversion that took nothing yet.
+/// As `number_by`, of a conversion without `!` that took nothing yet.
 #[inline(always)]
 pub(crate) fn number_at_once(row: &Row, base: Base, piece: &[u8]) -> Option<Ended>
     requires { bounds_of row.now.kind ≡ Some (row.now.signed, row.now.greatest) }
-    ensures { (c : Conversion) → IsNumberRow row.now base c → (n : ℕ)
+    ensures { (c : Conversion) → IsNumberRow row.now (as_in_c base) c → (n : ℕ)
         → IfSome result (EndsAtOnce (directive.Conv c) n piece.now) }
 {
     let before = space_before(piece);
     let (_, rest) = piece.split_at(before);
-    let ended = number_by(row, base, rest)?;
+    let ended = number_by(row, Lead::Any, base, rest)?;
     Some(Ended {
         before,
         item: ended.item,
         finished: ended.finished,
     })
+}
+
+/// As `number_by`, of a conversion with `!` that took nothing yet.
+#[inline(always)]
+pub(crate) fn strict_number_at_once(
+    row: &Row,
+    lead: Lead,
+    base: Base,
+    piece: &[u8],
+) -> Option<Ended>
+    requires bounds { bounds_of row.now.kind ≡ Some (row.now.signed, row.now.greatest) }
+    requires strict { is_strict_lead lead ≡ true }
+    ensures { (c : Conversion) → IsNumberRow row.now (led_by lead base) c → (n : ℕ)
+        → IfSome result (EndsAtOnce (directive.Conv c) n piece.now) }
+{
+    number_by(row, lead, base, piece)
 }
 
 /// How a conversion with the row ends whose item is stored as it stands, where it is so many bytes at the front of the
@@ -764,7 +1023,7 @@ fn bytes_by(row: &Row, item: Option<usize>, piece: &[u8]) -> Option<Ended>
 /// a function of its own, so that a run asks for the way of a row and not for the shape too.
 #[inline(always)]
 pub(crate) fn text_at_once(row: &Row, piece: &[u8]) -> Option<Ended>
-    ensures { (c : Conversion) → c.shape ≡ Text → IsTextRow row.now c → (n : ℕ)
+    ensures { (c : Conversion) → c.shape ≡ Text Any → IsTextRow row.now c → (n : ℕ)
         → IfSome result (EndsAtOnce (directive.Conv c) n piece.now) }
 {
     let before = space_before(piece);
@@ -775,6 +1034,15 @@ pub(crate) fn text_at_once(row: &Row, piece: &[u8]) -> Option<Ended>
         item: ended.item,
         finished: ended.finished,
     })
+}
+
+/// As `text_at_once`, of a conversion `!s`.
+#[inline(always)]
+pub(crate) fn strict_text_at_once(row: &Row, piece: &[u8]) -> Option<Ended>
+    ensures { (c : Conversion) (lead : Lead) → is_strict_lead lead ≡ true → c.shape ≡ Text lead → IsTextRow row.now c
+        → (n : ℕ) → IfSome result (EndsAtOnce (directive.Conv c) n piece.now) }
+{
+    bytes_by(row, text_item(row.width, piece), piece)
 }
 
 /// As `members_item`, of the first of so many directives of a format that are left; None where that is by no set. It
@@ -809,7 +1077,7 @@ pub(crate) fn members_at_once(
     requires some { 0 < left }
     requires within { left ≤ length format.now }
     ensures { (d : Directive) → slice_get format.now (length format.now - left) ≡ Some d → row.now ≡ row_of d
-        → (n : ℕ) → IfSome result (EndsAtOnce d n piece.now) }
+        → row.now.way ≡ ways.Members → (n : ℕ) → IfSome result (EndsAtOnce d n piece.now) }
 {
     let item = members_left(format, left, row.width, piece)?;
     bytes_by(row, Some(item), piece)
@@ -835,15 +1103,22 @@ pub(crate) fn characters_at_once(row: &Row, piece: &[u8]) -> Option<Ended>
 
 /// How a directive ends that took nothing yet, where it does so within the piece.
 #[inline(always)]
-fn as_ended(run: Run<'_>) -> Option<Ended>
-    ensures is { IfSome result (λ e. IsEndOf e run.entry) }
+fn as_ended(directive: &Directive, run: Run<'_>, piece: &[u8]) -> Option<EndedColumn>
+    requires { run.before + run.item ≤ length piece.now }
+    ensures is { IfSome result (λ e. IsEndOf directive.now piece.now e run.entry) }
     ensures none { IsNone result → run.entry.ends ≡ None }
 {
     let finished = run.ends?;
-    Some(Ended {
-        before: run.before,
-        item: run.item,
-        finished,
+    let (_, rest) = piece.split_at(run.before);
+    let (text, _) = rest.split_at(run.item);
+    let item = closing_text(directive, text).len();
+    Some(EndedColumn {
+        ended: Ended {
+            before: run.before,
+            item,
+            finished,
+        },
+        after: run.item - item,
     })
 }
 
@@ -887,39 +1162,30 @@ pub(crate) fn whole_byte(due: u8, piece: &[u8]) -> Option<Ended>
 #[derive(Clone, Copy)]
 pub(crate) struct ReadReal {
     pub(crate) ended: Ended,
+    /// The bytes of a column after those of the item.
+    pub(crate) after: usize,
     pub(crate) slot: u8,
     pub(crate) real: Real,
 }
 
-/// The slot of a conversion of a float without a width.
+/// A float that is in range, of a conversion whose item's first byte is that of the piece, where it is a decimal
+/// numeral that is read at once.
 #[inline(always)]
-fn real_slot(conversion: &Conversion) -> Option<u8>
-    ensures shape { IfSome result (λ _. conversion.now.shape ≡ Float) }
-    ensures width { IfSome result (λ _. conversion.now.width ≡ None) }
-    ensures slot { IfSome result (λ slot. conversion.now.slot ≡ Some slot) }
-{
-    match (&conversion.shape, conversion.width) {
-        (Shape::Float, None) => conversion.slot,
-        _ => None,
-    }
-}
-
-/// A float that is in range, of a conversion without a width whose first byte is that of the piece, where it is a
-/// decimal numeral that is read at once.
-#[inline(always)]
-fn real_by(conversion: &Conversion, piece: &[u8]) -> Option<ReadReal>
-    ensures answers { IsProper (directive.Conv conversion.now)
+fn real_by(conversion: &Conversion, slot: u8, piece: &[u8]) -> Option<ReadReal>
+    requires shape { conversion.now.shape ≡ Float Any }
+    requires slot { conversion.now.slot ≡ Some slot }
+    ensures answers { conversion.now.width ≡ None → IsSound (directive.Conv conversion.now)
         → (0 < length piece.now → (shape_skips conversion.now.shape && is_white (get_or piece.now 0 0)) ≡ false)
         → (n : ℕ)
         → IfSome result (λ r. Answers (directive.Conv conversion.now) Skipping n piece.now (run_of r.ended)) }
+    ensures float { IfSome result (λ r. is_float (take r.ended.item piece.now) ≡ true) }
     ensures fits { IfSome result (λ r. IsEndIn (directive.Conv conversion.now) piece.now r.ended) }
     ensures before { IfSome result (λ r. r.ended.before ≡ 0) }
-    ensures shape { IfSome result (λ _. conversion.now.shape ≡ Float) }
-    ensures slot { IfSome result (λ r. conversion.now.slot ≡ Some r.slot) }
+    ensures finished { IfSome result (λ r. r.ended.finished ≡ finish.Reads slot conversion.now.kind) }
+    ensures slot { IfSome result (λ r. r.slot ≡ slot) }
     ensures real { IfSome result (λ r. end_of (take r.ended.item piece.now) r.ended.finished
-        ≡ StepEnd.Stores r.slot (RealOf r.real)) }
+        ≡ StepEnd.Stores slot (RealOf r.real)) }
 {
-    let slot = real_slot(conversion)?;
     let decimal = numeral_within(piece)?;
     let real = decimal_real(conversion.kind, decimal)?;
     Some(ReadReal {
@@ -931,15 +1197,95 @@ fn real_by(conversion: &Conversion, piece: &[u8]) -> Option<ReadReal>
                 kind: conversion.kind,
             },
         },
+        after: 0,
         slot,
         real,
     })
 }
 
-/// As `real_by`, of any directive that took nothing yet.
+/// As `real_by`, of a conversion without a width that took nothing yet.
+#[inline(always)]
+fn real_item(conversion: &Conversion, slot: u8, piece: &[u8]) -> Option<ReadReal>
+    requires shape { conversion.now.shape ≡ Float Any }
+    requires width { conversion.now.width ≡ None }
+    requires slot { conversion.now.slot ≡ Some slot }
+    ensures ends { (n : ℕ) → IfSome result (λ r. EndsWithAll (directive.Conv conversion.now) n piece.now
+        (record { ended = r.ended; after = r.after })) }
+    ensures slot { IfSome result (λ r. r.slot ≡ slot) }
+    ensures real { IfSome result (λ r. end_of (take r.ended.item (drop r.ended.before piece.now)) r.ended.finished
+        ≡ StepEnd.Stores slot (RealOf r.real)) }
+{
+    let before = space_before(piece);
+    let (_, rest) = piece.split_at(before);
+    let read = real_by(conversion, slot, rest)?;
+    Some(ReadReal {
+        ended: Ended {
+            before,
+            item: read.ended.item,
+            finished: read.ended.finished,
+        },
+        after: 0,
+        slot,
+        real: read.real,
+    })
+}
+
+/// How many bytes of white space stand from the place on up to the end of the column that the piece begins with: of
+/// `12.5  7` and a width of 6 it is 2 from the place 4 on. None where another byte stands there, or where the column
+/// doesn't lie whole in the piece.
+#[inline(always)]
+fn white_up_to(width: usize, at: usize, piece: &[u8]) -> Option<usize>
+    ensures end { IfSome result (λ after. at + after ≡ width) }
+    ensures within { IfSome result (λ _. width ≤ length piece.now) }
+    ensures white { IfSome result (λ after. (k : ℕ) → k < after → is_white (get_or piece.now (at + k) 0) ≡ true) }
+{
+    if piece.len() < width || width < at {
+        return None;
+    }
+    let (column, _) = piece.split_at(width);
+    let (_, rest) = column.split_at(at);
+    if space_before(rest) < rest.len() {
+        return None;
+    }
+    Some(rest.len())
+}
+
+/// As `real_item`, of a column that lies whole in the piece. It stands apart, so that a format without columns doesn't
+/// pay for it.
+#[inline(never)]
+fn real_column(conversion: &Conversion, width: u16, slot: u8, piece: &[u8]) -> Option<ReadReal>
+    requires shape { conversion.now.shape ≡ Float Any }
+    requires column { conversion.now.column ≡ true }
+    requires width { conversion.now.width ≡ Some width }
+    requires slot { conversion.now.slot ≡ Some slot }
+    ensures ends { (n : ℕ) → IfSome result (λ r. EndsWithAll (directive.Conv conversion.now) n piece.now
+        (record { ended = r.ended; after = r.after })) }
+    ensures slot { IfSome result (λ r. r.slot ≡ slot) }
+    ensures real { IfSome result (λ r. end_of (take r.ended.item (drop r.ended.before piece.now)) r.ended.finished
+        ≡ StepEnd.Stores slot (RealOf r.real)) }
+{
+    let before = space_before(piece);
+    let (_, rest) = piece.split_at(before);
+    let read = real_by(conversion, slot, rest)?;
+    let after = white_up_to(width as usize, before + read.ended.item, piece)?;
+    Some(ReadReal {
+        ended: Ended {
+            before,
+            item: read.ended.item,
+            finished: read.ended.finished,
+        },
+        after,
+        slot,
+        real: read.real,
+    })
+}
+
+/// A float that is in range, of any directive that took nothing yet, where it is a decimal numeral that is read at
+/// once: an item without a width, or the text of a column that lies whole in the piece.
 #[inline(always)]
 pub(crate) fn real_at_once(directive: &Directive, piece: &[u8]) -> Option<ReadReal>
-    ensures ends { (n : ℕ) → IfSome result (λ r. EndsAtOnce directive.now n piece.now r.ended) }
+    ensures ends { (n : ℕ) → IfSome result (λ r. EndsWithAll directive.now n piece.now
+        (record { ended = r.ended; after = r.after })) }
     ensures slot { IfSome result (λ r. slot_of directive.now ≡ Some r.slot) }
     ensures real { IfSome result (λ r. end_of (take r.ended.item (drop r.ended.before piece.now)) r.ended.finished
         ≡ StepEnd.Stores r.slot (RealOf r.real)) }
@@ -947,19 +1293,16 @@ pub(crate) fn real_at_once(directive: &Directive, piece: &[u8]) -> Option<ReadRe
     let Directive::Conv(conversion) = directive else {
         return None;
     };
-    let _slot = real_slot(conversion)?;
-    let before = space_before(piece);
-    let (_, rest) = piece.split_at(before);
-    let read = real_by(conversion, rest)?;
-    Some(ReadReal {
-        ended: Ended {
-            before,
-            item: read.ended.item,
-            finished: read.ended.finished,
-        },
-        slot: read.slot,
-        real: read.real,
-    })
+    if !matches!(conversion.shape, Shape::Float(Lead::Any)) {
+        return None;
+    }
+    match (conversion.width, conversion.slot) {
+        (None, Some(slot)) => real_item(conversion, slot, piece),
+        (Some(width), Some(slot)) if conversion.column => real_column(
+            conversion, width, slot, piece,
+        ),
+        _ => None,
+    }
 }
 
 /// Whether the byte is the first of no item of a conversion of the shape, where that is seen at once.
@@ -971,13 +1314,14 @@ fn begins_none(shape: &Shape, b: u8) -> bool
     match shape {
         Shape::Int(_) => b != b'+' && b != b'-' && digit_value(b, 16).is_none(),
         Shape::Set(members) => !members.contains(b),
-        Shape::Text | Shape::Chars | Shape::Float | Shape::Count => false,
+        Shape::Text(_) | Shape::Chars | Shape::Float(_) | Shape::Count => false,
     }
 }
 
 /// How a conversion ends, whose first byte is that of the piece, where that is the first of no item.
 #[inline(always)]
 fn without_item(conversion: &Conversion, piece: &[u8]) -> Option<Ended>
+    requires { conversion.now.column ≡ false }
     ensures answers { IsProper (directive.Conv conversion.now)
         → (0 < length piece.now → (shape_skips conversion.now.shape && is_white (get_or piece.now 0 0)) ≡ false)
         → (n : ℕ)
@@ -999,6 +1343,7 @@ fn without_item(conversion: &Conversion, piece: &[u8]) -> Option<Ended>
 /// As `number_within`, of an integer whose base its digits say: no row reads it.
 #[inline(always)]
 fn number_of_any_base(conversion: &Conversion, piece: &[u8]) -> Option<Ended>
+    requires { conversion.now.column ≡ false }
     ensures answers { IsProper (directive.Conv conversion.now)
         → (0 < length piece.now → (shape_skips conversion.now.shape && is_white (get_or piece.now 0 0)) ≡ false)
         → (n : ℕ)
@@ -1007,7 +1352,12 @@ fn number_of_any_base(conversion: &Conversion, piece: &[u8]) -> Option<Ended>
     ensures before { IfSome result (λ e. e.before ≡ 0) }
 {
     match conversion.shape {
-        Shape::Int(Base::Auto | Base::AutoBin) => number_within(conversion, piece),
+        Shape::Int(
+            Numeral {
+                base: Base::Auto | Base::AutoBin,
+                ..
+            },
+        ) => number_within(conversion, piece),
         _ => None,
     }
 }
@@ -1016,6 +1366,7 @@ fn number_of_any_base(conversion: &Conversion, piece: &[u8]) -> Option<Ended>
 /// without an item.
 #[inline(always)]
 fn item_at_once(conversion: &Conversion, piece: &[u8]) -> Option<Ended>
+    requires { conversion.now.column ≡ false }
     ensures answers { IsProper (directive.Conv conversion.now)
         → (0 < length piece.now → (shape_skips conversion.now.shape && is_white (get_or piece.now 0 0)) ≡ false)
         → (n : ℕ)
@@ -1038,7 +1389,7 @@ fn seen_at_once(directive: &Directive, piece: &[u8]) -> Option<Ended>
         Directive::Byte(due) => whole_byte(*due, piece),
         Directive::Conv(conversion) => {
             // the shape first, so that one of which nothing is seen at once costs no look at the piece
-            if !matches!(conversion.shape, Shape::Int(_) | Shape::Set(_)) {
+            if !matches!(conversion.shape, Shape::Int(_) | Shape::Set(_)) || conversion.column {
                 return None;
             }
             let before = skipped(&conversion.shape, piece);
@@ -1054,25 +1405,112 @@ fn seen_at_once(directive: &Directive, piece: &[u8]) -> Option<Ended>
     }
 }
 
+/// How a column of an integer ends that lies whole in the piece, where its text is an integer that is read as a whole.
+#[inline(always)]
+fn number_column(
+    conversion: &Conversion,
+    numeral: Numeral,
+    width: u16,
+    piece: &[u8],
+) -> Option<EndedColumn>
+    requires column { conversion.now.column ≡ true }
+    requires shape { conversion.now.shape ≡ Int numeral }
+    requires width { conversion.now.width ≡ Some width }
+    ensures { (n : ℕ) → IfSome result (EndsWithAll (directive.Conv conversion.now) n piece.now) }
+{
+    let width = width as usize;
+    let before = skipped(&conversion.shape, piece);
+    if width < before {
+        return None;
+    }
+    let (_, rest) = piece.split_at(before);
+    let whole = integer_within(numeral.lead, numeral.base, width - before, rest)?;
+    let after = white_up_to(width, before + whole.bytes, piece)?;
+    if numeral.lead.is_strict() && after > 0 {
+        return None;
+    }
+    let number = number_of(conversion.kind, whole.negative, whole.magnitude, false);
+    Some(EndedColumn {
+        ended: Ended {
+            before,
+            item: whole.bytes,
+            finished: finish_number(conversion, number),
+        },
+        after,
+    })
+}
+
+/// As `number_column`, of a column of a text without `!`. None, too, where it is white space alone.
+#[inline(always)]
+fn text_column(conversion: &Conversion, width: u16, piece: &[u8]) -> Option<EndedColumn>
+    requires column { conversion.now.column ≡ true }
+    requires shape { conversion.now.shape ≡ Text Any }
+    requires width { conversion.now.width ≡ Some width }
+    ensures { (n : ℕ) → IfSome result (EndsWithAll (directive.Conv conversion.now) n piece.now) }
+{
+    let width = width as usize;
+    if piece.len() < width {
+        return None;
+    }
+    let (column, _) = piece.split_at(width);
+    let before = space_before(column);
+    if before == width {
+        return None;
+    }
+    let (_, rest) = column.split_at(before);
+    let item = trimmed_end(rest).len();
+    Some(EndedColumn {
+        ended: Ended {
+            before,
+            item,
+            finished: finish_bytes(conversion.slot),
+        },
+        after: rest.len() - item,
+    })
+}
+
+/// How a directive that takes a column ends, where that lies whole in the piece and its end is seen at once.
+#[inline(always)]
+fn column_at_once(directive: &Directive, piece: &[u8]) -> Option<EndedColumn>
+    ensures { (n : ℕ) → IfSome result (EndsWithAll directive.now n piece.now) }
+{
+    let Directive::Conv(conversion) = directive else {
+        return None;
+    };
+    if !conversion.column {
+        return None;
+    }
+    let width = conversion.width?;
+    match &conversion.shape {
+        Shape::Int(numeral) => number_column(conversion, *numeral, width, piece),
+        Shape::Text(Lead::Any) => text_column(conversion, width, piece),
+        _ => None,
+    }
+}
+
 /// As `ended_within`, whichever directive it is. It stands apart, since what it makes on the way is large.
 #[cold]
 #[inline(never)]
-fn ended_by_run(directive: &Directive, piece: &[u8], used: u32) -> Option<Ended>
-    ensures ends { IfSome result (EndsAtOnce directive.now used piece.now) }
-    ensures waits { IsNone result → IsProper directive.now → (room : ℕ) → IsSure directive.now used piece.now room → ⊥ }
+fn ended_by_run(directive: &Directive, piece: &[u8], used: u32) -> Option<EndedColumn>
+    ensures ends { IfSome result (EndsWithAll directive.now used piece.now) }
+    ensures waits { IsNone result → IsSound directive.now → (room : ℕ) → IsSure directive.now used piece.now room → ⊥ }
 {
-    as_ended(run_on(directive, Phase::Skipping, piece, used))
+    if let Some(ended) = column_at_once(directive, piece) {
+        return Some(ended);
+    }
+    let run = run_on(directive, Phase::Skipping, piece, used);
+    as_ended(directive, run, piece)
 }
 
 /// How the directive ends, which took nothing yet, where it does so within the piece, which comes so many bytes into
 /// the run.
 #[inline(always)]
-pub(crate) fn ended_within(directive: &Directive, piece: &[u8], used: u32) -> Option<Ended>
-    ensures ends { IfSome result (EndsAtOnce directive.now used piece.now) }
-    ensures waits { IsNone result → IsProper directive.now → (room : ℕ) → IsSure directive.now used piece.now room → ⊥ }
+pub(crate) fn ended_within(directive: &Directive, piece: &[u8], used: u32) -> Option<EndedColumn>
+    ensures ends { IfSome result (EndsWithAll directive.now used piece.now) }
+    ensures waits { IsNone result → IsSound directive.now → (room : ℕ) → IsSure directive.now used piece.now room → ⊥ }
 {
     if let Some(ended) = seen_at_once(directive, piece) {
-        return Some(ended);
+        return Some(EndedColumn { ended, after: 0 });
     }
     ended_by_run(directive, piece, used)
 }

@@ -5,29 +5,30 @@ ghost use Rattle.sf_format.specs.declared.directive.Directive.{Directive};
 ghost use Rattle.sf_base.specs.Data.{Assigned};
 ghost use Rattle.sf_base.specs.stores.Kept.{buffer_of, nothing_kept};
 ghost use Rattle.sf_format.specs.Layout.{assigns_item, items_assigned, items_taken, row_of};
-ghost use Rattle.sf_format.specs.Proper.{IsProper, destinations_of};
+ghost use Rattle.sf_format.specs.Proper.{destinations_of};
 ghost use Rattle.sf_report.specs.declared.outcome.Ending.{Ending};
 ghost use Rattle.sf_report.specs.declared.outcome.Status.TheVariants as statuses;
 ghost use Rattle.sf_report.specs.Limits.{RunWithin};
 ghost use Rattle.sf_report.specs.Memory.{HoldsValues, capacity_of};
 ghost use Rattle.sf_run.specs.Phases.{IsNumberGiven, end_of, slot_given};
-ghost use Rattle.sf_run.specs.Pieces.{EndsAtOnce};
+ghost use Rattle.sf_run.specs.Pieces.{EndsAtOnce, EndsWithAll};
 ghost use Rattle.sf_run.specs.Counting.{HasCome, front_of, none_missing};
 ghost use Rattle.sf_run.specs.Quick.{EndsSo, GivesTo, IsDoneWithin, IsEndedWithin, IsSure, IsUngiven, MayBeGiven};
 ghost use Rattle.sf_run.specs.Quick.{text_stored, ungiven_end};
 ghost use Rattle.sf_run.specs.declared.quick.Missing.{Missing};
 ghost use Rattle.sf_run.specs.declared.quick.PassageEnd.TheVariants as ends;
-ghost use Rattle.sf_run.specs.Texts.{slot_of};
+ghost use Rattle.sf_run.specs.Texts.{IsSound, slot_of};
 ghost use Rattle.sf_report.specs.Views.{report_by};
 
 use crate::directive::{
-    Ended, Finished, characters_at_once, ended_within, members_at_once, number_at_once,
-    real_at_once, text_at_once, until_at_once, whole_byte, whole_space,
+    Ended, EndedColumn, Finished, characters_at_once, ended_within, members_at_once,
+    number_at_once, real_at_once, strict_number_at_once, strict_text_at_once, text_at_once,
+    until_at_once, whole_byte, whole_space,
 };
 use crate::number::real_of;
 use crate::tally::is_conversion;
 use sf_base::{HeapStore, Number, Store};
-use sf_format::{Base, Directive, Row, ScanFormat, Way};
+use sf_format::{Base, Directive, Lead, Row, ScanFormat, Way};
 use sf_report::{Outcome, Status};
 
 /// How a directive ends within a piece of the input, whatever follows that.
@@ -170,7 +171,7 @@ fn pass_so<S: Store>(
     requires opened { (S.kept store.old).opened ≡ None }
     requires free { MayBeGiven S.slots (slot_of directive.now) (S.kept store.old).values }
     requires ends { IfSome ended (EndsAtOnce directive.now used piece.now) }
-    ensures passes { IsProper directive.now → IfSome result (λ taken. EndsSo directive.now used piece.now
+    ensures passes { IsSound directive.now → IfSome result (λ taken. EndsSo directive.now used piece.now
         (record { taken = taken; end = ends.Passes }) (S.kept store.old) (S.kept store.new)) }
     ensures within { IfSome result (λ taken. taken ≤ length piece.now) }
     ensures same { IsNone result → S.kept store.new ≡ S.kept store.old }
@@ -189,25 +190,26 @@ fn pass_so<S: Store>(
 fn end_so<S: Store>(
     store: &mut S,
     directive: &Directive,
-    ended: Option<Ended>,
+    ended: Option<EndedColumn>,
     piece: &[u8],
     used: u32,
 ) -> Option<Passage>
     requires opened { (S.kept store.old).opened ≡ None }
     requires free { MayBeGiven S.slots (slot_of directive.now) (S.kept store.old).values }
-    requires ends { IfSome ended (EndsAtOnce directive.now used piece.now) }
-    ensures ends { IsProper directive.now → IfSome result
+    requires ends { IfSome ended (EndsWithAll directive.now used piece.now) }
+    ensures ends { IsSound directive.now → IfSome result
         (λ passage. EndsSo directive.now used piece.now passage (S.kept store.old) (S.kept store.new)) }
     ensures within { IfSome result (λ passage. passage.taken ≤ length piece.now) }
-    ensures sure { IsSome ended → IsProper directive.now → IsSure directive.now used piece.now (S.kept store.old).room
+    ensures sure { IsSome ended → IsSound directive.now → IsSure directive.now used piece.now (S.kept store.old).room
         → IsSome result }
     ensures same { IsNone result → S.kept store.new ≡ S.kept store.old }
     ensures room { capacity_of (S.kept store.old) ≤ capacity_of (S.kept store.new) }
 {
     let _directive = directive;
     let _used = used;
-    let ended = ended?;
-    let taken = ended.before + ended.item;
+    let column = ended?;
+    let ended = column.ended;
+    let taken = ended.before + ended.item + column.after;
     if let Some(_stores) = give(store, ended, piece) {
         return Some(Passage {
             taken,
@@ -228,7 +230,7 @@ fn pass_real<S: Store>(
 ) -> Option<Passage>
     requires opened { (S.kept store.old).opened ≡ None }
     requires free { MayBeGiven S.slots (slot_of directive.now) (S.kept store.old).values }
-    ensures ends { IsProper directive.now → IfSome result
+    ensures ends { IsSound directive.now → IfSome result
         (λ passage. EndsSo directive.now used piece.now passage (S.kept store.old) (S.kept store.new)) }
     ensures within { IfSome result (λ passage. passage.taken ≤ length piece.now) }
     ensures same { IsNone result → S.kept store.new ≡ S.kept store.old }
@@ -238,7 +240,7 @@ fn pass_real<S: Store>(
     let read = real_at_once(directive, piece)?;
     store.set_real(read.slot, read.real);
     Some(Passage {
-        taken: read.ended.before + read.ended.item,
+        taken: read.ended.before + read.ended.item + read.after,
         end: PassageEnd::Passes,
     })
 }
@@ -254,10 +256,10 @@ fn pass_whole<S: Store>(
 ) -> Option<Passage>
     requires opened { (S.kept store.old).opened ≡ None }
     requires free { MayBeGiven S.slots (slot_of directive.now) (S.kept store.old).values }
-    ensures ends { IsProper directive.now → IfSome result
+    ensures ends { IsSound directive.now → IfSome result
         (λ passage. EndsSo directive.now used piece.now passage (S.kept store.old) (S.kept store.new)) }
     ensures within { IfSome result (λ passage. passage.taken ≤ length piece.now) }
-    ensures sure { IsProper directive.now → IsSure directive.now used piece.now (S.kept store.old).room
+    ensures sure { IsSound directive.now → IsSure directive.now used piece.now (S.kept store.old).room
         → IsSome result }
     ensures room { capacity_of (S.kept store.old) ≤ capacity_of (S.kept store.new) }
 {
@@ -287,7 +289,7 @@ fn pass<S: Store>(
     requires first { slice_get format.now (length format.now - left) ≡ Some directive.now }
     requires free { MayBeGiven S.slots (slot_of directive.now) (S.kept store.old).values }
     requires row { row.now ≡ row_of directive.now }
-    ensures passes { IsProper directive.now → IfSome result (λ taken. EndsSo directive.now used piece.now
+    ensures passes { IsSound directive.now → IfSome result (λ taken. EndsSo directive.now used piece.now
         (record { taken = taken; end = ends.Passes }) (S.kept store.old) (S.kept store.new)) }
     ensures within { IfSome result (λ taken. taken ≤ length piece.now) }
     ensures same { IsNone result → S.kept store.new ≡ S.kept store.old }
@@ -312,6 +314,22 @@ fn pass<S: Store>(
         }
         Way::Text => {
             let ended = text_at_once(row, piece);
+            pass_so(store, directive, ended, piece, used)
+        }
+        Way::StrictSigned => {
+            let ended = strict_number_at_once(row, Lead::Minus, Base::Dec, piece);
+            pass_so(store, directive, ended, piece, used)
+        }
+        Way::StrictDecimal => {
+            let ended = strict_number_at_once(row, Lead::Nothing, Base::Dec, piece);
+            pass_so(store, directive, ended, piece, used)
+        }
+        Way::StrictHexadecimal => {
+            let ended = strict_number_at_once(row, Lead::Nothing, Base::Hex, piece);
+            pass_so(store, directive, ended, piece, used)
+        }
+        Way::StrictText => {
+            let ended = strict_text_at_once(row, piece);
             pass_so(store, directive, ended, piece, used)
         }
         Way::Until => {

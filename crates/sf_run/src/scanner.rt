@@ -7,9 +7,9 @@ ghost use Rattle.std.specs.Option.{option_map};
 ghost use Rattle.std.specs.Result.{result_ok};
 ghost use Rattle.sf_base.specs.Data.{Assigned, Bytes, Real as RealOf, datum_of_number};
 ghost use Rattle.sf_report.specs.Machine.{real_at, real_end};
-ghost use Rattle.sf_base.specs.stores.Kept.{buffer_of, longer, with_bytes, nothing_kept, text_of, texts_in};
+ghost use Rattle.sf_base.specs.stores.Kept.{buffer_of, longer, with_bytes, with_cut, nothing_kept, text_of, texts_in};
 ghost use Rattle.sf_format.specs.declared.directive.Directive.{Directive};
-ghost use Rattle.sf_format.specs.Proper.{AreProper, IsProper, destinations_of, slots_of};
+ghost use Rattle.sf_format.specs.Proper.{destinations_of, slots_of};
 ghost use Rattle.sf_format.specs.Widths.{width_sum};
 ghost use Rattle.sf_report.specs.declared.outcome.Ending.{Ending};
 ghost use Rattle.sf_report.specs.declared.outcome.Status.TheVariants as status;
@@ -20,16 +20,17 @@ ghost use Rattle.sf_run.specs.Phases.{end_of, slot_in};
 ghost use Rattle.sf_run.specs.Pieces.{IsEnd};
 ghost use Rattle.sf_run.specs.Places.{places_left};
 ghost use Rattle.sf_run.specs.Stopping.{is_no_memory, is_memory_status};
-ghost use Rattle.sf_run.specs.Texts.{text_slot, slot_of, opened_slot, slots_in, IsNextSlot, opened_with};
+ghost use Rattle.sf_run.specs.Texts.{AreSound, IsSound, closing_text, text_slot, slot_of, opened_slot, slots_in};
+ghost use Rattle.sf_run.specs.Texts.{IsNextSlot};
+ghost use Rattle.sf_run.specs.Texts.{opened_with};
 ghost use Rattle.sf_report.specs.Steps.{StepEnd};
 
-use crate::directive::{Finished, Phase, Run, finish, run_on};
+use crate::directive::{Finished, Phase, Run, closing_text, finish, is_cut, opened_phase, run_on};
 use crate::feeding::{Fed, FeedState, StartFault};
 use crate::number::real_of;
 use crate::tally::Tally;
 use sf_base::{FixedStore, HeapStore, Kind, Number, Real, Store, push_each};
 use sf_format::{Directive, ScanFormat};
-use sf_item::ItemScan;
 use sf_report::{Ending, Outcome, Report, Scanned, Status};
 use std::alloc::Global;
 
@@ -63,6 +64,19 @@ fn store_bytes<S: Store>(store: &mut S, bytes: &[u8]) -> usize
         return bytes.len();
     }
     push_each(store, bytes)
+}
+
+/// Takes away what the directive doesn't give of the opened text: the white space at the end of that of a column.
+fn cut_opened<S: Store>(store: &mut S, directive: &Directive)
+    requires { IsSome (S.kept store.old).opened }
+    ensures { S.kept store.new
+        ≡ with_cut (length (closing_text directive.now (text_of (S.kept store.old).opened))) (S.kept store.old) }
+{
+    if !is_cut(directive) {
+        return;
+    }
+    let count = closing_text(directive, store.opened()).len();
+    store.cut_text(count);
 }
 
 /// Scans values by a format from bytes that are handed to it, as fscanf does (C11 7.21.6.2), into a store. It keeps no
@@ -126,7 +140,7 @@ impl<'f, S: Store> Scanner<'f, S> {
         requires healthy { is_some (width_sum self.old.directives.now) ≡ true → is_no_memory (Some stop) ≡ false }
         ensures { Stops (standing self.new) (standing self.old) stop }
     {
-        if let Phase::Text { .. } = self.phase {
+        if self.phase.slot().is_some() {
             self.store.drop_text();
             self.phase = Phase::Skipping;
             self.ended = Some(stop);
@@ -182,9 +196,10 @@ impl<'f, S: Store> Scanner<'f, S> {
         requires text { slot_in self.old.phase ≡ Some slot }
         requires own { slot_of directive.now ≡ Some slot }
         ensures { Passes (standing self.new) (standing self.old) directive.now
-            (StepEnd.Stores slot (Bytes (text_of (kept_by self.old).opened))) }
+            (StepEnd.Stores slot (Bytes (closing_text directive.now (text_of (kept_by self.old).opened)))) }
     {
         let tally = self.tally.counted(directive, true);
+        cut_opened(&mut self.store, directive);
         self.store.close_text();
         self.tally = tally;
         self.passed += 1;
@@ -224,13 +239,13 @@ impl<'f, S: Store> Scanner<'f, S> {
         requires text { slot_in self.old.phase ≡ Some slot }
         requires own { slot_of directive.now ≡ Some slot }
         ensures ends { Ends (standing self.new) (standing self.old) directive.now
-            (real_end slot (real_at kind (text_of (kept_by self.old).opened))) }
+            (real_end slot (real_at kind (closing_text directive.now (text_of (kept_by self.old).opened)))) }
         ensures used { self.new.tally.used ≡ self.old.tally.used }
         ensures keeps { Keeps (standing self.new) (standing self.old) }
         ensures fewer { turns_left (standing self.new) < turns_left (standing self.old) }
         ensures memory { ran_out (standing self.new) ≡ false }
     {
-        match real_of(kind, self.store.opened()) {
+        match real_of(kind, closing_text(directive, self.store.opened())) {
             Some(real) => self.set_real(directive, slot, real),
             None => self.fail(Status::OutOfRange),
         }
@@ -242,7 +257,7 @@ impl<'f, S: Store> Scanner<'f, S> {
         requires waits { self.old.ended ≡ None }
         requires is { IsEnd directive.now self.old.phase finished }
         ensures ends { Ends (standing self.new) (standing self.old) directive.now
-            (end_of (text_of (kept_by self.old).opened) finished) }
+            (end_of (closing_text directive.now (text_of (kept_by self.old).opened)) finished) }
         ensures used { self.new.tally.used ≡ self.old.tally.used }
         ensures keeps { Keeps (standing self.new) (standing self.old) }
         ensures fewer { turns_left (standing self.new) < turns_left (standing self.old) }
@@ -301,10 +316,7 @@ impl<'f, S: Store> Scanner<'f, S> {
             return;
         };
         self.store.open_text(slot);
-        self.phase = Phase::Text {
-            slot,
-            scan: ItemScan::start(conversion),
-        };
+        self.phase = opened_phase(conversion, self.phase, slot);
     }
 
     /// Stores bytes of the text under way, after which the directive has come so far. Where the storing of one is
@@ -368,10 +380,10 @@ impl<'f, S: Store> Scanner<'f, S> {
             (standing self.old) run.entry.before run.entry.item) }
         ensures text { OnFalse result (IsSome (slot_in run.entry.phase)) }
     {
-        match (self.phase, run.phase) {
-            (Phase::Text { .. }, Phase::Text { .. }) => self.store_all(directive, run, item),
-            (_, Phase::Text { slot, .. }) => self.open_all(directive, slot, run, item),
-            _ => {
+        match run.phase.slot() {
+            Some(_) if self.phase.slot().is_some() => self.store_all(directive, run, item),
+            Some(slot) => self.open_all(directive, slot, run, item),
+            None => {
                 self.phase = run.phase;
                 self.tally.used += (run.before + run.item) as u32;
                 true
@@ -384,9 +396,9 @@ impl<'f, S: Store> Scanner<'f, S> {
     fn hand(&mut self, directive: &'f Directive, piece: &[u8]) -> Handed
         requires current { slice_get self.old.directives.now self.old.passed ≡ Some directive.now }
         requires waits { self.old.ended ≡ None }
-        ensures same { IsProper directive.now → ran_out (standing self.new) ≡ false → (z : List ℕ)
+        ensures same { IsSound directive.now → ran_out (standing self.new) ≡ false → (z : List ℕ)
             → Follows (standing self.new) (standing self.old) (drop result.taken piece.now ++ z) (piece.now ++ z) }
-        ensures memory { IsProper directive.now → ran_out (standing self.new) ≡ true
+        ensures memory { IsSound directive.now → ran_out (standing self.new) ≡ true
             → RefusesIn (standing self.new) (standing self.old) piece.now }
         ensures used { self.new.tally.used ≡ self.old.tally.used + result.taken }
         ensures within { result.taken ≤ length piece.now }
@@ -396,7 +408,7 @@ impl<'f, S: Store> Scanner<'f, S> {
         ensures some { result.waits ≡ true → 0 < length piece.now → 0 < result.taken }
         ensures settled { result.waits ≡ true → IsSettled (standing self.new) }
         ensures full { ran_out (standing self.new) ≡ true → (kept_by self.old).room < length piece.now }
-        ensures comes { IsProper directive.now → Advances (standing self.new)
+        ensures comes { IsSound directive.now → Advances (standing self.new)
             (standing self.old) piece.now result.taken }
     {
         let room = (self.limit - self.tally.used) as usize;
@@ -433,9 +445,9 @@ impl<'f, S: Store> Scanner<'f, S> {
 
     /// Hands bytes to the run until it ends or waits for more. Answers how many were taken.
     fn push(&mut self, piece: &[u8]) -> usize
-        ensures same { AreProper self.old.directives.now → ran_out (standing self.new) ≡ false → (z : List ℕ)
+        ensures same { AreSound self.old.directives.now → ran_out (standing self.new) ≡ false → (z : List ℕ)
             → Follows (standing self.new) (standing self.old) z (piece.now ++ z) }
-        ensures memory { AreProper self.old.directives.now → self.old.ended ≡ None → ran_out (standing self.new) ≡ true
+        ensures memory { AreSound self.old.directives.now → self.old.ended ≡ None → ran_out (standing self.new) ≡ true
             → RefusesIn (standing self.new) (standing self.old) piece.now }
         ensures used { self.new.tally.used ≡ self.old.tally.used + result }
         ensures within { result ≤ length piece.now }
@@ -447,7 +459,7 @@ impl<'f, S: Store> Scanner<'f, S> {
         ensures settled { IsSettled (standing self.new) }
         ensures full { ran_out (standing self.old) ≡ false → ran_out (standing self.new) ≡ true
             → (kept_by self.old).room < length piece.now }
-        ensures comes { AreProper self.old.directives.now → Advances (standing self.new)
+        ensures comes { AreSound self.old.directives.now → Advances (standing self.new)
             (standing self.old) piece.now result }
     {
         let mut taken = 0;
@@ -501,7 +513,7 @@ impl<'f, S: Store> Scanner<'f, S> {
     fn start(directives: &'f [Directive], limit: u32, store: S) -> Self
         requires few { length directives.now ≤ 4096 }
         requires places { length (destinations_of directives.now) ≤ 32 }
-        requires proper { AreProper directives.now }
+        requires sound { AreSound directives.now }
         requires placed { are_placed S.slots directives.now ≡ true }
         requires apart { are_apart (slots_of directives.now) ≡ true }
         requires empty { S.kept store ≡ nothing_kept (S.kept store).room }

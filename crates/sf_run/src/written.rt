@@ -4,22 +4,24 @@ ghost use Rattle.std.specs.Prelude.{drop, true, Some, IfSome, IsSome};
 ghost use Rattle.sf_base.specs.Data.{Assigned, Bytes, Datum, Real as RealOf, datum_of_number};
 ghost use Rattle.sf_format.specs.declared.directive.Directive.{Directive};
 ghost use Rattle.sf_format.specs.Layout.{row_of};
-ghost use Rattle.sf_format.specs.Proper.{AreInOrder, IsProper};
+ghost use Rattle.sf_format.specs.Proper.{AreInOrder};
 ghost use Rattle.sf_report.specs.Runs.{passed};
 ghost use Rattle.sf_report.specs.Steps.{StepEnd};
 ghost use Rattle.sf_run.specs.Phases.{IsNumberGiven, end_of};
-ghost use Rattle.sf_run.specs.Pieces.{EndsAtOnce};
+ghost use Rattle.sf_run.specs.Pieces.{EndsAtOnce, EndsWithAll};
+ghost use Rattle.sf_run.specs.Texts.{IsSound};
 ghost use Rattle.sf_run.specs.Quick.{IsDoneWithin};
 ghost use Rattle.sf_run.specs.Written.{AreRecords, CanFollow, IsRecord, IsWritten, IsWrittenSurely, PassesWriting};
 ghost use Rattle.sf_run.specs.Written.{text_given, texts_by};
 
 use crate::directive::{
-    Ended, Finished, ReadReal, characters_at_once, ended_within, members_at_once, number_at_once,
-    real_at_once, text_at_once, until_at_once, whole_byte, whole_space,
+    Ended, EndedColumn, Finished, ReadReal, characters_at_once, ended_within, members_at_once,
+    number_at_once, real_at_once, strict_number_at_once, strict_text_at_once, text_at_once,
+    until_at_once, whole_byte, whole_space,
 };
 use crate::number::real_of;
 use sf_base::{Number, Real};
-use sf_format::{Base, Directive, Row, ScanFormat, Way};
+use sf_format::{Base, Directive, Lead, Row, ScanFormat, Way};
 
 /// Writes the values of a run, each into room that is lent for it.
 pub trait ValueWriter {
@@ -100,6 +102,10 @@ fn ended_at_once(
         Way::Decimal => number_at_once(row, Base::Dec, piece),
         Way::Hexadecimal => number_at_once(row, Base::Hex, piece),
         Way::Text => text_at_once(row, piece),
+        Way::StrictSigned => strict_number_at_once(row, Lead::Minus, Base::Dec, piece),
+        Way::StrictDecimal => strict_number_at_once(row, Lead::Nothing, Base::Dec, piece),
+        Way::StrictHexadecimal => strict_number_at_once(row, Lead::Nothing, Base::Hex, piece),
+        Way::StrictText => strict_text_at_once(row, piece),
         Way::Until => until_at_once(row, piece),
         Way::Members => members_at_once(row, format, left, piece),
         Way::Characters => characters_at_once(row, piece),
@@ -169,11 +175,11 @@ fn pass_so<W: ValueWriter>(
 ) -> Option<WrittenRun>
     requires place { at ≤ length room.old }
     requires ends { EndsAtOnce directive.now used piece.now ended }
-    ensures passes { IsProper directive.now → IfSome result (λ run. PassesWriting W.text directive.now used piece.now
+    ensures passes { IsSound directive.now → IfSome result (λ run. PassesWriting W.text directive.now used piece.now
         run.used (take at room.old) (take run.end room.new)) }
     ensures within { IfSome result (λ run. run.used ≤ length piece.now) }
     ensures place { IfSome result (λ run. run.end ≤ length room.new) }
-    ensures sure { IsProper directive.now → (free : ℕ) → IsWrittenSurely W.text directive.now used piece.now free
+    ensures sure { IsSound directive.now → (free : ℕ) → IsWrittenSurely W.text directive.now used piece.now free
         → at + free + W.spare ≤ length room.old → IsSome result }
 {
     let _directive = directive;
@@ -196,14 +202,14 @@ fn pass_real<W: ValueWriter>(
     at: usize,
 ) -> Option<WrittenRun>
     requires place { at ≤ length room.old }
-    requires ends { EndsAtOnce directive.now used piece.now read.ended }
+    requires ends { EndsWithAll directive.now used piece.now (record { ended = read.ended; after = read.after }) }
     requires real { end_of (take read.ended.item (drop read.ended.before piece.now)) read.ended.finished
         ≡ StepEnd.Stores read.slot (RealOf read.real) }
-    ensures passes { IsProper directive.now → IfSome result (λ run. PassesWriting W.text directive.now used piece.now
+    ensures passes { IsSound directive.now → IfSome result (λ run. PassesWriting W.text directive.now used piece.now
         run.used (take at room.old) (take run.end room.new)) }
     ensures within { IfSome result (λ run. run.used ≤ length piece.now) }
     ensures place { IfSome result (λ run. run.end ≤ length room.new) }
-    ensures sure { IsProper directive.now → (free : ℕ) → IsWrittenSurely W.text directive.now used piece.now free
+    ensures sure { IsSound directive.now → (free : ℕ) → IsWrittenSurely W.text directive.now used piece.now free
         → at + free + W.spare ≤ length room.old → IsSome result }
 {
     let _directive = directive;
@@ -211,7 +217,36 @@ fn pass_real<W: ValueWriter>(
     let _used = used;
     let end = W::write_real(read.real, room, at)?;
     Some(WrittenRun {
-        used: read.ended.before + read.ended.item,
+        used: read.ended.before + read.ended.item + read.after,
+        end,
+    })
+}
+
+/// As `pass_so`, of a directive that may take bytes that are no part of its item too.
+#[inline(always)]
+fn pass_column<W: ValueWriter>(
+    directive: &Directive,
+    column: EndedColumn,
+    piece: &[u8],
+    used: u32,
+    room: &mut [u8],
+    at: usize,
+) -> Option<WrittenRun>
+    requires place { at ≤ length room.old }
+    requires ends { EndsWithAll directive.now used piece.now column }
+    ensures passes { IsSound directive.now → IfSome result (λ run. PassesWriting W.text directive.now used piece.now
+        run.used (take at room.old) (take run.end room.new)) }
+    ensures within { IfSome result (λ run. run.used ≤ length piece.now) }
+    ensures place { IfSome result (λ run. run.end ≤ length room.new) }
+    ensures sure { IsSound directive.now → (free : ℕ) → IsWrittenSurely W.text directive.now used piece.now free
+        → at + free + W.spare ≤ length room.old → IsSome result }
+{
+    let _directive = directive;
+    let _used = used;
+    let ended = column.ended;
+    let end = write_given::<W>(ended, piece, room, at)?;
+    Some(WrittenRun {
+        used: ended.before + ended.item + column.after,
         end,
     })
 }
@@ -227,18 +262,18 @@ fn pass_whole<W: ValueWriter>(
     at: usize,
 ) -> Option<WrittenRun>
     requires place { at ≤ length room.old }
-    ensures passes { IsProper directive.now → IfSome result (λ run. PassesWriting W.text directive.now used piece.now
+    ensures passes { IsSound directive.now → IfSome result (λ run. PassesWriting W.text directive.now used piece.now
         run.used (take at room.old) (take run.end room.new)) }
     ensures within { IfSome result (λ run. run.used ≤ length piece.now) }
     ensures place { IfSome result (λ run. run.end ≤ length room.new) }
-    ensures sure { IsProper directive.now → (free : ℕ) → IsWrittenSurely W.text directive.now used piece.now free
+    ensures sure { IsSound directive.now → (free : ℕ) → IsWrittenSurely W.text directive.now used piece.now free
         → at + free + W.spare ≤ length room.old → IsSome result }
 {
     if let Some(read) = real_at_once(directive, piece) {
         return pass_real::<W>(directive, read, piece, used, room, at);
     }
     let ended = ended_within(directive, piece, used)?;
-    pass_so::<W>(directive, ended, piece, used, room, at)
+    pass_column::<W>(directive, ended, piece, used, room, at)
 }
 
 /// As `pass_whole`, of the first of so many directives of a format that are left. It looks the directive up itself, so
@@ -256,12 +291,12 @@ fn pass_later<W: ValueWriter>(
     requires some { 0 < left }
     requires within { left ≤ length format.now }
     requires place { at ≤ length room.old }
-    ensures passes { (d : Directive) → slice_get format.now (length format.now - left) ≡ Some d → IsProper d
+    ensures passes { (d : Directive) → slice_get format.now (length format.now - left) ≡ Some d → IsSound d
         → IfSome result (λ run. PassesWriting W.text d used piece.now run.used (take at room.old)
         (take run.end room.new)) }
     ensures within { IfSome result (λ run. run.used ≤ length piece.now) }
     ensures place { IfSome result (λ run. run.end ≤ length room.new) }
-    ensures sure { (d : Directive) → slice_get format.now (length format.now - left) ≡ Some d → IsProper d
+    ensures sure { (d : Directive) → slice_get format.now (length format.now - left) ≡ Some d → IsSound d
         → (free : ℕ) → IsWrittenSurely W.text d used piece.now free → at + free + W.spare ≤ length room.old
         → IsSome result }
 {

@@ -3,7 +3,7 @@ ghost use Rattle.std.specs.Prelude.{◌≡◌, ◌≤◌, length, true};
 ghost use Rattle.sf_item.specs.Tests.{has_item};
 
 use sf_base::{ByteSet, Kind};
-use sf_format::{Base, Conversion, Shape};
+use sf_format::{Base, Conversion, Lead, Numeral, Shape};
 use sf_item::{
     ItemEnd, ItemScan, Radices, Step, WholeInteger, characters_item, decimal_within, hex_within,
     members_item, prefix_radix, radices_of, text_item, until_item, whole_auto, whole_decimal,
@@ -38,12 +38,18 @@ fn end_of(found: Found) -> ItemEnd {
     }
 }
 
+/// A decimal integer as C reads it.
+const DEC: Numeral = Numeral {
+    base: Base::Dec,
+    lead: Lead::Any,
+};
+
 fn shape_of(reader: Reader) -> Shape
     ensures { has_item result ≡ true }
 {
     match reader {
-        Reader::Integer(base) => Shape::Int(base),
-        Reader::Text => Shape::Text,
+        Reader::Integer(lead, base) => Shape::Int(Numeral { base, lead }),
+        Reader::Text => Shape::Text(Lead::Any),
         Reader::Digits => {
             let mut digits = ByteSet::empty();
             digits.insert_range(b'0', b'9');
@@ -62,6 +68,7 @@ fn conversion_of(shape: Shape, width: Option<u16>) -> Conversion
         width,
         slot: None,
         optional: false,
+        column: false,
     }
 }
 
@@ -113,7 +120,7 @@ fn items_are_the_longest_fronts(rt: HostRuntime) -> Result<(), Fail> {
 
 #[test]
 fn a_copy_goes_its_own_way(_rt: HostRuntime) -> Result<(), Fail> {
-    let conversion = conversion_of(Shape::Int(Base::Dec), None);
+    let conversion = conversion_of(Shape::Int(DEC), None);
     let mut scan = ItemScan::start(&conversion);
     let before = scan;
     let steps = (scan.step(b'7'), scan.step(b'x'));
@@ -135,7 +142,7 @@ static PIECES: [(&[u8], usize, u64); 6] = [
 
 #[test]
 fn pieces_are_taken(_rt: HostRuntime) -> Result<(), Fail> {
-    let conversion = conversion_of(Shape::Int(Base::Dec), Some(4));
+    let conversion = conversion_of(Shape::Int(DEC), Some(4));
     let mut scan = ItemScan::start(&conversion);
     for (piece, count, magnitude) in &PIECES {
         let taken = scan.take_all(piece);
@@ -208,7 +215,7 @@ fn is_whole(ways: [Option<WholeInteger>; 2], row: &DecimalRow) -> Result<(), Fai
 fn whole_decimals_end_within(_rt: HostRuntime) -> Result<(), Fail> {
     for row in decimals() {
         let (width, text, _) = row;
-        let within = decimal_within(most_of(*width), text);
+        let within = decimal_within(Lead::Any, most_of(*width), text);
         is_whole([whole_decimal(*width, text), within], row)?;
     }
     Ok(())
@@ -218,7 +225,7 @@ fn whole_decimals_end_within(_rt: HostRuntime) -> Result<(), Fail> {
 fn whole_hexadecimals_end_within(_rt: HostRuntime) -> Result<(), Fail> {
     for row in &HEXES {
         let (width, text, _) = row;
-        let within = hex_within(most_of(*width), text);
+        let within = hex_within(Lead::Any, most_of(*width), text);
         is_whole([whole_hex(*width, text), within], row)?;
     }
     Ok(())
@@ -248,16 +255,16 @@ static WHOLES: [(Reader, Option<u16>, &[u8], Option<usize>); 13] = [
     (Reader::Characters, Some(1), b" a", Some(1)),
     (Reader::Characters, Some(2), b" a", None),
     (Reader::Characters, Some(2), b" ab", Some(2)),
-    (Reader::Integer(Base::Dec), None, b"1,", None),
+    (Reader::Integer(Lead::Any, Base::Dec), None, b"1,", None),
 ];
 
 /// How many bytes the item of a reader has that ends within the text; none of an integer.
 fn whole_item(reader: Reader, width: Option<u16>, text: &[u8]) -> Option<usize> {
     match shape_of(reader) {
-        Shape::Text => text_item(most_of(width), text),
+        Shape::Text(_) => text_item(most_of(width), text),
         Shape::Set(members) => members_item(&members, most_of(width), text),
         Shape::Chars => characters_item(most_of(width), text),
-        Shape::Int(_) | Shape::Float | Shape::Count => None,
+        Shape::Int(_) | Shape::Float(_) | Shape::Count => None,
     }
 }
 
@@ -306,7 +313,7 @@ fn is_as_steps(width: Option<u16>, text: &[u8]) -> Result<(), Fail> {
     let Some(whole) = whole_decimal(width, text) else {
         return Ok(());
     };
-    let conversion = conversion_of(Shape::Int(Base::Dec), width);
+    let conversion = conversion_of(Shape::Int(DEC), width);
     let (count, _, end) = taken(ItemScan::start(&conversion), text);
     let number = integer(whole.negative, whole.magnitude);
     is(&(count, end), &(whole.bytes, number), &(text, width))
@@ -353,12 +360,14 @@ static RADICES: [(Base, Radices); 2] = [
     ),
 ];
 
-/// A base, a letter after a `0`, and the radix of the digits after both.
-static PREFIXES: [(Base, u8, Option<u8>); 4] = [
-    (Base::Bin, b'B', Some(2)),
-    (Base::Hex, b'b', None),
-    (Base::Hex, b'X', Some(16)),
-    (Base::Dec, b'x', None),
+/// What leads an integer, its base, a letter after a `0`, and the radix of the digits after both.
+static PREFIXES: [(Lead, Base, u8, Option<u8>); 6] = [
+    (Lead::Any, Base::Bin, b'B', Some(2)),
+    (Lead::Any, Base::Hex, b'b', None),
+    (Lead::Any, Base::Hex, b'X', Some(16)),
+    (Lead::Any, Base::Dec, b'x', None),
+    (Lead::Minus, Base::Auto, b'x', Some(16)),
+    (Lead::Nothing, Base::Hex, b'x', None),
 ];
 
 #[test]
@@ -371,8 +380,12 @@ fn each_base_has_its_radices(_rt: HostRuntime) -> Result<(), Fail> {
 
 #[test]
 fn each_prefix_has_its_radix(_rt: HostRuntime) -> Result<(), Fail> {
-    for (base, letter, radix) in &PREFIXES {
-        is(&prefix_radix(*base, *letter), radix, letter)?;
+    for (lead, base, letter, radix) in &PREFIXES {
+        let numeral = Numeral {
+            base: *base,
+            lead: *lead,
+        };
+        is(&prefix_radix(numeral, *letter), radix, letter)?;
     }
     Ok(())
 }

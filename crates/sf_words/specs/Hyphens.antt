@@ -6,9 +6,9 @@ use Rattle.clap.specs.Words.{Text}
 use Rattle.sf_words.specs.declared.hyphens.Next.{Next}
 use Rattle.sf_words.specs.declared.hyphens.Next.TheVariants.{Command, Word, Format, Value, Other}
 
--- the letter of an option without a value: k, l, q or w
+-- the letter of an option without a value: S, k, l, q or w
 abbrev pub is_flag_letter : ℕ → Bool
-is_flag_letter b = (b == 107) || ((b == 108) || ((b == 113) || (b == 119)))
+is_flag_letter b = (b == 83) || ((b == 107) || ((b == 108) || ((b == 113) || (b == 119))))
 
 -- such letters, and then the e (101) of -e
 abbrev pub letters_ask : Text → Bool

@@ -92,6 +92,10 @@ lines_rule = letter_flag_rule (codes "lines") 108
 abbrev pub whole_rule : Rule
 whole_rule = letter_flag_rule (codes "whole") 119
 
+-- --strict is -S (83)
+abbrev pub strict_rule : Rule
+strict_rule = letter_flag_rule (codes "strict") 83
+
 -- those of lines
 abbrev pub with_lines : App → App
 with_lines a = with_rule (with_rule a lines_rule) whole_rule
@@ -125,7 +129,7 @@ with_options a = with_notes (with_rule a profile_rule)
 -- those of each verb
 abbrev pub options_of : Verb → App → App
 options_of Show a = with_options a
-options_of Scan a = with_records (with_forms (with_passed (with_failures (with_rule (with_lines a) formats_rule))))
+options_of Scan a = with_records (with_forms (with_passed (with_failures (with_rule (with_rule (with_lines a) strict_rule) formats_rule))))
 options_of Print a = with_options (with_rule a (flag_rule (codes "raw")))
 options_of Check a = with_options (with_rule a width_rule)
 options_of Copy a = with_records (with_rule (with_failures (with_lines a)) skip_rule)

@@ -130,10 +130,10 @@ HasTextsFor (Some options) Scan (format ∷ more) = Unit {0}
 HasTextsFor (Some options) Copy (print ∷ scan ∷ []) = Unit {0}
 HasTextsFor (Some options) _ _ = ⊥
 
--- the options of lines
+-- the options of lines; where each conversion is strict, a line is used whole
 pub record AreLineOptions (given : List Row) (options : LineOptions) : Type 0 where
   pub skip : options.skip ≡ number_by 0 (one_of (codes "skip") given)
-  pub whole : options.whole ≡ is_set (codes "whole") given
+  pub whole : options.whole ≡ is_set (codes "whole") given || is_set (codes "strict") given
   pub keep_going : options.keep_going ≡ is_set (codes "keep-going") given
   pub quiet : options.quiet ≡ is_set (codes "quiet") given
   pub matching : options.matching ≡ is_set (codes "matching") given
@@ -158,6 +158,7 @@ pub record IsOrderOf (entered : Option (Text × List Row)) (order : Order) : Typ
   pub line_buffered : order.line_buffered ≡ is_set (codes "line-buffered") given
   pub notes : order.notes ≡ notes_by given
   pub output : output_text order.output ≡ form_given given
+  pub strict : order.strict ≡ is_set (codes "strict") given
   pub lines : HasLines given order.lines
   pub print : option_map string_bytes order.print ≡ first_of (codes "print") given
   pub names : option_map string_bytes order.names ≡ first_of (codes "names") given

@@ -3,7 +3,7 @@ use crate::order::Verb;
 
 /// The end of the help of `sf` itself.
 pub(crate) const SF: &str = "Examples:
-  sf scan -lw '%d,%d' < points   two numbers of each line, and nothing else
+  sf scan -lS '%d,%d' < points   two numbers of each line, and nothing else
   sf print '%s is %d\\n' ann 7    values by a format
 
 'sf help COMMAND' has the options, examples and exit statuses of a command.
@@ -41,6 +41,7 @@ pub(crate) const SCAN_USAGE: &str = "sf scan [OPTIONS] <FORMAT> [FILE]...
 /// The end of the help of `sf scan`.
 pub(crate) const SCAN: &str = "Examples:
   sf scan -lw '%d,%d' < points              two numbers and no more of a line
+  sf scan -lS '%d,%d' < points              the same, and no space or plus in it
   sf scan -lwp3 '%lf,%?lf' < points         floats, of which the second may miss
   sf scan -l -o json --names x,y '%d,%d' < points  an object of each line
   sf scan -l -s1 -e '%d,%d' -e '%d' < points  after a header, one or two numbers
@@ -118,7 +119,7 @@ pub(crate) const FORMATS: &str =
     "A scan format takes its input from left to right. White space in it takes any
 white space or none, %% a percent sign, and any other text itself.
 
-  %[N$][*][?][WIDTH][hh|h|l]LETTER
+  %[N$][*][?][=][!][WIDTH][hh|h|l]LETTER
 
   LETTER      TAKES                                        PROFILE
   d           a number of base 10, with a sign or none     1
@@ -135,10 +136,12 @@ white space or none, %% a percent sign, and any other text itself.
   N$          the place of the value: '%2$d %1$d'          1
   *           drops what it takes: '%*s'                   1
   ?           what may be missing: '%d,%?d'                3
+  =           a column of WIDTH bytes, blanks too: '%=8d'  3
+  !           no space, plus or 0x before it: '%!d'        3
   WIDTH       the most bytes that it takes: '%3d'          1
   hh   h   l  8, 16 or 64 bits and not 32: '%hhu'          1
 
-All but [, c and n pass over white space first. A number has to fit its bits.
+All but [, c, n, = and ! pass over white space first. A number fits its bits.
 
 A print format writes its values, and all other text as it stands.
 

@@ -28,7 +28,7 @@ fn letters_ask(letters: &[u8]) -> bool
     ensures { result ≡ letters_ask letters.now }
 {
     let mut rest = letters;
-    while let [b'k' | b'l' | b'q' | b'w', more @ ..] = rest {
+    while let [b'S' | b'k' | b'l' | b'q' | b'w', more @ ..] = rest {
         rest = more;
     }
     matches!(rest, [b'e'])

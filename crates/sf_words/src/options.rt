@@ -75,7 +75,7 @@ pub(crate) struct CommandOption {
 pub(crate) const FORMS: &[&str] = &["plain", "tsv", "json", "csv"];
 
 /// The table.
-static OPTIONS: [CommandOption; 19] = [
+static OPTIONS: [CommandOption; 20] = [
     CommandOption {
         name: "lines",
         has_long: true,
@@ -91,6 +91,14 @@ static OPTIONS: [CommandOption; 19] = [
         value: OptionValue::Nothing,
         of: OptionOf::Lines,
         help: "With -l: fail a line that isn't read to its end",
+    },
+    CommandOption {
+        name: "strict",
+        has_long: true,
+        short: Some('S'),
+        value: OptionValue::Nothing,
+        of: OptionOf::Scan,
+        help: "No space or plus before a value; with -l, as with -w",
     },
     CommandOption {
         name: "formats",

@@ -27,7 +27,7 @@ pub enum Profile {
     One,
     /// The same, with base 2.
     Two,
-    /// That of `Two`, with floats, and what may be missing.
+    /// That of `Two`, with floats, what may be missing, and `!`.
     Three,
 }
 
@@ -60,7 +60,7 @@ pub enum Notes {
 pub struct LineOptions {
     /// How many lines are passed over first.
     pub skip: u64,
-    /// Whether a line that isn't used whole has failed.
+    /// Whether a line that isn't used whole has failed: so it is, too, where formats are read strictly.
     pub whole: bool,
     /// Whether the scan goes on after a line that failed.
     pub keep_going: bool,
@@ -85,6 +85,8 @@ pub struct Order {
     pub notes: Notes,
     /// In which form the values of a record are written: plain for each command but `scan`.
     pub output: Output,
+    /// Whether each conversion of a scan is read as if `!` stood in it.
+    pub strict: bool,
     /// How lines are scanned, where not records but lines are: for `scan` and `copy`.
     pub lines: Option<LineOptions>,
     /// The print format by which a scan writes its records, as it was given.

@@ -242,7 +242,7 @@ fn lines_of(given: &ArgMatches<'_>) -> Option<LineOptions>
     }
     Some(LineOptions {
         skip: skip_of(given),
-        whole: is_set(given, "whole"),
+        whole: is_set(given, "whole") || is_set(given, "strict"),
         keep_going: is_set(given, "keep-going"),
         quiet: is_set(given, "quiet"),
         matching: is_set(given, "matching"),
@@ -270,6 +270,7 @@ fn order_of(alloc: Global, matches: &ArgMatches<'_>) -> Result<Order, WordsFault
         line_buffered: is_set(given, "line-buffered"),
         notes: notes_of(given),
         output: output_of(given),
+        strict: is_set(given, "strict"),
         lines: lines_of(given),
         print: text_given(alloc, given, "print")?,
         names: text_given(alloc, given, "names")?,

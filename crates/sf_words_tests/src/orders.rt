@@ -4,7 +4,7 @@ use std::alloc::Global;
 use std::test::Fail;
 
 /// Words, between which bars stand, and the order that they make.
-static ORDERS: [(&str, &str); 109] = [
+static ORDERS: [(&str, &str); 118] = [
     ("show|%3d,%*s", "Show 1048576 |%3d,%*s"),
     ("scan|%d,%d", "Scan 1048576 |%d,%d"),
     ("scan|--limit|3|%s", "Scan 3 |%s"),
@@ -228,6 +228,24 @@ static ORDERS: [(&str, &str); 109] = [
         "copy|%d;|%3d;|a|--limit|8|b",
         "Copy 8 |%d; |%3d; file=a file=b",
     ),
+    ("scan|--strict|%d", "Scan 1048576 strict |%d"),
+    ("scan|%d|-S", "Scan 1048576 strict |%d"),
+    ("scan|-Sp3|%lf", "Scan 1048576 profile-3 strict |%lf"),
+    ("scan|--|-S", "Scan 1048576 |-S"),
+    ("scan|-lS|%d", "Scan 1048576 strict lines skip 0 whole |%d"),
+    (
+        "scan|-lwS|-p2|%d",
+        "Scan 1048576 profile-2 strict lines skip 0 whole |%d",
+    ),
+    (
+        "scan|-lSe|-%d|-e|%u",
+        "Scan 1048576 strict lines skip 0 whole |-%d |%u",
+    ),
+    (
+        "scan|--strict|--lines|--ignore|-%d|--matching|%d",
+        "Scan 1048576 strict lines skip 0 whole matching |%d ignore=-%d",
+    ),
+    ("print|%s|--|--strict", "Print 1048576 |%s |--strict"),
 ];
 
 /// The words of a line, between which bars stand.
@@ -254,6 +272,15 @@ fn lines_text(alloc: Global, lines: LineOptions) -> Result<String, Fail> {
         named(lines.quiet, " quiet"),
         named(lines.matching, " matching")
     )?)
+}
+
+/// The profile.
+fn profile_name(profile: Profile) -> &'static str {
+    match profile {
+        Profile::One => "",
+        Profile::Two => " profile-2",
+        Profile::Three => " profile-3",
+    }
 }
 
 /// The form of the values.
@@ -305,11 +332,12 @@ fn line_of(alloc: Global, order: &Order) -> Result<String, Fail> {
         None => String::new(alloc),
     };
     let mut line = format!(in alloc;
-        "{:?} {}{}{}{}{}{lines}",
+        "{:?} {}{}{}{}{}{}{lines}",
         order.verb,
         order.limit,
         named(order.line_buffered, " line-buffered"),
-        named(order.profile == Profile::Two, " profile-2"),
+        profile_name(order.profile),
+        named(order.strict, " strict"),
         notes_name(order.notes),
         output_name(order.output)
     )?;

@@ -1,11 +1,12 @@
 -- Facts about the entries of a store.
 use Rattle.std.proofs.Common.{◌≡◌, ◌<◌, ◌≤◌, ◌+◌, ◌||◌, ℕ, zero, suc, Bool, true, false, cond, List, [], ◌∷◌, ◌++◌, length, map, take, drop}
-use Rattle.std.proofs.Common.{slice_range, get_or, Option, Some, None, nat_eq, refl, ap, sym, ◌∙◌, inl, inr, arith, length-append}
+use Rattle.std.proofs.Common.{◌-◌, length-append, length-drop, IsSome}
+use Rattle.std.proofs.Common.{slice_range, get_or, Option, Some, None, nat_eq, refl, ap, sym, ◌∙◌, inl, inr, arith}
 use Rattle.std.specs.List.{All, AllByRecursion, IsDistinct, list_any, find}
 use Rattle.std.specs.Option.{option_map}
 use Rattle.std.specs.Cmp.{nat_eq_equiv}
 use Rattle.std.proofs.lemmas.Bool.{or_cases, eqb-true, eqb-false, eq-eqb, ne_eqb}
-use Rattle.std.proofs.lemmas.List.{map-append, length-map, take-take, take-append-drop}
+use Rattle.std.proofs.lemmas.List.{map-append, length-map, take-take, take-append-drop, drop-take, length-take-le}
 use Rattle.std.proofs.lemmas.List.Folds.{list_any-append}
 use Rattle.std.proofs.lemmas.Slice.{between_is, between_to_end}
 use Rattle.std.proofs.Math.Seq.{take-length, take-append-add, take-append_seam, drop-append_seam}
@@ -13,7 +14,7 @@ use Rattle.std.proofs.lemmas.List.Elements.{All-nil, All-head, All-tail, All-pus
 use Rattle.std.proofs.lemmas.Map.Keys.{IsDistinct-push}
 use Rattle.std.proofs.lemmas.Map.Steps.{length-le_from_distinct_below}
 use Rattle.sf_base.specs.Data.{Bytes, Assigned, datum_at}
-use Rattle.sf_base.specs.stores.Kept.{assigned, is_opened, with_closed, with_text}
+use Rattle.sf_base.specs.stores.Kept.{assigned, is_opened, text_of, with_closed, with_text, with_cut}
 use Rattle.sf_base.specs.stores.Entries.{datum_in, assigned_in, IsWithin, slots_of, opened_at, kept_of, IsSlot, IsAbsent, IsUnderWay}
 use Rattle.sf_base.specs.stores.Entries.{IsSound}
 use Rattle.sf_base.specs.declared.stores.entries.Cell.{Cell}
@@ -155,6 +156,20 @@ pub kept_of-put : (es : List Entry) (all text : List ℕ) (n len slot room room'
     ≡ with_text slot text room' (kept_of es all n opened room)
 kept_of-put es all text n len slot room room' opened none is_n is_len within =
     rw (none_opened (drop n all) opened none) (kept_of-put_none es all text n len slot room room' is_n is_len within)
+
+-- what is kept after all of the text from n on but its first count bytes is taken away
+pub kept_of-cut : (es : List Entry) (all : List ℕ) (n count most : ℕ) (opened : Option ℕ) → n ≤ length all → length all ≤ most
+    → IsSome (opened_at (drop n all) opened) → count ≤ length (text_of (opened_at (drop n all) opened))
+    → kept_of es (take (n + count) all) n opened (most - length (take (n + count) all))
+    ≡ with_cut count (kept_of es all n opened (most - length all))
+kept_of-cut es all n count most None held fits some within = cc
+kept_of-cut es all n count most (Some slot) held fits some within =
+    let inside : n + count ≤ length all = omega (arith, held, within, length-drop n all) in
+    let closed : take n (take (n + count) all) ≡ take n all = take-take n (n + count) all (omega arith) in
+    let text : drop n (take (n + count) all) ≡ take count (drop n all) = drop-take n count all in
+    let room : most - length (take (n + count) all) ≡ most - length all + (length (drop n all) - count) =
+    omega (arith, inside, fits, length-take-le (n + count) all inside, length-drop n all) in
+    rw (room, closed, text) refl
 
 -- the same of the entries
 pub length-lt-entries : (slots : ℕ) (es : List Entry) (closed len : ℕ) (opened : Option ℕ) (slot : ℕ) → IsSound slots es closed len opened

@@ -1,5 +1,5 @@
 -- What a store keeps: the data of the slots, and the bytes of the texts.
-use Rattle.std.specs.Prelude.{◌+◌, ℕ, Bool, false, nat_eq, List, [], ◌∷◌, ◌++◌, length, Option, Some, None}
+use Rattle.std.specs.Prelude.{◌+◌, ◌-◌, ℕ, Bool, false, nat_eq, List, [], ◌∷◌, ◌++◌, length, take, Option, Some, None}
 use Rattle.std.specs.List.{flat_map}
 use Rattle.sf_base.specs.Data.{Datum, Number, Bytes, Real, Assigned}
 
@@ -68,6 +68,15 @@ with_text slot bytes room s = with_closed (with_bytes bytes room (with_opened sl
 -- the opened text is gone, and its bytes are free
 abbrev pub with_dropped : Kept → Kept
 with_dropped s = record s { opened = None; room = s.room + length (text_of s.opened) }
+
+-- the first n bytes of the opened text
+abbrev pub shorter : ℕ → Option Opened → Option Opened
+shorter n None = None
+shorter n (Some o) = Some (record { slot = o.slot; text = take n o.text })
+
+-- the opened text has its first n bytes, and the others are free
+abbrev pub with_cut : ℕ → Kept → Kept
+with_cut n s = record s { opened = shorter n s.opened; room = s.room + (length (text_of s.opened) - n) }
 
 -- ---- texts
 

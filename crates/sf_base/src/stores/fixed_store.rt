@@ -118,6 +118,10 @@ impl<const CAP: usize, const SLOTS: usize> Store for FixedStore<CAP, SLOTS> {
         self.opened = None;
     }
 
+    fn cut_text(&mut self, count: usize) {
+        self.bytes.truncate(self.closed + count);
+    }
+
     fn opened(&self) -> &[u8] {
         let bytes = self.bytes.as_slice();
         &bytes[self.closed..]

@@ -153,6 +153,10 @@ impl Store for HeapStore {
         self.opened = None;
     }
 
+    fn cut_text(&mut self, count: usize) {
+        self.bytes.truncate(self.closed + count);
+    }
+
     fn opened(&self) -> &[u8] {
         let bytes = self.bytes.front(self.bytes.len());
         &bytes[self.closed..]

@@ -4,7 +4,7 @@ ghost use Rattle.std.specs.Prelude.{OnErr};
 ghost use Rattle.std.specs.Option.{option_map};
 ghost use Rattle.sf_base.specs.Data.{Real as RealOf, datum_of, datum_of_number, datum_of_shown, datum_at, is_number};
 ghost use Rattle.sf_base.specs.stores.Kept.{Kept, is_opened, with_value, with_opened, with_bytes, with_closed};
-ghost use Rattle.sf_base.specs.stores.Kept.{with_dropped};
+ghost use Rattle.sf_base.specs.stores.Kept.{with_cut, with_dropped};
 ghost use Rattle.sf_base.specs.stores.Kept.{with_text, text_of};
 
 use crate::{Number, Real, Shown, Value};
@@ -63,6 +63,12 @@ pub trait Store: Drop {
     fn drop_text(&mut self)
         requires { IsSome (kept self.old).opened }
         ensures { kept self.new ≡ with_dropped (kept self.old) };
+
+    /// Takes away all of the opened text but its first `count` bytes.
+    fn cut_text(&mut self, count: usize)
+        requires opened { IsSome (kept self.old).opened }
+        requires within { count ≤ length (text_of (kept self.old).opened) }
+        ensures { kept self.new ≡ with_cut count (kept self.old) };
 
     /// The bytes of the opened text so far; none where no text is opened.
     fn opened(&self) -> &[u8]

@@ -117,54 +117,58 @@ module _ {T S K : Type 0} (f : T → S) (to_come : S → Option (List ℕ)) (fau
 
   -- ---- scans
 
-  scans_by : (makes : List Directive → Work) (limit : ℕ) (format t : List ℕ) (now : Ahead T) (n k : ℕ) (before after : Option (List ℕ))
+  scans_by : (strict : Bool) (makes : List Directive → Work) (limit : ℕ) (format t : List ℕ) (now : Ahead T) (n k : ℕ)
+      (before after : Option (List ℕ))
       (answer : Answer)
-      → ScansBy told profile makes limit format t now n k before after answer
-      → ScansBy to_come profile makes limit format t (over f now) n k before after answer
-  scans_by makes limit format t now n k before after (Err (Format fault)) h = h
-  scans_by makes limit format t now n k before after (Err Memory) h = h
-  scans_by makes limit format t now n k before after (Ok status) (ds, spells, (end, l, is)) =
+      → ScansBy told strict profile makes limit format t now n k before after answer
+      → ScansBy to_come strict profile makes limit format t (over f now) n k before after answer
+  scans_by strict makes limit format t now n k before after (Err (Format fault)) h = h
+  scans_by strict makes limit format t now n k before after (Err Memory) h = h
+  scans_by strict makes limit format t now n k before after (Ok status) (ds, spells, (end, l, is)) =
       (ds, spells, (end, loops _ ds limit t now n k before after end l, is))
-  scans_by makes limit format t now n k before after (Err (BadEscape name at)) (ds, spells, (end, l, is)) =
+  scans_by strict makes limit format t now n k before after (Err (BadEscape name at)) (ds, spells, (end, l, is)) =
       (ds, spells, (end, loops _ ds limit t now n k before after end l, is))
-  scans_by makes limit format t now n k before after (Err (PrintFormat fault)) (ds, spells, (end, l, is)) =
+  scans_by strict makes limit format t now n k before after (Err (PrintFormat fault)) (ds, spells, (end, l, is)) =
       (ds, spells, (end, loops _ ds limit t now n k before after end l, is))
-  scans_by makes limit format t now n k before after (Err (Values fault)) (ds, spells, (end, l, is)) =
+  scans_by strict makes limit format t now n k before after (Err (Values fault)) (ds, spells, (end, l, is)) =
       (ds, spells, (end, loops _ ds limit t now n k before after end l, is))
-  scans_by makes limit format t now n k before after (Err (Record fault)) (ds, spells, (end, l, is)) =
+  scans_by strict makes limit format t now n k before after (Err (Record fault)) (ds, spells, (end, l, is)) =
       (ds, spells, (end, loops _ ds limit t now n k before after end l, is))
-  scans_by makes limit format t now n k before after (Err (Lines fault)) (ds, spells, (end, l, is)) =
+  scans_by strict makes limit format t now n k before after (Err (Lines fault)) (ds, spells, (end, l, is)) =
       (ds, spells, (end, loops _ ds limit t now n k before after end l, is))
-  scans_by makes limit format t now n k before after (Err Write) (ds, spells, (end, l, is)) =
+  scans_by strict makes limit format t now n k before after (Err Write) (ds, spells, (end, l, is)) =
       (ds, spells, (end, loops _ ds limit t now n k before after end l, is))
-  scans_by makes limit format t now n k before after (Err (Pair fault)) (ds, spells, (end, l, is)) =
+  scans_by strict makes limit format t now n k before after (Err (Pair fault)) (ds, spells, (end, l, is)) =
       (ds, spells, (end, loops _ ds limit t now n k before after end l, is))
-  scans_by makes limit format t now n k before after (Err (Unprintable why)) (ds, spells, (end, l, is)) =
+  scans_by strict makes limit format t now n k before after (Err (Unprintable why)) (ds, spells, (end, l, is)) =
       (ds, spells, (end, loops _ ds limit t now n k before after end l, is))
-  scans_by makes limit format t now n k before after (Err (NameCount expected got)) (ds, spells, (end, l, is)) =
+  scans_by strict makes limit format t now n k before after (Err (NameCount expected got)) (ds, spells, (end, l, is)) =
       (ds, spells, (end, loops _ ds limit t now n k before after end l, is))
-  scans_by makes limit format t now n k before after (Err (NameEmpty number)) (ds, spells, (end, l, is)) =
+  scans_by strict makes limit format t now n k before after (Err (NameEmpty number)) (ds, spells, (end, l, is)) =
       (ds, spells, (end, loops _ ds limit t now n k before after end l, is))
-  scans_by makes limit format t now n k before after (Err (NameTwice number)) (ds, spells, (end, l, is)) =
+  scans_by strict makes limit format t now n k before after (Err (NameTwice number)) (ds, spells, (end, l, is)) =
       (ds, spells, (end, loops _ ds limit t now n k before after end l, is))
 
-  scans_text : (makes : List Directive → Work) (limit : ℕ) (text : List ℕ) (from from' : Ahead T) (out out' : K) (answer : Answer)
-      → ScansText told failed contents write_faults profile makes limit text from from' out out' answer
-      → ScansText to_come faults contents write_faults profile makes limit text (over f from) (over f from') out out' answer
-  scans_text makes limit text from from' out out' answer s = record {
-    scans = λ t is. scans_by makes limit text t from' (failed from.source) (failed from'.source) (contents out) (contents out') answer
+  scans_text : (strict : Bool) (makes : List Directive → Work) (limit : ℕ) (text : List ℕ) (from from' : Ahead T) (out out' : K)
+      (answer : Answer)
+      → ScansText told failed contents write_faults strict profile makes limit text from from' out out' answer
+      → ScansText to_come faults contents write_faults strict profile makes limit text (over f from) (over f from') out out' answer
+  scans_text strict makes limit text from from' out out' answer s = record {
+    scans = λ t is. scans_by strict makes limit text t from' (failed from.source) (failed from'.source) (contents out) (contents out')
+        answer
         (s.scans t is);
     refused = s.refused;
     unread = unread_if answer from from' out out' s.unread;
     failures = s.failures;
   }
 
-  scans_word : (makes : List Directive → Work) (limit : ℕ) (word : List ℕ) (from from' : Ahead T) (out out' : K) (answer : Answer)
-      → ScansWord told failed contents write_faults profile makes limit word from from' out out' answer
-      → ScansWord to_come faults contents write_faults profile makes limit word (over f from) (over f from') out out' answer
-  scans_word makes limit word from from' out out' answer (inl r) = inl (refused _ word from from' out out' answer r)
-  scans_word makes limit word from from' out out' answer (inr (text, is, s)) =
-      inr (text, is, scans_text makes limit text from from' out out' answer s)
+  scans_word : (strict : Bool) (makes : List Directive → Work) (limit : ℕ) (word : List ℕ) (from from' : Ahead T) (out out' : K)
+      (answer : Answer)
+      → ScansWord told failed contents write_faults strict profile makes limit word from from' out out' answer
+      → ScansWord to_come faults contents write_faults strict profile makes limit word (over f from) (over f from') out out' answer
+  scans_word strict makes limit word from from' out out' answer (inl r) = inl (refused _ word from from' out out' answer r)
+  scans_word strict makes limit word from from' out out' answer (inr (text, is, s)) =
+      inr (text, is, scans_text strict makes limit text from from' out out' answer s)
 
   -- ---- scans that print their records
 
@@ -177,12 +181,13 @@ module _ {T S K : Type 0} (f : T → S) (to_come : S → Option (List ℕ)) (fau
     (end, is, λ t told_is. loops _ ds limit t from' (failed from.source) (failed from'.source) before after end (l t told_is)),
   )
 
-  scans_print_words : (limit : ℕ) (print scan : List ℕ) (from from' : Ahead T) (before after : Option (List ℕ)) (answer : Answer)
-      → ScansPrintWords told failed profile limit print scan from from' before after answer
-      → ScansPrintWords to_come faults profile limit print scan (over f from) (over f from') before after answer
-  scans_print_words limit print scan from from' before after answer (inl h) = inl h
-  scans_print_words limit print scan from from' before after answer (inr (units, is, inl h)) = inr (units, is, inl h)
-  scans_print_words limit print scan from from' before after answer (inr (units, is, inr (ds, are, h))) =
+  scans_print_words : (strict : Bool) (limit : ℕ) (print scan : List ℕ) (from from' : Ahead T) (before after : Option (List ℕ))
+      (answer : Answer)
+      → ScansPrintWords told failed strict profile limit print scan from from' before after answer
+      → ScansPrintWords to_come faults strict profile limit print scan (over f from) (over f from') before after answer
+  scans_print_words strict limit print scan from from' before after answer (inl h) = inl h
+  scans_print_words strict limit print scan from from' before after answer (inr (units, is, inl h)) = inr (units, is, inl h)
+  scans_print_words strict limit print scan from from' before after answer (inr (units, is, inr (ds, are, h))) =
       inr (units, is, inr (ds, are, scans_print limit units ds from from' before after answer h))
 
   scans_under : (due : Bool) (heading : Heading) (limit : ℕ) (ds : List Directive) (from from' : Ahead T) (out out' : K) (answer : Answer)
@@ -205,24 +210,30 @@ module _ {T S K : Type 0} (f : T → S) (to_come : S → Option (List ℕ)) (fau
     stopped = if_err u.wrote _ _ (λ why h. (h.0, ap (over f) h.1, h.2)) u.stopped;
   }
 
-  scans_form : (form : OutputForm) (due : Bool) (names : Option (List ℕ)) (limit : ℕ) (word : List ℕ) (from from' : Ahead T) (out out' : K)
-      (answer : Answer) → ScansForm told failed contents write_faults profile form due names limit word from from' out out' answer
-      → ScansForm to_come faults contents write_faults profile form due names limit word (over f from) (over f from') out out' answer
-  scans_form form due None limit word from from' out out' answer h = scans_word (writing form) limit word from from' out out' answer h
-  scans_form form due (Some names) limit word from from' out out' answer (inl (refused, same, written)) =
+  scans_form : (strict : Bool) (form : OutputForm) (due : Bool) (names : Option (List ℕ)) (limit : ℕ) (word : List ℕ) (from from' : Ahead T)
+      (out out' : K)
+      (answer : Answer) → ScansForm told failed contents write_faults strict profile form due names limit word from from' out out' answer
+      → ScansForm to_come faults contents write_faults strict profile form due names limit word (over f from) (over f from') out out' answer
+  scans_form strict form due None limit word from from' out out' answer h = scans_word strict (writing form) limit word from from' out out'
+      answer h
+  scans_form strict form due (Some names) limit word from from' out out' answer (inl (refused, same, written)) =
       inl (refused, ap (over f) same, written)
-  scans_form form due (Some names) limit word from from' out out' answer (inr (ds, are, inl (unnamed, same, written))) =
+  scans_form strict form due (Some names) limit word from from' out out' answer (inr (ds, are, inl (unnamed, same, written))) =
       inr (ds, are, inl (unnamed, ap (over f) same, written))
-  scans_form form due (Some names) limit word from from' out out' answer (inr (ds, are, inr (named, under))) =
+  scans_form strict form due (Some names) limit word from from' out out' answer (inr (ds, are, inr (named, under))) =
       inr (ds, are, inr (named, scans_under due (heading_by form (Some names) false) limit ds from from' out out' answer under))
 
-  scans_as : (form : OutputForm) (due : Bool) (names print : Option (List ℕ)) (limit : ℕ) (word : List ℕ) (from from' : Ahead T)
+  scans_as : (strict : Bool) (form : OutputForm) (due : Bool) (names print : Option (List ℕ)) (limit : ℕ) (word : List ℕ)
+      (from from' : Ahead T)
       (out out' : K)
-      (answer : Answer) → ScansAs told failed contents write_faults profile form due names print limit word from from' out out' answer
-      → ScansAs to_come faults contents write_faults profile form due names print limit word (over f from) (over f from') out out' answer
-  scans_as form due names None limit word from from' out out' answer h = scans_form form due names limit word from from' out out' answer h
-  scans_as form due names (Some print) limit word from from' out out' answer h = record {
-    scans = scans_print_words limit print word from from' (contents out) (contents out') answer h.scans;
+      (answer : Answer) → ScansAs told failed contents write_faults strict profile form due names print limit word from from' out out'
+      answer
+      → ScansAs to_come faults contents write_faults strict profile form due names print limit word (over f from) (over f from') out out'
+      answer
+  scans_as strict form due names None limit word from from' out out' answer h = scans_form strict form due names limit word from from' out
+      out' answer h
+  scans_as strict form due names (Some print) limit word from from' out out' answer h = record {
+    scans = scans_print_words strict limit print word from from' (contents out) (contents out') answer h.scans;
     unread = unread_if answer from from' out out' h.unread;
     failures = h.failures;
   }
@@ -288,7 +299,7 @@ module _ {T S K : Type 0} (f : T → S) (to_come : S → Option (List ℕ)) (fau
       → CarriesOutBy to_come faults contents write_faults profile form how order v texts (over f from) (over f from') out out' answer
   carries_by verb.Scan [] from from' out out' answer h = absurd h
   carries_by verb.Scan (word ∷ []) from from' out out' answer h =
-      scans_as f to_come faults contents write_faults profile form (is_headed order.file) (names_text order)
+      scans_as f to_come faults contents write_faults profile order.strict form (is_headed order.file) (names_text order)
       (option_map string_bytes order.print) order.limit word
       from from' out out' answer h
   carries_by verb.Scan (word ∷ other ∷ rest) from from' out out' answer h = absurd h
@@ -411,21 +422,22 @@ module _ {T S K E : Type 0} (f : T → S) (to_come : S → Option (List ℕ)) (f
   runs_writing tagged due names (Print units) options limit ignored formats telling from from' out out' err err' answer r =
       runs_lines (λ number. printing units) options limit ignored formats telling from from' out out' err err' answer r
 
-  scans_lines : (file : Option (List ℕ)) (due : Bool) (profile : Profile) (form : OutputForm) (tagged : Bool)
+  scans_lines : (file : Option (List ℕ)) (due strict : Bool) (profile : Profile) (form : OutputForm) (tagged : Bool)
       (names print : Option (List ℕ)) (options : LineOptions)
       (explain : Bool) (limit : ℕ)
       (passed words : List (List ℕ))
       (from from' : Ahead T) (out out' : K) (err err' : E) (answer : Answer)
       → ScansLines (λ s. to_come (f s))
-      (λ s. faults (f s)) contents write_faults said unsaid file due profile form tagged names print options explain limit
+      (λ s. faults (f s)) contents write_faults said unsaid file due strict profile form tagged names print options explain limit
       passed words from from' out out' err err' answer
-      → ScansLines to_come faults contents write_faults said unsaid file due profile form tagged names print options explain limit passed
+      → ScansLines to_come faults contents write_faults said unsaid file due strict profile form tagged names print options explain limit
+      passed
       words
       (over f from)
       (over f from') out out' err err' answer
-  scans_lines file due profile form tagged names print options explain limit passed words from from' out out' err err' answer
+  scans_lines file due strict profile form tagged names print options explain limit passed words from from' out out' err err' answer
       (inl (bad, same, written, silent)) = inl (bad, ap (over f) same, written, silent)
-  scans_lines file due profile form tagged names print options explain limit passed words from from' out out' err err' answer
+  scans_lines file due strict profile form tagged names print options explain limit passed words from from' out out' err err' answer
       (inr (writing, ignored, formats, telling, so, pass, are, suits, is, r)) = inr (
         writing,
         ignored,
@@ -488,7 +500,7 @@ module _ {T S K E : Type 0} (f : T → S) (contents : K → Option (List ℕ)) (
       mid,
       (
         between,
-        scans_lines f to_come faults contents write_faults said unsaid (file_name order) (is_headed order.file) _ _ order.tag
+        scans_lines f to_come faults contents write_faults said unsaid (file_name order) (is_headed order.file) _ _ _ order.tag
             (names_text order) _ options explain order.limit _ _ from
             from' out mid err between answer done,
         ends,

@@ -30,19 +30,21 @@ print_fault_of profile format fault other (inl is) = is
 print_fault_of profile format fault other (inr (none, spelled)) = let no : false ≡ true =
     sym other ∙ ap (λ (f : FormatFault). is_memory f.why) none in absurd (cc)
 
-scans_by : (profile : Profile) {S : Type 0} (to_come : S → Option (List ℕ)) (makes : List Directive → Work) (m : ℕ) (format text : List ℕ)
+scans_by : (strict : Bool) (profile : Profile) {S : Type 0} (to_come : S → Option (List ℕ))
+    (makes : List Directive → Work) (m : ℕ) (format text : List ℕ)
     (now : Ahead S) (failures : ℕ) (held : Option (List ℕ)) (fault : FormatFault) (why : FormatWhy) → fault.why ≡ why
     → IsRefused profile format fault
-    → ScansBy to_come profile makes m format text now failures failures held held (Err (format_fault_by why fault))
-scans_by profile to_come makes m format text now failures held fault NoMemory is refused = refl
-scans_by profile to_come makes m format text now failures held fault _ is refused = fault_of profile format fault (ap is_memory is) refused
+    → ScansBy to_come strict profile makes m format text now failures failures held held (Err (format_fault_by why fault))
+scans_by strict profile to_come makes m format text now failures held fault NoMemory is refused = refl
+scans_by strict profile to_come makes m format text now failures held fault _ is refused = fault_of profile format fault (ap is_memory is)
+    refused
 
-pub refused_scans : (profile : Profile) {S : Type 0} (to_come : S → Option (List ℕ)) (makes : List Directive → Work) (m : ℕ)
+pub refused_scans : (strict : Bool) (profile : Profile) {S : Type 0} (to_come : S → Option (List ℕ)) (makes : List Directive → Work) (m : ℕ)
     (format text : List ℕ)
     (now : Ahead S) (failures : ℕ) (held : Option (List ℕ)) (fault : FormatFault) → IsRefused profile format fault
-    → ScansBy to_come profile makes m format text now failures failures held held (Err (format_fault fault))
-refused_scans profile to_come makes m format text now failures held fault refused =
-    scans_by profile to_come makes m format text now failures held fault fault.why refl refused
+    → ScansBy to_come strict profile makes m format text now failures failures held held (Err (format_fault fault))
+refused_scans strict profile to_come makes m format text now failures held fault refused =
+    scans_by strict profile to_come makes m format text now failures held fault fault.why refl refused
 
 shows_by : (profile : Profile) (format : List ℕ) (held : Option (List ℕ)) (fault : FormatFault) (why : FormatWhy) → fault.why ≡ why
     → IsRefused profile format fault

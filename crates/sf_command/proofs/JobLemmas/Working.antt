@@ -1,7 +1,8 @@
 -- What a job does, and what is done where there is none, as told of the words.
-use Rattle.std.proofs.Common.{◌≡◌, ◌∙◌, ◌≤◌, ◌<◌, ap, arith, get_or, length, ℕ, List, [], ◌∷◌, Bool, Option, None, Some, Err, drop, inl}
-use Rattle.std.proofs.Common.{inr, map, refl, sym, subst, option_map, string_bytes}
+use Rattle.std.proofs.Common.{◌≡◌, ◌∙◌, ◌≤◌, ◌<◌, ap, arith, get_or, length, ℕ, List, [], ◌∷◌, Bool, false, Option, None, Some, Err, drop}
+use Rattle.std.proofs.Common.{inl, inr, map, refl, sym, subst, option_map, string_bytes}
 use Rattle.std.specs.Prelude.{IfErr}
+use Rattle.sf_format.specs.declared.directive.Directive.{Directive}
 use Rattle.sf_format.specs.declared.directive.Profile.{Profile}
 use Rattle.sf_format.specs.declared.unit.Unit.{Unit as PrintUnit}
 use Rattle.sf_format.specs.Grammar.{Spells, SpellsPrint}
@@ -18,7 +19,8 @@ use Rattle.sf_words.specs.declared.order.Verb.{Verb}
 use Rattle.sf_words.specs.declared.order.Verb.TheVariants as verb
 use Rattle.sf_arguments.specs.declared.word_reading.WordReading.{WordReading}
 use Rattle.sf_command.specs.jobs.Answers.{Answer}
-use Rattle.sf_command.specs.jobs.Checks.{IsNoPrintWord, IsNoScanWord, IsScanWord, TellsLine, verdict_status, verdict_text}
+use Rattle.sf_command.specs.jobs.Checks.{IsNoPrintWord, IsNoScanWord, IsReadWord, IsScanWord, SpellsRead, TellsLine}
+use Rattle.sf_command.specs.jobs.Checks.{verdict_status, verdict_text}
 use Rattle.sf_command.specs.jobs.Commands.{CarriesOutBy, Copies, Counts, IsUnwrittenBy, PrintsBy, PrintsWord, ScansAs, ScansBy}
 use Rattle.sf_command.specs.jobs.Commands.{ScansByNames}
 use Rattle.sf_command.specs.jobs.Commands.{ScansForm, ScansPrint, ScansWord, ShowsBy, ShowsWord, Unread}
@@ -37,8 +39,17 @@ use Rattle.sf_command.proofs.JobLemmas.Checking.{no_scan_text, no_scan_unwritten
 
 -- ---- words that are formats, and words that are none
 
-pub scan_word : (profile : Profile) (word : List ℕ) (scan : ScanText) → IsScan profile word scan → IsScanWord profile word scan.format
-scan_word profile word scan is = (scan.text.items, is.stands, is.spells)
+-- what is read as it stands is spelled so
+pub spelled : (profile : Profile) (text : List ℕ) (ds : List Directive) → SpellsRead false profile text ds → Spells profile text ds
+spelled profile text ds (own, spells, same) = subst (λ (d : List Directive). Spells profile text d) (sym same) spells
+
+pub scan_word : (profile : Profile) (word : List ℕ) (scan : ScanText) → IsScan false profile word scan
+    → IsScanWord profile word scan.format
+scan_word profile word scan is = (scan.text.items, is.stands, spelled profile scan.text.items scan.format is.spells)
+
+pub read_word : (strict : Bool) (profile : Profile) (word : List ℕ) (scan : ScanText) → IsScan strict profile word scan
+    → IsReadWord strict profile word scan.format
+read_word strict profile word scan is = (scan.text.items, is.stands, is.spells)
 
 pub no_scan : (profile : Profile) (word : List ℕ) (fault : CommandFault) → IsNoScan profile word fault → IsNoScanWord profile word fault
 no_scan profile word fault (inl bad) = no_scan_text profile word fault bad
@@ -85,17 +96,18 @@ rest_of_copy v of (x ∷ y ∷ z ∷ more) is has =
     absurd (subst (λ (of : Verb). HasTexts of (v x ∷ v y ∷ v z ∷ map v more)) is has)
 
 -- the words of a verb that takes one, or two
-pub show_none : (profile : Profile) (of : Verb) (texts more : List (List ℕ)) (word : List ℕ) (print : Option (List ℕ))
+pub show_none : (strict : Bool) (profile : Profile) (of : Verb) (texts more : List (List ℕ)) (word : List ℕ) (print : Option (List ℕ))
     (refused : List ℕ) (fault : CommandFault) → of ≡ verb.Show → texts ≡ word ∷ more → HasTexts of texts
-    → IsNoJobBy profile verb.Show (word ∷ []) print refused fault → IsNoJobBy profile of texts print refused fault
-show_none profile verb.Show [] more word print refused fault is shown has none = absurd has
-show_none profile verb.Show (w ∷ []) more word print refused fault is shown has none =
-    let same : word ∷ [] ≡ w ∷ [] = cc in subst (λ (ts : List (List ℕ)). IsNoJobBy profile verb.Show ts print refused fault) same none
-show_none profile verb.Show (w ∷ next ∷ rest) more word print refused fault is shown has none = absurd has
-show_none profile verb.Scan texts more word print refused fault is shown has none = absurd (cc)
-show_none profile verb.Print texts more word print refused fault is shown has none = absurd (cc)
-show_none profile verb.Check texts more word print refused fault is shown has none = absurd (cc)
-show_none profile verb.Copy texts more word print refused fault is shown has none = absurd (cc)
+    → IsNoJobBy strict profile verb.Show (word ∷ []) print refused fault → IsNoJobBy strict profile of texts print refused fault
+show_none strict profile verb.Show [] more word print refused fault is shown has none = absurd has
+show_none strict profile verb.Show (w ∷ []) more word print refused fault is shown has none =
+    let same : word ∷ [] ≡ w ∷ [] = cc in
+    subst (λ (ts : List (List ℕ)). IsNoJobBy strict profile verb.Show ts print refused fault) same none
+show_none strict profile verb.Show (w ∷ next ∷ rest) more word print refused fault is shown has none = absurd has
+show_none strict profile verb.Scan texts more word print refused fault is shown has none = absurd (cc)
+show_none strict profile verb.Print texts more word print refused fault is shown has none = absurd (cc)
+show_none strict profile verb.Check texts more word print refused fault is shown has none = absurd (cc)
+show_none strict profile verb.Copy texts more word print refused fault is shown has none = absurd (cc)
 
 -- where nothing was written, nothing was read
 unread : {S K : Type 0} (fault : CommandFault) (from : Ahead S) (out : K) → IsUnwrittenBy fault out out → Unread fault from from out out
@@ -117,70 +129,73 @@ module _ {S K : Type 0} (to_come : S → Option (List ℕ)) (read_faults : S →
     (profile : Profile) where
   -- ---- scans
 
-  scans_none : (form : OutputForm) (limit : ℕ) (word : List ℕ) (fault : CommandFault) → IsNoScan profile word fault → (from : Ahead S)
-      (out : K) → ScansWord to_come read_faults contents write_faults profile (writing form) limit word from from out out (Err fault)
-  scans_none form limit word fault (inl bad) from out =
+  scans_none : (strict : Bool) (form : OutputForm) (limit : ℕ) (word : List ℕ) (fault : CommandFault) → IsNoScan profile word fault
+      → (from : Ahead S)
+      (out : K) → ScansWord to_come read_faults contents write_faults strict profile (writing form) limit word from from out out (Err fault)
+  scans_none strict form limit word fault (inl bad) from out =
       inl (record { unread = refl; unwritten = refl; fault = fault; answers = refl; bad = bad })
-  scans_none form limit word fault (inr r) from out = inr (
+  scans_none strict form limit word fault (inr r) from out = inr (
     r.text,
     r.stands,
     record {
-      scans = λ t is. subst (λ f. ScansBy to_come profile (writing form) limit r.text t from (read_faults from.source)
+      scans = λ t is. subst (λ f. ScansBy to_come strict profile (writing form) limit r.text t from (read_faults from.source)
           (read_faults from.source) (contents out) (contents out) (Err f)) (sym r.is)
-          (refused_scans profile to_come (writing form) limit r.text t from (read_faults from.source) (contents out) r.of r.refused);
+          (refused_scans strict profile to_come (writing form) limit r.text t from (read_faults from.source) (contents out) r.of r.refused);
       refused = r.only;
       unread = subst (λ f. Unread f from from out out) (sym r.is) (unread_is r.of from out);
       failures = subst (λ f. Counts (write_faults out) (write_faults out) (Err f)) (sym r.is) (counts_is r.of (write_faults out));
     },
   )
 
-  form_none : (form : OutputForm) (due : Bool) (names : Option (List ℕ)) (limit : ℕ) (word : List ℕ) (fault : CommandFault)
+  form_none : (strict : Bool) (form : OutputForm) (due : Bool) (names : Option (List ℕ)) (limit : ℕ) (word : List ℕ) (fault : CommandFault)
       → IsNoScan profile word fault → (from : Ahead S) (out : K)
-      → ScansForm to_come read_faults contents write_faults profile form due names limit word from from out out (Err fault)
-  form_none form due None limit word fault none from out = scans_none form limit word fault none from out
-  form_none form due (Some names) limit word fault none from out = inl ((fault, refl, no_scan profile word fault none), refl, refl)
+      → ScansForm to_come read_faults contents write_faults strict profile form due names limit word from from out out (Err fault)
+  form_none strict form due None limit word fault none from out = scans_none strict form limit word fault none from out
+  form_none strict form due (Some names) limit word fault none from out = inl ((fault, refl, no_scan profile word fault none), refl, refl)
 
-  pub scan_none : (form : OutputForm) (due : Bool) (names print : Option (List ℕ)) (limit : ℕ) (word refused : List ℕ)
-      (fault : CommandFault) → IsNoJobBy profile verb.Scan (word ∷ []) print refused fault → (from : Ahead S) (out : K)
-      → ScansAs to_come read_faults contents write_faults profile form due names print limit word from from out out (Err fault)
-  scan_none form due names None limit word refused fault (is, none) from out = form_none form due names limit word fault none from out
-  scan_none form due names (Some print) limit word refused fault (inl (is, none)) from out = record {
+  pub scan_none : (strict : Bool) (form : OutputForm) (due : Bool) (names print : Option (List ℕ)) (limit : ℕ) (word refused : List ℕ)
+      (fault : CommandFault) → IsNoJobBy strict profile verb.Scan (word ∷ []) print refused fault → (from : Ahead S) (out : K)
+      → ScansAs to_come read_faults contents write_faults strict profile form due names print limit word from from out out (Err fault)
+  scan_none strict form due names None limit word refused fault (is, none) from out = form_none strict form due names limit word fault none
+      from out
+  scan_none strict form due names (Some print) limit word refused fault (inl (is, none)) from out = record {
     scans = inl (fault, refl, none);
     unread = unread fault from out (no_print_unwritten profile print fault out none);
     failures = no_print_counts profile print fault (write_faults out) none;
   }
-  scan_none form due names (Some print) limit word refused fault (inr (units, prints, inl (is, none))) from out =
+  scan_none strict form due names (Some print) limit word refused fault (inr (units, prints, inl (is, none))) from out =
       let weak = no_scan profile word fault none in
       record {
         scans = inr (units, prints, inl (fault, refl, weak));
         unread = unread fault from out (no_scan_unwritten profile word fault out weak);
         failures = no_scan_counts profile word fault (write_faults out) weak;
       }
-  scan_none form due names (Some print) limit word refused fault (inr (units, prints, inr (ds, spells, (why, mismatch, is)))) from out =
-      subst (λ f. ScansAs to_come read_faults contents write_faults profile form due names (Some print) limit word from from out out
+  scan_none strict form due names (Some print) limit word refused fault (inr (units, prints, inr (ds, reads, (why, ill, is)))) from out =
+      subst (λ f. ScansAs to_come read_faults contents write_faults strict profile form due names (Some print) limit word from from out out
       (Err f)) (sym is) (record {
-        scans = inr (units, prints, inr (ds, spells, inl (Unprintable why, refl, (why, mismatch, refl))));
+        scans = inr (units, prints, inr (ds, reads, inl (Unprintable why, refl, (why, ill, refl))));
         unread = (refl, refl);
         failures = refl;
       })
 
   -- the records are written in the form
-  pub written_plain : (form given : OutputForm) (due : Bool) (print : Option (List ℕ)) (limit : ℕ) (word : List ℕ) (scan : ScanText)
-      → IsWriting profile form print (written.Form given) → IsScan profile word scan → (from from' : Ahead S) (out out' : K)
+  pub written_plain : (strict : Bool) (form given : OutputForm) (due : Bool) (print : Option (List ℕ)) (limit : ℕ) (word : List ℕ)
+      (scan : ScanText)
+      → IsWriting profile form print (written.Form given) → IsScan strict profile word scan → (from from' : Ahead S) (out out' : K)
       (answer : Answer)
-      → ((p : Profile) (text t : List ℕ) → Spells p text scan.format → input_of to_come from ≡ Some t
-      → ScansBy to_come p (writing given) limit text t from' (read_faults from.source) (read_faults from'.source) (contents out)
+      → ((s : Bool) (p : Profile) (text t : List ℕ) → SpellsRead s p text scan.format → input_of to_come from ≡ Some t
+      → ScansBy to_come s p (writing given) limit text t from' (read_faults from.source) (read_faults from'.source) (contents out)
       (contents out') answer)
       → IfErr answer (λ fault. Unread fault from from' out out') → Counts (write_faults out) (write_faults out') answer
-      → ScansAs to_come read_faults contents write_faults profile form due None print limit word from from' out out' answer
-  written_plain form given due (Some print) limit word scan is scans from from' out out' answer does unread counts = absurd is
-  written_plain form given due None limit word scan is scans from from' out out' answer does unread counts =
-      subst (λ f. ScansWord to_come read_faults contents write_faults profile (writing f) limit word from from' out out' answer) is
+      → ScansAs to_come read_faults contents write_faults strict profile form due None print limit word from from' out out' answer
+  written_plain strict form given due (Some print) limit word scan is scans from from' out out' answer does unread counts = absurd is
+  written_plain strict form given due None limit word scan is scans from from' out out' answer does unread counts =
+      subst (λ f. ScansWord to_come read_faults contents write_faults strict profile (writing f) limit word from from' out out' answer) is
       (inr (
         scan.text.items,
         scans.stands,
         record {
-          scans = λ t told. does profile scan.text.items t scans.spells told;
+          scans = λ t told. does strict profile scan.text.items t scans.spells told;
           refused = λ at why faulty. absurd (scans.faultless at why faulty);
           unread = unread;
           failures = counts;
@@ -188,28 +203,29 @@ module _ {S K : Type 0} (to_come : S → Option (List ℕ)) (read_faults : S →
       ))
 
   -- under names
-  pub written_named : (form given : OutputForm) (due : Bool) (names : List ℕ) (print : Option (List ℕ)) (limit : ℕ) (word : List ℕ)
-      (scan : ScanText) → IsWriting profile form print (written.Form given) → IsScan profile word scan → (from from' : Ahead S)
+  pub written_named : (strict : Bool) (form given : OutputForm) (due : Bool) (names : List ℕ) (print : Option (List ℕ)) (limit : ℕ)
+      (word : List ℕ)
+      (scan : ScanText) → IsWriting profile form print (written.Form given) → IsScan strict profile word scan → (from from' : Ahead S)
       (out out' : K) (answer : Answer)
       → ScansByNames to_come read_faults contents write_faults given due names limit scan.format from from' out out' answer
-      → ScansAs to_come read_faults contents write_faults profile form due (Some names) print limit word from from' out out' answer
-  written_named form given due names (Some print) limit word scan is scans from from' out out' answer does = absurd is
-  written_named form given due names None limit word scan is scans from from' out out' answer does = inr (
+      → ScansAs to_come read_faults contents write_faults strict profile form due (Some names) print limit word from from' out out' answer
+  written_named strict form given due names (Some print) limit word scan is scans from from' out out' answer does = absurd is
+  written_named strict form given due names None limit word scan is scans from from' out out' answer does = inr (
     scan.format,
-    scan_word profile word scan scans,
+    read_word strict profile word scan scans,
     subst (λ f. ScansByNames to_come read_faults contents write_faults f due names limit scan.format from from' out out' answer) is does,
   )
 
   -- by a print format
-  pub written_print : (form : OutputForm) (units : List PrintUnit) (due : Bool) (names print : Option (List ℕ)) (limit : ℕ)
-      (word : List ℕ) (scan : ScanText) → IsWriting profile form print (written.Print units) → IsScan profile word scan
+  pub written_print : (strict : Bool) (form : OutputForm) (units : List PrintUnit) (due : Bool) (names print : Option (List ℕ)) (limit : ℕ)
+      (word : List ℕ) (scan : ScanText) → IsWriting profile form print (written.Print units) → IsScan strict profile word scan
       → (from from' : Ahead S) (out out' : K) (answer : Answer)
       → ScansPrint to_come read_faults limit units scan.format from from' (contents out) (contents out') answer
       → IfErr answer (λ fault. Unread fault from from' out out') → Counts (write_faults out) (write_faults out') answer
-      → ScansAs to_come read_faults contents write_faults profile form due names print limit word from from' out out' answer
-  written_print form units due names None limit word scan is scans from from' out out' answer does unread counts = absurd is
-  written_print form units due names (Some print) limit word scan is scans from from' out out' answer does unread counts = record {
-    scans = inr (units, is, inr (scan.format, scan_word profile word scan scans, does));
+      → ScansAs to_come read_faults contents write_faults strict profile form due names print limit word from from' out out' answer
+  written_print strict form units due names None limit word scan is scans from from' out out' answer does unread counts = absurd is
+  written_print strict form units due names (Some print) limit word scan is scans from from' out out' answer does unread counts = record {
+    scans = inr (units, is, inr (scan.format, read_word strict profile word scan scans, does));
     unread = unread;
     failures = counts;
   }
@@ -295,13 +311,14 @@ module _ {S K : Type 0} (to_come : S → Option (List ℕ)) (read_faults : S →
         }
 
     pub none_does : (of : Verb) (texts : List (List ℕ)) (refused : List ℕ) (fault : CommandFault)
-        → IsNoJobBy profile of texts given refused fault → (from : Ahead S) (out : K) → Does of texts from from out out (Err fault)
+        → IsNoJobBy order.strict profile of texts given refused fault → (from : Ahead S) (out : K)
+        → Does of texts from from out out (Err fault)
     none_does verb.Show [] refused fault is from out = absurd is
     none_does verb.Show (word ∷ []) refused fault (is, none) from out = (refl, shows_none word fault none out)
     none_does verb.Show (word ∷ next ∷ more) refused fault is from out = absurd is
     none_does verb.Scan [] refused fault is from out = absurd is
     none_does verb.Scan (word ∷ []) refused fault is from out =
-        scan_none form (is_headed order.file) (names_text order) given order.limit word refused fault is from out
+        scan_none order.strict form (is_headed order.file) (names_text order) given order.limit word refused fault is from out
     none_does verb.Scan (word ∷ next ∷ more) refused fault is from out = absurd is
     none_does verb.Print [] refused fault is from out = absurd is
     none_does verb.Print (word ∷ values) refused fault (is, none) from out = (refl, prints_none how values word fault none out)
@@ -323,7 +340,7 @@ module _ {S K : Type 0} (to_come : S → Option (List ℕ)) (read_faults : S →
 
     -- ---- there is a job
 
-    pub show_does : (scan : ScanText) (of : Verb) (texts : List (List ℕ)) → IsJobBy profile form given (job.Show scan) of texts
+    pub show_does : (scan : ScanText) (of : Verb) (texts : List (List ℕ)) → IsJobBy order.strict profile form given (job.Show scan) of texts
         → (from : Ahead S) (out out' : K) (answer : Answer)
         → ((p : Profile) (text : List ℕ) → Spells p text scan.format → ShowsBy p text (contents out) (contents out') answer)
         → IfErr answer (λ fault. IsUnwrittenBy fault out out') → Counts (write_faults out) (write_faults out') answer
@@ -335,7 +352,7 @@ module _ {S K : Type 0} (to_come : S → Option (List ℕ)) (read_faults : S →
         scan.text.items,
         is.stands,
         record {
-          shows = shows profile scan.text.items is.spells;
+          shows = shows profile scan.text.items (spelled profile scan.text.items scan.format is.spells);
           refused = λ at why faulty. absurd (is.faultless at why faulty);
           unwritten = unwritten;
           failures = counts;
@@ -348,7 +365,8 @@ module _ {S K : Type 0} (to_come : S → Option (List ℕ)) (read_faults : S →
     show_does scan verb.Check texts is from out out' answer shows unwritten counts = absurd is
     show_does scan verb.Copy texts is from out out' answer shows unwritten counts = absurd is
 
-    pub print_does : (units : List PrintUnit) (of : Verb) (texts : List (List ℕ)) → IsJobBy profile form given (job.Print units) of texts
+    pub print_does : (units : List PrintUnit) (of : Verb) (texts : List (List ℕ))
+        → IsJobBy order.strict profile form given (job.Print units) of texts
         → (values : List (List ℕ)) → values ≡ drop 1 texts → (from : Ahead S) (out out' : K) (answer : Answer)
         → ((p : Profile) (text : List ℕ) → SpellsPrint p text units → PrintsBy how p text values (contents out) (contents out') answer)
         → IfErr answer (λ fault. IsUnwrittenBy fault out out') → Counts (write_faults out) (write_faults out') answer
@@ -374,7 +392,8 @@ module _ {S K : Type 0} (to_come : S → Option (List ℕ)) (read_faults : S →
     print_does units verb.Copy texts is values same from out out' answer prints unwritten counts = absurd is
 
     pub check_does : (units : List PrintUnit) (scan : ScanText) (verdict : Option PairFault) (of : Verb) (texts : List (List ℕ))
-        → IsJobBy profile form given (job.Check units scan verdict) of texts → (from : Ahead S) (out out' : K) (answer : Answer)
+        → IsJobBy order.strict profile form given (job.Check units scan verdict) of texts
+        → (from : Ahead S) (out out' : K) (answer : Answer)
         → TellsLine (verdict_text verdict) (verdict_status verdict) (contents out) (contents out') answer
         → IfErr answer (λ fault. IsUnwrittenBy fault out out') → Counts (write_faults out) (write_faults out') answer
         → Does of texts from from out out' answer
@@ -395,7 +414,7 @@ module _ {S K : Type 0} (to_come : S → Option (List ℕ)) (read_faults : S →
     check_does units scan verdict verb.Copy texts is from out out' answer tells unwritten counts = absurd is
 
     pub copy_does : (units : List PrintUnit) (scan : ScanText) (of : Verb) (texts : List (List ℕ))
-        → IsJobBy profile form given (job.Copy units scan) of texts → (from from' : Ahead S) (out out' : K) (answer : Answer)
+        → IsJobBy order.strict profile form given (job.Copy units scan) of texts → (from from' : Ahead S) (out out' : K) (answer : Answer)
         → Copies to_come read_faults order.limit units scan.format from from' (contents out) (contents out') answer
         → IfErr answer (λ fault. Unread fault from from' out out') → Counts (write_faults out) (write_faults out') answer
         → Does of texts from from' out out' answer

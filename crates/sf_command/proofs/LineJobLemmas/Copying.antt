@@ -19,7 +19,7 @@ use Rattle.sf_command.specs.jobs.CopyFormats.{AreCopies, AreNoCopies, AreNoCopyF
 use Rattle.sf_command.specs.jobs.Jobs.{AreNoTwo, IsNoJobBy}
 use Rattle.sf_command.specs.declared.jobs.copy_formats.CopyFormats.{CopyFormats}
 use Rattle.sf_command.specs.declared.jobs.formats.ScanText.{ScanText}
-use Rattle.sf_command.proofs.JobLemmas.Working.{no_scan}
+use Rattle.sf_command.proofs.JobLemmas.Working.{no_scan, spelled}
 use Rattle.sf_command.specs.line_jobs.Copies.{CopiesPair, CopiesTexts}
 use Rattle.sf_command.specs.notes.Explains.{SaysMore, SaysMoreOfRefused, more_of_line}
 use Rattle.sf_command.specs.line_jobs.Lines.{SaysLines, SomeIsSaid, answer_by, line_telling}
@@ -51,7 +51,8 @@ pub copies_line : (profile : Profile) (texts : List (List ℕ)) (formats : CopyF
     → Spells profile (line_of formats).text.items (line_of formats).format
 copies_line profile [] formats are = absurd are
 copies_line profile (print ∷ []) formats are = absurd are
-copies_line profile (print ∷ scan ∷ []) formats are = line_spells profile formats.scan formats.front are.front are.reads.spells
+copies_line profile (print ∷ scan ∷ []) formats are = line_spells profile formats.scan formats.front are.front
+    (spelled profile formats.scan.text.items formats.scan.format are.reads.spells)
 copies_line profile (print ∷ scan ∷ next ∷ more) formats are = absurd are
 
 -- the lines of a pair end with no fault of a pair
@@ -92,19 +93,20 @@ module _ {S K E : Type 0} (to_come : S → Option (List ℕ)) (read_faults : S �
       inl ((fault, refl, no_copy_formats profile print scan refused fault none), refl, refl, refl)
   copies_none (print ∷ scan ∷ next ∷ more) refused fault none from out err = absurd none
 
-none_by : (profile : Profile) (texts : List (List ℕ)) (print : Option (List ℕ)) (refused : List ℕ) (fault : CommandFault)
-    → AreNoCopies profile texts refused fault → IsNoJobBy profile verb.Copy texts print refused fault
-none_by profile [] print refused fault none = absurd none
-none_by profile (one ∷ []) print refused fault none = absurd none
-none_by profile (one ∷ other ∷ []) print refused fault none = none
-none_by profile (one ∷ other ∷ next ∷ more) print refused fault none = absurd none
+none_by : (strict : Bool) (profile : Profile) (texts : List (List ℕ)) (print : Option (List ℕ)) (refused : List ℕ) (fault : CommandFault)
+    → AreNoCopies profile texts refused fault → IsNoJobBy strict profile verb.Copy texts print refused fault
+none_by strict profile [] print refused fault none = absurd none
+none_by strict profile (one ∷ []) print refused fault none = absurd none
+none_by strict profile (one ∷ other ∷ []) print refused fault none = none
+none_by strict profile (one ∷ other ∷ next ∷ more) print refused fault none = absurd none
 
 -- what is said of a copy of which a word is refused
 pub more_of_no_copies : (explain : Bool) (order : Order) → order.verb ≡ verb.Copy → (notes refused : List ℕ) (fault : CommandFault)
     → AreNoCopies (grammar_of order.profile) (map string_bytes order.texts.items) refused fault
     → SaysMoreOfRefused explain refused fault notes → SaysMore explain order None [] (Err fault) notes
 more_of_no_copies explain order is notes refused fault none said = more_of_none explain order None [] notes refused fault
-    (subst (λ (of : Verb). IsNoJobBy (grammar_of order.profile) of (map string_bytes order.texts.items)
+    (subst (λ (of : Verb). IsNoJobBy order.strict (grammar_of order.profile) of (map string_bytes order.texts.items)
     (option_map string_bytes order.print) refused fault) (sym is)
-    (none_by (grammar_of order.profile) (map string_bytes order.texts.items) (option_map string_bytes order.print) refused fault none))
+    (none_by order.strict (grammar_of order.profile) (map string_bytes order.texts.items) (option_map string_bytes order.print) refused
+    fault none))
     said

@@ -27,7 +27,7 @@ use Rattle.sf_command.specs.declared.jobs.writing.Writing.TheVariants.{Form, Pri
 use Rattle.sf_command.specs.jobs.Writings.{IsUnsuited, IsWriting}
 use Rattle.sf_messages.specs.LineTexts.{line_fault_text}
 use Rattle.sf_print.specs.sink.Sinks.{counted_on}
-use Rattle.sf_command.specs.jobs.Checks.{IsNoScanWord, IsScanWord}
+use Rattle.sf_command.specs.jobs.Checks.{IsNoScanWord, IsReadWord}
 use Rattle.sf_command.specs.jobs.Answers.{Answer}
 use Rattle.sf_command.specs.jobs.Commands.{Counts, is_write_fault}
 use Rattle.sf_arguments.specs.Escapes.{Unescapes}
@@ -73,11 +73,12 @@ pub spans_lent : (profile : Profile) (text : List ℕ) (own : Option (List Span)
 spans_lent profile text own lent is known spans lent_is = known spans.now (sym is ∙ ap option_copied lent_is)
 
 -- want of memory is told of words that all spell formats
-pub refused_memory : (profile : Profile) (words : List (List ℕ)) (formats : List (List Directive)) → AreScanWords profile words formats
+pub refused_memory : (strict : Bool) (profile : Profile) (words : List (List ℕ)) (formats : List (List Directive))
+    → AreScanWords strict profile words formats
     → 0 < length words → (word : List ℕ) × IsFirstRefused profile words word Memory
-refused_memory profile [] formats are some = absurd (omega (arith, some))
-refused_memory profile (word ∷ words) [] are some = absurd are
-refused_memory profile (word ∷ words) (ds ∷ formats) ((text, stands, spells), are) some = (word, inl (refl, (text, stands)))
+refused_memory strict profile [] formats are some = absurd (omega (arith, some))
+refused_memory strict profile (word ∷ words) [] are some = absurd are
+refused_memory strict profile (word ∷ words) (ds ∷ formats) ((text, stands, read), are) some = (word, inl (refl, (text, stands)))
 
 last_behind : {A : Type 0} (x y : A) (xs : List A) (last : A) → slice_get (y ∷ xs) (length (y ∷ xs) - 1) ≡ Some last
     → slice_get (x ∷ y ∷ xs) (length (x ∷ y ∷ xs) - 1) ≡ Some last
@@ -86,43 +87,44 @@ last_behind x y xs last e =
     ∙ ap (slice_get (y ∷ xs)) {x = length xs} {y = length (y ∷ xs) - 1} (omega arith) ∙ e
 
 -- the last of the words spells the last of the formats
-pub lasts : (profile : Profile) (words : List (List ℕ)) (formats : List (List Directive)) → AreScanWords profile words formats
+pub lasts : (strict : Bool) (profile : Profile) (words : List (List ℕ)) (formats : List (List Directive))
+    → AreScanWords strict profile words formats
     → 0 < length words
     → (word : List ℕ) × (ds : List Directive) × (slice_get words (length words - 1) ≡ Some word)
-    × (slice_get formats (length formats - 1) ≡ Some ds) × IsScanWord profile word ds
-lasts profile [] formats are some = absurd (omega (arith, some))
-lasts profile (word ∷ words) [] are some = absurd are
-lasts profile (word ∷ []) (ds ∷ []) (stands, are) some = (word, ds, refl, refl, stands)
-lasts profile (word ∷ []) (ds ∷ other ∷ formats) (stands, are) some = absurd (cc)
-lasts profile (word ∷ next ∷ words) (ds ∷ []) (stands, are) some = absurd are
-lasts profile (word ∷ next ∷ words) (ds ∷ other ∷ formats) (stands, are) some =
-    let (last, format, word_is, format_is, spells) = lasts profile (next ∷ words) (other ∷ formats) are (omega arith) in
+    × (slice_get formats (length formats - 1) ≡ Some ds) × IsReadWord strict profile word ds
+lasts strict profile [] formats are some = absurd (omega (arith, some))
+lasts strict profile (word ∷ words) [] are some = absurd are
+lasts strict profile (word ∷ []) (ds ∷ []) (stands, are) some = (word, ds, refl, refl, stands)
+lasts strict profile (word ∷ []) (ds ∷ other ∷ formats) (stands, are) some = absurd (cc)
+lasts strict profile (word ∷ next ∷ words) (ds ∷ []) (stands, are) some = absurd are
+lasts strict profile (word ∷ next ∷ words) (ds ∷ other ∷ formats) (stands, are) some =
+    let (last, format, word_is, format_is, spells) = lasts strict profile (next ∷ words) (other ∷ formats) are (omega arith) in
     (last, format, last_behind word next words last word_is, last_behind ds other formats format format_is, spells)
 
 -- so that something is told of lines by them
-pub telling_of : (file : Option (List ℕ)) (profile : Profile) (quiet explain : Bool) (words : List (List ℕ))
+pub telling_of : (file : Option (List ℕ)) (strict : Bool) (profile : Profile) (quiet explain : Bool) (words : List (List ℕ))
     (formats : List (List Directive))
-    → AreScanWords profile words formats → 0 < length words
+    → AreScanWords strict profile words formats → 0 < length words
     → (text : List ℕ) → (explain ≡ true → OfWord Unescapes (slice_get words (length words - 1)) text)
     → (ds : List Directive) × (telling : ℕ → List ℕ → LineFault → List ℕ) × (slice_get formats (length formats - 1) ≡ Some ds)
     × SaysLines file profile quiet explain text ds telling × IsTelling file profile quiet explain words formats telling
-telling_of file profile quiet explain words formats are some text reads =
-    let (word, ds, word_is, format_is, (own, stands, spells)) = lasts profile words formats are some in
-    by explain reads word ds word_is format_is own stands spells
+telling_of file strict profile quiet explain words formats are some text reads =
+    let (word, ds, word_is, format_is, (own, stands, (spelled, spells, read))) = lasts strict profile words formats are some in
+    by explain reads word ds word_is format_is own stands spelled spells
   where
     by : (e : Bool) → (e ≡ true → OfWord Unescapes (slice_get words (length words - 1)) text) → (word : List ℕ) (ds : List Directive)
         → slice_get words (length words - 1) ≡ Some word → slice_get formats (length formats - 1) ≡ Some ds
-        → (own : List ℕ) → Unescapes word own → Spells profile own ds
+        → (own : List ℕ) → Unescapes word own → (spelled : List Directive) → Spells profile own spelled
         → (ds : List Directive) × (telling : ℕ → List ℕ → LineFault → List ℕ) × (slice_get formats (length formats - 1) ≡ Some ds)
         × SaysLines file profile quiet e text ds telling × IsTelling file profile quiet e words formats telling
-    by false h word ds word_is format_is own stands spells = (
+    by false h word ds word_is format_is own stands spelled spells = (
       ds,
       line_telling file quiet (λ line fault. []),
       format_is,
       refl,
       record { word = word; text = own; ds = ds; last_word = word_is; last_format = format_is; stands = stands; says = refl },
     )
-    by true h word ds word_is format_is own stands (pieces, format, own_is, mean) =
+    by true h word ds word_is format_is own stands spelled (pieces, format, own_is, mean) =
         let same : own ≡ text = one_reading word own text stands (subst (λ w. OfWord Unescapes w text) word_is (h refl)) in
         let text_is : text ≡ text_of pieces = sym same ∙ own_is in
         let telling : ℕ → List ℕ → LineFault → List ℕ = line_telling file quiet (more_of_line pieces ds) in (
@@ -143,13 +145,13 @@ telling_of file profile quiet explain words formats are some text reads =
         )
 
 -- so that there is something that is said by the last of them
-pub some_said : (file : Option (List ℕ)) (profile : Profile) (quiet explain : Bool) (words : List (List ℕ))
+pub some_said : (file : Option (List ℕ)) (strict : Bool) (profile : Profile) (quiet explain : Bool) (words : List (List ℕ))
     (formats : List (List Directive))
-    → AreScanWords profile words formats → 0 < length words
+    → AreScanWords strict profile words formats → 0 < length words
     → (text : List ℕ) → (explain ≡ true → OfWord Unescapes (slice_get words (length words - 1)) text)
     → (ds : List Directive) → slice_get formats (length formats - 1) ≡ Some ds → SomeIsSaid file profile quiet explain text ds
-some_said file profile quiet explain words formats are some text reads ds is =
-    let (own, telling, last, says, told) = telling_of file profile quiet explain words formats are some text reads in
+some_said file strict profile quiet explain words formats are some text reads ds is =
+    let (own, telling, last, says, told) = telling_of file strict profile quiet explain words formats are some text reads in
     let same : own ≡ ds = same_Some own ds (sym last ∙ is) in
     ∣ (telling, subst (λ (d : List Directive). SaysLines file profile quiet explain text d telling) same says) ∣₁
 
@@ -169,9 +171,9 @@ module _ (profile : Profile) (fault : CommandFault) where
   is_unprintable (Print units) (ds ∷ formats) (inl (why, mismatch, is)) = (why, is)
   is_unprintable writing (ds ∷ formats) (inr (suits, h)) = is_unprintable writing formats h
 
-module _ (profile : Profile) (form : OutputForm) (print : Option (List ℕ)) (passed words : List (List ℕ)) where
+module _ (strict : Bool) (profile : Profile) (form : OutputForm) (print : Option (List ℕ)) (passed words : List (List ℕ)) where
   says_escape : (print : Option (List ℕ)) (name : FormatName) (at : ℕ) (refused : List ℕ)
-      → IsRefused profile form print passed words refused (BadEscape name at)
+      → IsRefused strict profile form print passed words refused (BadEscape name at)
       → SaysOfLines profile print (passed ++ words) (Err (BadEscape name at)) (escape_notes refused at)
   says_escape None names.Scan at refused (inl h) = absurd h
   says_escape (Some word) names.Scan at refused (inl (is, (other, bad))) = absurd (cc)
@@ -186,12 +188,12 @@ module _ (profile : Profile) (form : OutputForm) (print : Option (List ℕ)) (pa
       let none = is_unprintable profile (BadEscape names.Print at) writing formats unsuited in absurd (let e = none.1 in cc)
 
   pub says_of_escape : (name : FormatName) (at : ℕ) (refused : List ℕ)
-      → IsRefused profile form print passed words refused (BadEscape name at)
+      → IsRefused strict profile form print passed words refused (BadEscape name at)
       → SaysOfLines profile print (passed ++ words) (Err (BadEscape name at)) (escape_notes refused at)
   says_of_escape name at refused h = says_escape print name at refused h
 
   says_format : (print : Option (List ℕ)) (fault : FormatFault) (refused notes : List ℕ)
-      → IsRefused profile form print passed words refused (Format fault) → SaysFormat fault refused notes
+      → IsRefused strict profile form print passed words refused (Format fault) → SaysFormat fault refused notes
       → SaysOfLines profile print (passed ++ words) (Err (Format fault)) notes
   says_format None fault refused notes (inl h) said = absurd h
   says_format (Some word) fault refused notes (inl (is, bad)) said = absurd bad
@@ -200,12 +202,12 @@ module _ (profile : Profile) (form : OutputForm) (print : Option (List ℕ)) (pa
       let none = is_unprintable profile (Format fault) writing formats unsuited in absurd (let e = none.1 in cc)
 
   pub says_of_format : (fault : FormatFault) (refused notes : List ℕ)
-      → IsRefused profile form print passed words refused (Format fault) → SaysFormat fault refused notes
+      → IsRefused strict profile form print passed words refused (Format fault) → SaysFormat fault refused notes
       → SaysOfLines profile print (passed ++ words) (Err (Format fault)) notes
   says_of_format fault refused notes h said = says_format print fault refused notes h said
 
   says_print_format : (print : Option (List ℕ)) (fault : FormatFault) (refused notes : List ℕ)
-      → IsRefused profile form print passed words refused (PrintFormat fault) → SaysFormat fault refused notes
+      → IsRefused strict profile form print passed words refused (PrintFormat fault) → SaysFormat fault refused notes
       → SaysOfLines profile print (passed ++ words) (Err (PrintFormat fault)) notes
   says_print_format None fault refused notes (inl h) said = absurd h
   says_print_format (Some word) fault refused notes (inl (is, bad)) said = subst (λ w. SaysFormat fault w notes) is said
@@ -215,13 +217,13 @@ module _ (profile : Profile) (form : OutputForm) (print : Option (List ℕ)) (pa
       let none = is_unprintable profile (PrintFormat fault) writing formats unsuited in absurd (let e = none.1 in cc)
 
   pub says_of_print_format : (fault : FormatFault) (refused notes : List ℕ)
-      → IsRefused profile form print passed words refused (PrintFormat fault) → SaysFormat fault refused notes
+      → IsRefused strict profile form print passed words refused (PrintFormat fault) → SaysFormat fault refused notes
       → SaysOfLines profile print (passed ++ words) (Err (PrintFormat fault)) notes
   says_of_print_format fault refused notes h said = says_print_format print fault refused notes h said
 
   -- names are judged after the words
   no_count : (print : Option (List ℕ)) (expected got : ℕ) (refused : List ℕ)
-      → IsRefused profile form print passed words refused (NameCount expected got) → ⊥
+      → IsRefused strict profile form print passed words refused (NameCount expected got) → ⊥
   no_count None expected got refused (inl h) = h
   no_count (Some word) expected got refused (inl (is, bad)) = bad
   no_count print expected got refused (inr (writing, is, inl first)) =
@@ -229,7 +231,7 @@ module _ (profile : Profile) (form : OutputForm) (print : Option (List ℕ)) (pa
   no_count print expected got refused (inr (writing, is, inr (formats, are, unsuited))) =
       let none = is_unprintable profile (NameCount expected got) writing formats unsuited in absurd (let e = none.1 in cc)
 
-  refused_says : (fault : CommandFault) (refused notes : List ℕ) → IsRefused profile form print passed words refused fault
+  refused_says : (fault : CommandFault) (refused notes : List ℕ) → IsRefused strict profile form print passed words refused fault
       → SaysRefused refused fault notes → SaysOfLines profile print (passed ++ words) (Err fault) notes
   refused_says (BadEscape name at) refused notes is said =
       subst (SaysOfLines profile print (passed ++ words) (Err (BadEscape name at))) (sym said) (says_of_escape name at refused is)
@@ -248,7 +250,7 @@ module _ (profile : Profile) (form : OutputForm) (print : Option (List ℕ)) (pa
 
   -- what is said of a word that is refused
   pub more_of_refused_lines : (explain : Bool) (refused notes : List ℕ) (fault : CommandFault)
-      → IsRefused profile form print passed words refused fault → SaysMoreOfRefused explain refused fault notes
+      → IsRefused strict profile form print passed words refused fault → SaysMoreOfRefused explain refused fault notes
       → SaysMoreOfLines explain profile print (passed ++ words) (Err fault) notes
   more_of_refused_lines false refused notes fault is said = said
   more_of_refused_lines true refused notes fault is (inl said) = inl (refused_says fault refused notes is said)
@@ -256,7 +258,7 @@ module _ (profile : Profile) (form : OutputForm) (print : Option (List ℕ)) (pa
 
   -- want of memory, once all formats are there
   pub no_memory : (writing : Writing) → IsWriting profile form print writing → (word : List ℕ)
-      → IsFirstRefused profile (passed ++ words) word Memory → AreRefused profile form print passed words Memory
+      → IsFirstRefused profile (passed ++ words) word Memory → AreRefused strict profile form print passed words Memory
   no_memory writing is word first = (word, inr (writing, is, inl first))
 
 -- nothing may be said where more is asked for

@@ -27,9 +27,9 @@ use Rattle.sf_command.specs.jobs.Jobs.{AreNoTwo, IsJobBy, IsNoJob, IsNoJobBy, Is
 use Rattle.sf_command.specs.declared.jobs.formats.ScanText.{ScanText}
 use Rattle.sf_command.specs.declared.jobs.job.Job.{Job}
 use Rattle.sf_command.specs.declared.jobs.job.Job.TheVariants as job
-use Rattle.sf_command.proofs.JobLemmas.Working.{no_print, no_scan}
+use Rattle.sf_command.proofs.JobLemmas.Working.{no_print, no_scan, spelled}
 use Rattle.sf_command.specs.notes.Explains.{Explains, OfBoth, OfWord, SaysClean, SaysFailed, SaysFormat, SaysMore}
-use Rattle.sf_command.specs.notes.Explains.{SaysMoreOfRefused}
+use Rattle.sf_command.specs.notes.Explains.{SaysMoreOfRefused, is_strict_of}
 use Rattle.sf_command.specs.notes.Explains.{SaysAlone, SaysPair, SaysRefused, told_at, verdict_notes, word_by}
 
 module _ (profile : Profile) where
@@ -40,70 +40,74 @@ module _ (profile : Profile) where
   ByParts scan says notes = (pieces : List Piece) → IsFormat (Scan profile) pieces → scan.text.items ≡ text_of pieces → notes ≡ says pieces
 
   module _ (number : ℕ) (outcome : Outcome) (place : Option Place) (rest notes : List ℕ) where
-    failed_by : (word : List ℕ) (scan own : ScanText) → Some own ≡ Some scan → IsScan profile word own
+    failed_by : (strict : Bool) (word : List ℕ) (scan own : ScanText) → Some own ≡ Some scan → IsScan strict profile word own
         → ByParts scan (λ pieces. failed_notes scan.format (told_at pieces scan.format outcome.at) number outcome place rest) notes
-        → SaysFailed profile number outcome place rest word notes
-    failed_by word scan own same is says =
-        let here = subst (IsScan profile word) (same_Some own scan same) is in
-        let (pieces, format, text_is, mean) = here.spells in
+        → SaysFailed strict profile number outcome place rest word notes
+    failed_by strict word scan own same is says =
+        let here = subst (IsScan strict profile word) (same_Some own scan same) is in
+        let (given, (pieces, format, text_is, mean), read) = here.spells in
         inl (
           scan.text.items,
           here.stands,
           inl (record {
             pieces = pieces;
+            own = given;
             ds = scan.format;
             format = format;
             text_is = text_is;
             mean = mean;
+            read = read;
             notes_are = says pieces format text_is;
           }),
         )
 
-    pub failed_says : (form : OutputForm) (print : Option (List ℕ)) (made : Job) (of : Verb) (texts : List (List ℕ))
-        → IsJobBy profile form print made of texts → (scan : ScanText) → scan_of made ≡ Some scan
+    pub failed_says : (strict : Bool) (form : OutputForm) (print : Option (List ℕ)) (made : Job) (of : Verb) (texts : List (List ℕ))
+        → IsJobBy strict profile form print made of texts → (scan : ScanText) → scan_of made ≡ Some scan
         → ByParts scan (λ pieces. failed_notes scan.format (told_at pieces scan.format outcome.at) number outcome place rest) notes
-        → OfWord (SaysFailed profile number outcome place rest) (word_by print of texts name.Scan) notes
-    failed_says form print (job.Show own) verb.Show [] is scan same says = absurd is
-    failed_says form print (job.Show own) verb.Show (word ∷ []) is scan same says = failed_by word scan own same is says
-    failed_says form print (job.Show own) verb.Show (word ∷ next ∷ more) is scan same says = absurd is
-    failed_says form print (job.Show own) verb.Scan texts is scan same says = absurd is
-    failed_says form print (job.Show own) verb.Print texts is scan same says = absurd is
-    failed_says form print (job.Show own) verb.Check texts is scan same says = absurd is
-    failed_says form print (job.Show own) verb.Copy texts is scan same says = absurd is
-    failed_says form print (job.Scan own writing) verb.Scan [] is scan same says = absurd is
-    failed_says form print (job.Scan own writing) verb.Scan (word ∷ []) is scan same says = failed_by word scan own same is.0 says
-    failed_says form print (job.Scan own writing) verb.Scan (word ∷ next ∷ more) is scan same says = absurd is
-    failed_says form print (job.Scan own writing) verb.Show texts is scan same says = absurd is
-    failed_says form print (job.Scan own writing) verb.Print texts is scan same says = absurd is
-    failed_says form print (job.Scan own writing) verb.Check texts is scan same says = absurd is
-    failed_says form print (job.Scan own writing) verb.Copy texts is scan same says = absurd is
-    failed_says form print (job.Check units own verdict) verb.Check [] is scan same says = absurd is
-    failed_says form print (job.Check units own verdict) verb.Check (one ∷ []) is scan same says = absurd is
-    failed_says form print (job.Check units own verdict) verb.Check (one ∷ other ∷ []) is scan same says =
-        failed_by other scan own same is.1 says
-    failed_says form print (job.Check units own verdict) verb.Check (one ∷ other ∷ next ∷ more) is scan same says = absurd is
-    failed_says form print (job.Check units own verdict) verb.Show texts is scan same says = absurd is
-    failed_says form print (job.Check units own verdict) verb.Scan texts is scan same says = absurd is
-    failed_says form print (job.Check units own verdict) verb.Print texts is scan same says = absurd is
-    failed_says form print (job.Check units own verdict) verb.Copy texts is scan same says = absurd is
-    failed_says form print (job.Copy units own) verb.Copy [] is scan same says = absurd is
-    failed_says form print (job.Copy units own) verb.Copy (one ∷ []) is scan same says = absurd is
-    failed_says form print (job.Copy units own) verb.Copy (one ∷ other ∷ []) is scan same says = failed_by other scan own same is.1 says
-    failed_says form print (job.Copy units own) verb.Copy (one ∷ other ∷ next ∷ more) is scan same says = absurd is
-    failed_says form print (job.Copy units own) verb.Show texts is scan same says = absurd is
-    failed_says form print (job.Copy units own) verb.Scan texts is scan same says = absurd is
-    failed_says form print (job.Copy units own) verb.Print texts is scan same says = absurd is
-    failed_says form print (job.Copy units own) verb.Check texts is scan same says = absurd is
-    failed_says form print (job.Print units) of texts is scan same says = absurd (cc)
-    failed_says form print (job.Answer units) of texts is scan same says = absurd (cc)
+        → OfWord (SaysFailed (is_strict_of of strict) profile number outcome place rest) (word_by print of texts name.Scan) notes
+    failed_says strict form print (job.Show own) verb.Show [] is scan same says = absurd is
+    failed_says strict form print (job.Show own) verb.Show (word ∷ []) is scan same says = failed_by false word scan own same is says
+    failed_says strict form print (job.Show own) verb.Show (word ∷ next ∷ more) is scan same says = absurd is
+    failed_says strict form print (job.Show own) verb.Scan texts is scan same says = absurd is
+    failed_says strict form print (job.Show own) verb.Print texts is scan same says = absurd is
+    failed_says strict form print (job.Show own) verb.Check texts is scan same says = absurd is
+    failed_says strict form print (job.Show own) verb.Copy texts is scan same says = absurd is
+    failed_says strict form print (job.Scan own writing) verb.Scan [] is scan same says = absurd is
+    failed_says strict form print (job.Scan own writing) verb.Scan (word ∷ []) is scan same says = failed_by strict word scan own same is.0
+        says
+    failed_says strict form print (job.Scan own writing) verb.Scan (word ∷ next ∷ more) is scan same says = absurd is
+    failed_says strict form print (job.Scan own writing) verb.Show texts is scan same says = absurd is
+    failed_says strict form print (job.Scan own writing) verb.Print texts is scan same says = absurd is
+    failed_says strict form print (job.Scan own writing) verb.Check texts is scan same says = absurd is
+    failed_says strict form print (job.Scan own writing) verb.Copy texts is scan same says = absurd is
+    failed_says strict form print (job.Check units own verdict) verb.Check [] is scan same says = absurd is
+    failed_says strict form print (job.Check units own verdict) verb.Check (one ∷ []) is scan same says = absurd is
+    failed_says strict form print (job.Check units own verdict) verb.Check (one ∷ other ∷ []) is scan same says =
+        failed_by false other scan own same is.1 says
+    failed_says strict form print (job.Check units own verdict) verb.Check (one ∷ other ∷ next ∷ more) is scan same says = absurd is
+    failed_says strict form print (job.Check units own verdict) verb.Show texts is scan same says = absurd is
+    failed_says strict form print (job.Check units own verdict) verb.Scan texts is scan same says = absurd is
+    failed_says strict form print (job.Check units own verdict) verb.Print texts is scan same says = absurd is
+    failed_says strict form print (job.Check units own verdict) verb.Copy texts is scan same says = absurd is
+    failed_says strict form print (job.Copy units own) verb.Copy [] is scan same says = absurd is
+    failed_says strict form print (job.Copy units own) verb.Copy (one ∷ []) is scan same says = absurd is
+    failed_says strict form print (job.Copy units own) verb.Copy (one ∷ other ∷ []) is scan same says = failed_by false other scan own same
+        is.1 says
+    failed_says strict form print (job.Copy units own) verb.Copy (one ∷ other ∷ next ∷ more) is scan same says = absurd is
+    failed_says strict form print (job.Copy units own) verb.Show texts is scan same says = absurd is
+    failed_says strict form print (job.Copy units own) verb.Scan texts is scan same says = absurd is
+    failed_says strict form print (job.Copy units own) verb.Print texts is scan same says = absurd is
+    failed_says strict form print (job.Copy units own) verb.Check texts is scan same says = absurd is
+    failed_says strict form print (job.Print units) of texts is scan same says = absurd (cc)
+    failed_says strict form print (job.Answer units) of texts is scan same says = absurd (cc)
 
   -- ---- pairs
 
   pub pair_says : (one other : List ℕ) (units : List PrintUnit) (scan : ScanText) (verdict : Option PairFault)
-      → IsPrintWord profile one units → IsScan profile other scan → IsVerdict units scan.format verdict → (notes : List ℕ)
+      → IsPrintWord profile one units → IsScan false profile other scan → IsVerdict units scan.format verdict → (notes : List ℕ)
       → ByParts scan (λ pieces. verdict_notes units pieces scan.format verdict) notes → SaysPair profile one other notes
   pair_says one other units scan verdict prints is judged notes says =
-      let (pieces, format, text_is, mean) = is.spells in
+      let (pieces, format, text_is, mean) = spelled profile scan.text.items scan.format is.spells in
       record {
         us = units;
         prints = prints;
@@ -127,9 +131,10 @@ module _ (profile : Profile) where
       pair_says print scan formats.print formats.scan (Some fault) are.prints are.reads own notes says
   copies_say (print ∷ scan ∷ next ∷ more) formats fault are own notes says = absurd are
 
-  module _ (form : OutputForm) (print : Option (List ℕ)) (units : List PrintUnit) (scan : ScanText) (notes : List ℕ) where
+  module _ (strict : Bool) (form : OutputForm) (print : Option (List ℕ)) (units : List PrintUnit) (scan : ScanText)
+      (notes : List ℕ) where
     pub check_says : (width : Option ℕ) (verdict : Option PairFault) (of : Verb) (texts : List (List ℕ))
-        → IsJobBy profile form print (job.Check units scan verdict) of texts
+        → IsJobBy strict profile form print (job.Check units scan verdict) of texts
         → ByParts scan (λ pieces. verdict_notes units pieces scan.format verdict) notes → SaysClean profile width of texts notes
     check_says width verdict verb.Check [] is says = absurd is
     check_says width verdict verb.Check (one ∷ []) is says = absurd is
@@ -141,7 +146,8 @@ module _ (profile : Profile) where
     check_says width verdict verb.Print texts is says = absurd is
     check_says width verdict verb.Copy texts is says = absurd is
 
-    pub copy_says : (fault : PairFault) (of : Verb) (texts : List (List ℕ)) → IsJobBy profile form print (job.Copy units scan) of texts
+    pub copy_says : (fault : PairFault) (of : Verb) (texts : List (List ℕ))
+        → IsJobBy strict profile form print (job.Copy units scan) of texts
         → IsVerdict units scan.format (Some fault) → ByParts scan (λ pieces. verdict_notes units pieces scan.format (Some fault)) notes
         → OfBoth (SaysPair profile) texts notes
     copy_says fault verb.Copy [] is own says = absurd is
@@ -155,22 +161,23 @@ module _ (profile : Profile) where
     copy_says fault verb.Check texts is own says = absurd is
 
   -- what is said of a print format that stands alone, however it is said
-  pub answer_says : (form : OutputForm) (print : Option (List ℕ)) (units : List PrintUnit) (width : Option ℕ)
-      (P : (List ℕ → Type 0) → Type 0) (of : Verb) (texts : List (List ℕ)) → IsJobBy profile form print (job.Answer units) of texts
+  pub answer_says : (strict : Bool) (form : OutputForm) (print : Option (List ℕ)) (units : List PrintUnit) (width : Option ℕ)
+      (P : (List ℕ → Type 0) → Type 0) (of : Verb) (texts : List (List ℕ)) → IsJobBy strict profile form print (job.Answer units) of texts
       → ((word : List ℕ) → IsPrintWord profile word units → P (SaysAlone profile width word)) → P (SaysClean profile width of texts)
-  answer_says form print units width P verb.Check [] is says = absurd is
-  answer_says form print units width P verb.Check (word ∷ []) is says = says word is
-  answer_says form print units width P verb.Check (one ∷ other ∷ more) is says = absurd is
-  answer_says form print units width P verb.Show texts is says = absurd is
-  answer_says form print units width P verb.Scan texts is says = absurd is
-  answer_says form print units width P verb.Print texts is says = absurd is
-  answer_says form print units width P verb.Copy texts is says = absurd is
+  answer_says strict form print units width P verb.Check [] is says = absurd is
+  answer_says strict form print units width P verb.Check (word ∷ []) is says = says word is
+  answer_says strict form print units width P verb.Check (one ∷ other ∷ more) is says = absurd is
+  answer_says strict form print units width P verb.Show texts is says = absurd is
+  answer_says strict form print units width P verb.Scan texts is says = absurd is
+  answer_says strict form print units width P verb.Print texts is says = absurd is
+  answer_says strict form print units width P verb.Copy texts is says = absurd is
 
   -- ---- words that are refused
 
-  module _ (print : Option (List ℕ)) (of : Verb) (texts : List (List ℕ)) (place : Option Place) (rest notes word refused : List ℕ) where
+  module _ (strict : Bool) (print : Option (List ℕ)) (of : Verb) (texts : List (List ℕ)) (place : Option Place)
+      (rest notes word refused : List ℕ) where
     scan_refused : (fault : CommandFault) → word_by print of texts name.Scan ≡ Some word → refused ≡ word
-        → IsNoScanWord profile word fault → SaysRefused refused fault notes → Explains profile print of texts place rest fault notes
+        → IsNoScanWord profile word fault → SaysRefused refused fault notes → Explains strict profile print of texts place rest fault notes
     scan_refused (BadEscape name.Scan at) here same none said =
         subst (λ o. OfWord (λ w s. s ≡ escape_notes w at) o notes) (sym here) (said ∙ ap (λ (w : List ℕ). escape_notes w at) same)
     scan_refused (BadEscape name.Print at) here same (other, bad) said = absurd (cc)
@@ -189,7 +196,7 @@ module _ (profile : Profile) where
     scan_refused (NameTwice number) here same none said = absurd none
 
     print_refused : (fault : CommandFault) → word_by print of texts name.Print ≡ Some word → refused ≡ word
-        → IsNoPrintWord profile word fault → SaysRefused refused fault notes → Explains profile print of texts place rest fault notes
+        → IsNoPrintWord profile word fault → SaysRefused refused fault notes → Explains strict profile print of texts place rest fault notes
     print_refused (BadEscape name.Print at) here same none said =
         subst (λ o. OfWord (λ w s. s ≡ escape_notes w at) o notes) (sym here) (said ∙ ap (λ (w : List ℕ). escape_notes w at) same)
     print_refused (BadEscape name.Scan at) here same (other, bad) said = absurd (cc)
@@ -207,38 +214,41 @@ module _ (profile : Profile) where
     print_refused (NameEmpty number) here same none said = absurd none
     print_refused (NameTwice number) here same none said = absurd none
 
-  module _ (place : Option Place) (rest notes refused : List ℕ) (fault : CommandFault) where
+  module _ (strict : Bool) (place : Option Place) (rest notes refused : List ℕ) (fault : CommandFault) where
     two_say : (print : Option (List ℕ)) (of : Verb) (one other : List ℕ) → word_by print of (one ∷ other ∷ []) name.Print ≡ Some one
         → word_by print of (one ∷ other ∷ []) name.Scan ≡ Some other → AreNoTwo profile one other refused fault
-        → SaysRefused refused fault notes → Explains profile print of (one ∷ other ∷ []) place rest fault notes
+        → SaysRefused refused fault notes → Explains strict profile print of (one ∷ other ∷ []) place rest fault notes
     two_say print of one other first second (inl (is, none)) said =
-        print_refused print of (one ∷ other ∷ []) place rest notes one refused fault first is none said
+        print_refused strict print of (one ∷ other ∷ []) place rest notes one refused fault first is none said
     two_say print of one other first second (inr (units, prints, (is, none))) said =
-        scan_refused print of (one ∷ other ∷ []) place rest notes other refused fault second is (no_scan profile other fault none) said
+        scan_refused strict print of (one ∷ other ∷ []) place rest notes other refused fault second is (no_scan profile other fault none)
+        said
 
-    pub none_says : (of : Verb) (texts : List (List ℕ)) (print : Option (List ℕ)) → IsNoJobBy profile of texts print refused fault
-        → SaysRefused refused fault notes → Explains profile print of texts place rest fault notes
+    pub none_says : (of : Verb) (texts : List (List ℕ)) (print : Option (List ℕ)) → IsNoJobBy strict profile of texts print refused fault
+        → SaysRefused refused fault notes → Explains strict profile print of texts place rest fault notes
     none_says verb.Show [] print is said = absurd is
     none_says verb.Show (word ∷ []) print (is, none) said =
-        scan_refused print verb.Show (word ∷ []) place rest notes word refused fault refl is (no_scan profile word fault none) said
+        scan_refused strict print verb.Show (word ∷ []) place rest notes word refused fault refl is (no_scan profile word fault none) said
     none_says verb.Show (word ∷ next ∷ more) print is said = absurd is
     none_says verb.Scan [] print is said = absurd is
     none_says verb.Scan (word ∷ []) None (is, none) said =
-        scan_refused None verb.Scan (word ∷ []) place rest notes word refused fault refl is (no_scan profile word fault none) said
+        scan_refused strict None verb.Scan (word ∷ []) place rest notes word refused fault refl is (no_scan profile word fault none) said
     none_says verb.Scan (word ∷ []) (Some given) (inl (is, none)) said =
-        print_refused (Some given) verb.Scan (word ∷ []) place rest notes given refused fault refl is none said
+        print_refused strict (Some given) verb.Scan (word ∷ []) place rest notes given refused fault refl is none said
     none_says verb.Scan (word ∷ []) (Some given) (inr (units, prints, inl (is, none))) said =
-        scan_refused (Some given) verb.Scan (word ∷ []) place rest notes word refused fault refl is (no_scan profile word fault none) said
+        scan_refused strict (Some given) verb.Scan (word ∷ []) place rest notes word refused fault refl is (no_scan profile word fault none)
+        said
     none_says verb.Scan (word ∷ []) (Some given) (inr (units, prints, inr (ds, spells, (why, mismatch, is)))) said =
-        subst (λ f. Explains profile (Some given) verb.Scan (word ∷ []) place rest f notes) (sym is)
+        subst (λ f. Explains strict profile (Some given) verb.Scan (word ∷ []) place rest f notes) (sym is)
         (subst (λ f. SaysRefused refused f notes) is said)
     none_says verb.Scan (word ∷ next ∷ more) print is said = absurd is
     none_says verb.Print [] print is said = absurd is
     none_says verb.Print (word ∷ values) print (is, none) said =
-        print_refused print verb.Print (word ∷ values) place rest notes word refused fault refl is (no_print profile word fault none) said
+        print_refused strict print verb.Print (word ∷ values) place rest notes word refused fault refl is (no_print profile word fault none)
+        said
     none_says verb.Check [] print is said = absurd is
     none_says verb.Check (word ∷ []) print (is, none) said =
-        print_refused print verb.Check (word ∷ []) place rest notes word refused fault refl is none said
+        print_refused strict print verb.Check (word ∷ []) place rest notes word refused fault refl is none said
     none_says verb.Check (one ∷ other ∷ []) print is said = two_say print verb.Check one other refl refl is said
     none_says verb.Check (one ∷ other ∷ next ∷ more) print is said = absurd is
     none_says verb.Copy [] print is said = absurd is
@@ -251,7 +261,8 @@ pub more_of_none : (explain : Bool) (order : Order) (place : Option Place) (rest
     → IsNoJob order refused fault → SaysMoreOfRefused explain refused fault notes → SaysMore explain order place rest (Err fault) notes
 more_of_none false order place rest notes refused fault is said = said
 more_of_none true order place rest notes refused fault is (inr none) = inr none
-more_of_none true order place rest notes refused fault is (inl said) = inl (none_says (grammar_of order.profile) place rest notes refused
+more_of_none true order place rest notes refused fault is (inl said) = inl (none_says (grammar_of order.profile) order.strict place rest
+    notes refused
     fault order.verb (map string_bytes order.texts.items) (option_map string_bytes order.print) is said)
 
 -- what is said of a copy of lines whose formats are no pair

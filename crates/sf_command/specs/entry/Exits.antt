@@ -91,9 +91,9 @@ module _ {K E : Type 0} (contents : K → Option (List ℕ)) (write_faults : K �
     EndsScans watched explain options order from from' out out' err err' ended =
         (answer : Answer) × ((mid : K) × ((between : E)
         × ScansLines to_come read_faults contents write_faults said unsaid (file_name order) (is_headed order.file)
-        (grammar_of order.profile) (form_of order.output) order.tag (names_text order) (option_map string_bytes order.print) options
-        explain order.limit
-        (map string_bytes order.ignored.items) (map string_bytes order.texts.items) from from' out mid err between answer
+        order.strict (grammar_of order.profile) (form_of order.output) order.tag (names_text order) (option_map string_bytes order.print)
+        options explain order.limit (map string_bytes order.ignored.items) (map string_bytes order.texts.items) from from' out mid err
+        between answer
         × ((notes : List ℕ)
         × SaysMoreOfLines explain (grammar_of order.profile) (option_map string_bytes order.print)
         (map string_bytes order.ignored.items ++ map string_bytes order.texts.items) answer notes

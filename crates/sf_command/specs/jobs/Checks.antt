@@ -1,11 +1,12 @@
 -- What a check of two formats answers, and what it writes.
-use Rattle.std.specs.Prelude.{◌≡◌, ◌⊎◌, ℕ, List, [], ◌∷◌, ◌++◌, Option, Some, None, Ok, Err, codes}
+use Rattle.std.specs.Prelude.{◌≡◌, ◌⊎◌, ℕ, Bool, true, false, List, [], ◌∷◌, ◌++◌, Option, Some, None, Ok, Err, codes, map}
 use Rattle.std.specs.Io.KnownBytes.{Appends}
 use Rattle.sf_format.specs.declared.directive.Directive.{Directive}
 use Rattle.sf_format.specs.declared.directive.Profile.{Profile}
 use Rattle.sf_format.specs.declared.unit.Unit.{Unit as PrintUnit}
 use Rattle.sf_format.specs.Faults.{Fault, PrintFault}
 use Rattle.sf_format.specs.Grammar.{Spells, SpellsPrint}
+use Rattle.sf_format.specs.Strictness.{strictly}
 use Rattle.sf_forms.specs.declared.makers.printable.PrintMismatch.{PrintMismatch}
 use Rattle.sf_forms.specs.makers.Prints.{IsMismatch}
 use Rattle.sf_pair.specs.declared.fault.PairFault.{PairFault}
@@ -30,6 +31,19 @@ IsPrintWord profile word units = (text : List ℕ) × Unescapes word text × Spe
 
 abbrev pub IsScanWord : Profile → List ℕ → List Directive → Type 0
 IsScanWord profile word ds = (text : List ℕ) × Unescapes word text × Spells profile text ds
+
+-- the directives of a scan's format as they are read: where the words ask for it, each conversion as if it had !
+abbrev pub as_read : Bool → List Directive → List Directive
+as_read false ds = ds
+as_read true ds = map strictly ds
+
+-- the text spells directives that are read as these
+abbrev pub SpellsRead : Bool → Profile → List ℕ → List Directive → Type 0
+SpellsRead strict profile text ds = (own : List Directive) × Spells profile text own × (ds ≡ as_read strict own)
+
+-- the same of a word's bytes
+abbrev pub IsReadWord : Bool → Profile → List ℕ → List Directive → Type 0
+IsReadWord strict profile word ds = (text : List ℕ) × Unescapes word text × SpellsRead strict profile text ds
 
 -- why a word is no print format: its escapes come before its format; want of memory is told of one without a bad escape
 abbrev pub IsNoPrintWord : Profile → List ℕ → CommandFault → Type 0

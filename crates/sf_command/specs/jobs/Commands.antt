@@ -49,7 +49,7 @@ use Rattle.sf_messages.specs.declared.fault.CommandFault.TheVariants.{Pair}
 use Rattle.sf_command.specs.jobs.Answers.{Answer}
 use Rattle.sf_command.specs.jobs.Heads.{IsUnnamed, due_header, header_fault, heading_by, is_headed, names_text, split}
 use Rattle.sf_command.specs.jobs.Checks.{AnswersWord, ChecksWords, IsFaultOf, IsNoPrintWord, IsNoScanWord, IsPrintWord, IsScanWord}
-use Rattle.sf_command.specs.jobs.Checks.{IsUnprintable}
+use Rattle.sf_command.specs.jobs.Checks.{IsReadWord, IsUnprintable, SpellsRead}
 use Rattle.sf_arguments.specs.Escapes.{IsBadEscape, Unescapes}
 use Rattle.sf_arguments.specs.Prints.{Answers, IsUnwritten}
 use Rattle.sf_arguments.specs.declared.word_reading.WordReading.{WordReading}
@@ -101,15 +101,15 @@ abbrev pub Scans : {S : Type 0} → (S → Option (List ℕ)) → (List Directiv
 Scans to_come makes m ds text now failures failures' before after answer =
     (end : ToolEnd) × Loops (makes ds) to_come ds m text now failures failures' before after end × (answer ≡ answer_by end.fault)
 
--- what a scan of the text by the format answers: the format is refused for its first fault, or its directives scan
-abbrev pub ScansBy : {S : Type 0} → (S → Option (List ℕ)) → Profile → (List Directive → Work) → ℕ → List ℕ → List ℕ → Ahead S → ℕ → ℕ
+-- what a scan of the text by the format answers: the format is refused for its first fault, or its directives scan, as they are read
+abbrev pub ScansBy : {S : Type 0} → (S → Option (List ℕ)) → Bool → Profile → (List Directive → Work) → ℕ → List ℕ → List ℕ → Ahead S → ℕ → ℕ
     → Option (List ℕ)
     → Option (List ℕ) → Answer → Type 0
-ScansBy to_come profile makes m format text now failures failures' before after (Err (Format fault)) =
+ScansBy to_come strict profile makes m format text now failures failures' before after (Err (Format fault)) =
     Fault profile format fault.at fault.why
-ScansBy to_come profile makes m format text now failures failures' before after (Err Memory) = after ≡ before
-ScansBy to_come profile makes m format text now failures failures' before after answer =
-    (ds : List Directive) × Spells profile format ds × Scans to_come makes m ds text now failures failures' before after answer
+ScansBy to_come strict profile makes m format text now failures failures' before after (Err Memory) = after ≡ before
+ScansBy to_come strict profile makes m format text now failures failures' before after answer =
+    (ds : List Directive) × SpellsRead strict profile format ds × Scans to_come makes m ds text now failures failures' before after answer
 
 -- ---- shows of a format
 
@@ -157,20 +157,21 @@ pub record IsRefusedText {S K : Type 0} (name : FormatName) (word : List ℕ) (f
 
 -- what is done by a format's text: its faults are told, and where it is refused nothing was read or written
 pub record ScansText {S K : Type 0} (to_come : S → Option (List ℕ)) (read_faults : S → ℕ) (contents : K → Option (List ℕ))
-    (write_faults : K → ℕ) (profile : Profile) (makes : List Directive → Work) (limit : ℕ) (text : List ℕ)
+    (write_faults : K → ℕ) (strict : Bool) (profile : Profile) (makes : List Directive → Work) (limit : ℕ) (text : List ℕ)
     (from from' : Ahead S) (out out' : K) (answer : Answer) : Type 0 where
-  pub scans : (t : List ℕ) → input_of to_come from ≡ Some t → ScansBy to_come profile makes limit text t from' (read_faults from.source)
+  pub scans : (t : List ℕ) → input_of to_come from ≡ Some t → ScansBy to_come strict profile makes limit text t from'
+      (read_faults from.source)
       (read_faults from'.source) (contents out) (contents out') answer
   pub refused : TellsFault (Fault profile text) format_fault answer
   pub unread : IfErr answer (λ fault. Unread fault from from' out out')
   pub failures : Counts (write_faults out) (write_faults out') answer
 
-abbrev pub ScansWord : {S K : Type 0} → (S → Option (List ℕ)) → (S → ℕ) → (K → Option (List ℕ)) → (K → ℕ) → Profile
+abbrev pub ScansWord : {S K : Type 0} → (S → Option (List ℕ)) → (S → ℕ) → (K → Option (List ℕ)) → (K → ℕ) → Bool → Profile
     → (List Directive → Work) → ℕ → List ℕ → Ahead S → Ahead S → K → K → Answer → Type 0
-ScansWord to_come read_faults contents write_faults profile makes limit word from from' out out' answer =
+ScansWord to_come read_faults contents write_faults strict profile makes limit word from from' out out' answer =
     IsRefusedText name.Scan word from from' out out' answer
-    ⊎ ((text : List ℕ) × Unescapes word text × ScansText to_come read_faults contents write_faults profile makes limit text from from' out
-    out' answer)
+    ⊎ ((text : List ℕ) × Unescapes word text
+    × ScansText to_come read_faults contents write_faults strict profile makes limit text from from' out out' answer)
 
 pub record ShowsText {K : Type 0} (contents : K → Option (List ℕ)) (write_faults : K → ℕ) (profile : Profile) (text : List ℕ)
     (out out' : K) (answer : Answer) : Type 0 where
@@ -265,19 +266,19 @@ ScansPrint to_come read_faults m units ds from from' before after answer =
 
 -- the first word is no print format; or it is one, and the second is no scan format; or the records are scanned by the one and
 -- printed by the other
-abbrev pub ScansPrintWords : {S : Type 0} → (S → Option (List ℕ)) → (S → ℕ) → Profile → ℕ → List ℕ → List ℕ → Ahead S → Ahead S
+abbrev pub ScansPrintWords : {S : Type 0} → (S → Option (List ℕ)) → (S → ℕ) → Bool → Profile → ℕ → List ℕ → List ℕ → Ahead S → Ahead S
     → Option (List ℕ) → Option (List ℕ) → Answer → Type 0
-ScansPrintWords to_come read_faults profile m print scan from from' before after answer =
+ScansPrintWords to_come read_faults strict profile m print scan from from' before after answer =
     IsFaultOf (IsNoPrintWord profile print) answer
     ⊎ ((units : List PrintUnit) × IsPrintWord profile print units
-    × (IsFaultOf (IsNoScanWord profile scan) answer ⊎ ((ds : List Directive) × IsScanWord profile scan ds
+    × (IsFaultOf (IsNoScanWord profile scan) answer ⊎ ((ds : List Directive) × IsReadWord strict profile scan ds
     × ScansPrint to_come read_faults m units ds from from' before after answer)))
 
 -- where a word is no format, or the one can't print what the other gives, nothing was read or written
 pub record ScansPrints {S K : Type 0} (to_come : S → Option (List ℕ)) (read_faults : S → ℕ) (contents : K → Option (List ℕ))
-    (write_faults : K → ℕ) (profile : Profile) (limit : ℕ) (print scan : List ℕ)
+    (write_faults : K → ℕ) (strict : Bool) (profile : Profile) (limit : ℕ) (print scan : List ℕ)
     (from from' : Ahead S) (out out' : K) (answer : Answer) : Type 0 where
-  pub scans : ScansPrintWords to_come read_faults profile limit print scan from from' (contents out) (contents out') answer
+  pub scans : ScansPrintWords to_come read_faults strict profile limit print scan from from' (contents out) (contents out') answer
   pub unread : IfErr answer (λ fault. Unread fault from from' out out')
   pub failures : Counts (write_faults out) (write_faults out') answer
 
@@ -306,28 +307,28 @@ ScansByNames to_come read_faults contents write_faults form due names m ds from 
     × ScansUnder to_come read_faults contents write_faults due (heading_by form (Some names) false) m ds from from' out out' answer
 
 -- the word is no scan format, and nothing was read or written; or it is one, and its records are scanned under the names
-abbrev pub ScansNamed : {S K : Type 0} → (S → Option (List ℕ)) → (S → ℕ) → (K → Option (List ℕ)) → (K → ℕ) → Profile → OutputForm
+abbrev pub ScansNamed : {S K : Type 0} → (S → Option (List ℕ)) → (S → ℕ) → (K → Option (List ℕ)) → (K → ℕ) → Bool → Profile → OutputForm
     → Bool → List ℕ → ℕ → List ℕ → Ahead S → Ahead S → K → K → Answer → Type 0
-ScansNamed to_come read_faults contents write_faults profile form due names m word from from' out out' answer =
+ScansNamed to_come read_faults contents write_faults strict profile form due names m word from from' out out' answer =
     IsFaultOf (IsNoScanWord profile word) answer × (from' ≡ from) × (out' ≡ out)
-    ⊎ ((ds : List Directive) × IsScanWord profile word ds
+    ⊎ ((ds : List Directive) × IsReadWord strict profile word ds
     × ScansByNames to_come read_faults contents write_faults form due names m ds from from' out out' answer)
 
 -- records have no names, or those in the text; due: whether a header is
-abbrev pub ScansForm : {S K : Type 0} → (S → Option (List ℕ)) → (S → ℕ) → (K → Option (List ℕ)) → (K → ℕ) → Profile → OutputForm
+abbrev pub ScansForm : {S K : Type 0} → (S → Option (List ℕ)) → (S → ℕ) → (K → Option (List ℕ)) → (K → ℕ) → Bool → Profile → OutputForm
     → Bool → Option (List ℕ) → ℕ → List ℕ → Ahead S → Ahead S → K → K → Answer → Type 0
-ScansForm to_come read_faults contents write_faults profile form due None limit word from from' out out' answer =
-    ScansWord to_come read_faults contents write_faults profile (writing form) limit word from from' out out' answer
-ScansForm to_come read_faults contents write_faults profile form due (Some names) limit word from from' out out' answer =
-    ScansNamed to_come read_faults contents write_faults profile form due names limit word from from' out out' answer
+ScansForm to_come read_faults contents write_faults strict profile form due None limit word from from' out out' answer =
+    ScansWord to_come read_faults contents write_faults strict profile (writing form) limit word from from' out out' answer
+ScansForm to_come read_faults contents write_faults strict profile form due (Some names) limit word from from' out out' answer =
+    ScansNamed to_come read_faults contents write_faults strict profile form due names limit word from from' out out' answer
 
 -- records are written in the form; or by the print format of a word, where there is one
-abbrev pub ScansAs : {S K : Type 0} → (S → Option (List ℕ)) → (S → ℕ) → (K → Option (List ℕ)) → (K → ℕ) → Profile → OutputForm
+abbrev pub ScansAs : {S K : Type 0} → (S → Option (List ℕ)) → (S → ℕ) → (K → Option (List ℕ)) → (K → ℕ) → Bool → Profile → OutputForm
     → Bool → Option (List ℕ) → Option (List ℕ) → ℕ → List ℕ → Ahead S → Ahead S → K → K → Answer → Type 0
-ScansAs to_come read_faults contents write_faults profile form due names None limit word from from' out out' answer =
-    ScansForm to_come read_faults contents write_faults profile form due names limit word from from' out out' answer
-ScansAs to_come read_faults contents write_faults profile form due names (Some print) limit word from from' out out' answer =
-    ScansPrints to_come read_faults contents write_faults profile limit print word from from' out out' answer
+ScansAs to_come read_faults contents write_faults strict profile form due names None limit word from from' out out' answer =
+    ScansForm to_come read_faults contents write_faults strict profile form due names limit word from from' out out' answer
+ScansAs to_come read_faults contents write_faults strict profile form due names (Some print) limit word from from' out out' answer =
+    ScansPrints to_come read_faults contents write_faults strict profile limit print word from from' out out' answer
 
 -- ---- orders
 
@@ -354,7 +355,7 @@ reading_of false = reading.Escaped
 abbrev pub CarriesOutBy : {S K : Type 0} → (S → Option (List ℕ)) → (S → ℕ) → (K → Option (List ℕ)) → (K → ℕ) → Profile → OutputForm
     → WordReading → Order → Verb → List (List ℕ) → Ahead S → Ahead S → K → K → Answer → Type 0
 CarriesOutBy to_come read_faults contents write_faults profile form how order verb.Scan (word ∷ []) from from' out out' answer =
-    ScansAs to_come read_faults contents write_faults profile form (is_headed order.file) (names_text order)
+    ScansAs to_come read_faults contents write_faults order.strict profile form (is_headed order.file) (names_text order)
     (option_map string_bytes order.print) order.limit word from from' out out' answer
 CarriesOutBy to_come read_faults contents write_faults profile form how order verb.Show (word ∷ []) from from' out out' answer =
     (from' ≡ from) × ShowsWord contents write_faults profile word out out' answer

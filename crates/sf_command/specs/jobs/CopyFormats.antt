@@ -1,6 +1,6 @@
 -- The formats of a copy of lines. A line has no newline (C11 7.21.2p2, and fgets of 7.21.7.2 without it), so that an end of the scan
 -- format that reads one stands for that of the line.
-use Rattle.std.specs.Prelude.{◌≡◌, ◌⊎◌, ◌++◌, ◌∷◌, [], ℕ, List, Option, Some, None, codes, unwrap_or}
+use Rattle.std.specs.Prelude.{◌≡◌, ◌⊎◌, ◌++◌, ◌∷◌, [], ℕ, false, List, Option, Some, None, codes, unwrap_or}
 use Rattle.sf_format.specs.declared.directive.Profile.{Profile}
 use Rattle.sf_format.specs.declared.fault.FormatWhy.{FormatWhy}
 use Rattle.sf_format.specs.declared.unit.Unit.{Unit as PrintUnit}
@@ -34,7 +34,7 @@ line_of formats = unwrap_or formats.front formats.scan
 -- two words spell the formats: the first is a print format, the second a scan format
 pub record AreCopyFormats (profile : Profile) (print scan : List ℕ) (formats : CopyFormats) : Type 0 where
   pub prints : IsPrintWord profile print formats.print
-  pub reads : IsScan profile scan formats.scan
+  pub reads : IsScan false profile scan formats.scan
   pub front : HasFront profile formats.scan.text.items formats.front
 
 -- the first word is no print format; or it is one, and the second is no scan format

@@ -1,12 +1,12 @@
 -- What an order of records asks for, with its formats read.
-use Rattle.std.specs.Prelude.{◌≡◌, ◌⊎◌, ℕ, List, [], ◌∷◌, Option, Some, None, Err, map, option_map, string_bytes}
+use Rattle.std.specs.Prelude.{◌≡◌, ◌⊎◌, ℕ, Bool, false, List, [], ◌∷◌, Option, Some, None, Err, map, option_map, string_bytes}
 use Rattle.sf_format.specs.declared.directive.Directive.{Directive}
 use Rattle.sf_format.specs.declared.directive.Profile.{Profile}
 use Rattle.sf_format.specs.declared.fault.FormatFault.{FormatFault}
 use Rattle.sf_format.specs.declared.fault.FormatWhy.{FormatWhy}
 use Rattle.sf_format.specs.declared.unit.Unit.{Unit as PrintUnit}
 use Rattle.sf_format.specs.Faults.{Fault, IsPrintRefused, IsRefused, PrintFault}
-use Rattle.sf_format.specs.Grammar.{Spells, SpellsPrint}
+use Rattle.sf_format.specs.Grammar.{SpellsPrint}
 use Rattle.sf_pair.specs.Walk.{pair_fault}
 use Rattle.sf_records.specs.form.OutputForm.{OutputForm}
 use Rattle.sf_words.specs.declared.order.Order.{Order}
@@ -17,7 +17,7 @@ use Rattle.sf_messages.specs.declared.fault.CommandFault.TheVariants.{Pair}
 use Rattle.sf_messages.specs.declared.fault.FormatName.TheVariants as name
 use Rattle.sf_messages.specs.Faults.{format_fault, print_format_fault}
 use Rattle.sf_arguments.specs.Escapes.{Unescapes}
-use Rattle.sf_command.specs.jobs.Checks.{IsNoPrintWord, IsPrintWord, IsScanWord, IsUnprintable, IsVerdict}
+use Rattle.sf_command.specs.jobs.Checks.{IsNoPrintWord, IsPrintWord, IsReadWord, IsUnprintable, IsVerdict, SpellsRead}
 use Rattle.sf_command.specs.jobs.Commands.{IsBadText, TellsFault, form_of, grammar_of}
 use Rattle.sf_command.specs.jobs.Writings.{IsWriting, Suits}
 use Rattle.sf_command.specs.declared.jobs.job.Job.{Job}
@@ -29,10 +29,10 @@ use Rattle.sf_command.specs.declared.jobs.formats.ScanText.{ScanText}
 abbrev pub IsFaultless : (ℕ → FormatWhy → Type 0) → Type 0
 IsFaultless has = (at : ℕ) (why : FormatWhy) → has at why → ⊥
 
--- the word stands for the bytes, and these spell the format
-pub record IsScan (profile : Profile) (word : List ℕ) (scan : ScanText) : Type 0 where
+-- the word stands for the bytes, and these spell the format, as it is read
+pub record IsScan (strict : Bool) (profile : Profile) (word : List ℕ) (scan : ScanText) : Type 0 where
   pub stands : Unescapes word scan.text.items
-  pub spells : Spells profile scan.text.items scan.format
+  pub spells : SpellsRead strict profile scan.text.items scan.format
   pub faultless : IsFaultless (Fault profile scan.text.items)
 
 pub record IsPrint (profile : Profile) (word : List ℕ) (units : List PrintUnit) : Type 0 where
@@ -75,33 +75,34 @@ AreNoTwo profile one other refused fault =
 
 -- ---- jobs
 
--- the job is what the words of a verb ask for; print: the word of a scan's print format, if it has one
-abbrev pub IsJobBy : Profile → OutputForm → Option (List ℕ) → Job → Verb → List (List ℕ) → Type 0
-IsJobBy profile form print (job.Show scan) verb.Show (word ∷ []) = IsScan profile word scan
-IsJobBy profile form print (job.Scan scan writing) verb.Scan (word ∷ []) =
-    IsScan profile word scan × IsWriting profile form print writing × Suits writing scan.format
-IsJobBy profile form print (job.Print units) verb.Print (word ∷ values) = IsPrint profile word units
-IsJobBy profile form print (job.Answer units) verb.Check (word ∷ []) = IsPrintWord profile word units
-IsJobBy profile form print (job.Check units scan verdict) verb.Check (one ∷ other ∷ []) =
-    IsPrintWord profile one units × IsScan profile other scan × IsVerdict units scan.format verdict
-IsJobBy profile form print (job.Copy units scan) verb.Copy (one ∷ other ∷ []) =
-    IsPrintWord profile one units × IsScan profile other scan
-IsJobBy profile form print _ _ _ = ⊥
+-- the job is what the words of a verb ask for; print: the word of a scan's print format, if it has one; strict: whether each conversion of
+-- a scan is read as if it had !
+abbrev pub IsJobBy : Bool → Profile → OutputForm → Option (List ℕ) → Job → Verb → List (List ℕ) → Type 0
+IsJobBy strict profile form print (job.Show scan) verb.Show (word ∷ []) = IsScan false profile word scan
+IsJobBy strict profile form print (job.Scan scan writing) verb.Scan (word ∷ []) =
+    IsScan strict profile word scan × IsWriting profile form print writing × Suits writing scan.format
+IsJobBy strict profile form print (job.Print units) verb.Print (word ∷ values) = IsPrint profile word units
+IsJobBy strict profile form print (job.Answer units) verb.Check (word ∷ []) = IsPrintWord profile word units
+IsJobBy strict profile form print (job.Check units scan verdict) verb.Check (one ∷ other ∷ []) =
+    IsPrintWord profile one units × IsScan false profile other scan × IsVerdict units scan.format verdict
+IsJobBy strict profile form print (job.Copy units scan) verb.Copy (one ∷ other ∷ []) =
+    IsPrintWord profile one units × IsScan false profile other scan
+IsJobBy strict profile form print _ _ _ = ⊥
 
 -- The words ask for nothing that can be done, for this fault; refused: the word that is at fault, if it is one. The print format is
 -- judged first, then the scan format, and then both.
-abbrev pub IsNoJobBy : Profile → Verb → List (List ℕ) → Option (List ℕ) → List ℕ → CommandFault → Type 0
-IsNoJobBy profile verb.Show (word ∷ []) print refused fault = (refused ≡ word) × IsNoScan profile word fault
-IsNoJobBy profile verb.Scan (word ∷ []) None refused fault = (refused ≡ word) × IsNoScan profile word fault
-IsNoJobBy profile verb.Scan (word ∷ []) (Some print) refused fault =
+abbrev pub IsNoJobBy : Bool → Profile → Verb → List (List ℕ) → Option (List ℕ) → List ℕ → CommandFault → Type 0
+IsNoJobBy strict profile verb.Show (word ∷ []) print refused fault = (refused ≡ word) × IsNoScan profile word fault
+IsNoJobBy strict profile verb.Scan (word ∷ []) None refused fault = (refused ≡ word) × IsNoScan profile word fault
+IsNoJobBy strict profile verb.Scan (word ∷ []) (Some print) refused fault =
     (refused ≡ print) × IsNoPrintWord profile print fault
     ⊎ ((units : List PrintUnit) × IsPrintWord profile print units × ((refused ≡ word) × IsNoScan profile word fault
-    ⊎ ((ds : List Directive) × IsScanWord profile word ds × IsUnprintable units ds fault)))
-IsNoJobBy profile verb.Print (word ∷ values) print refused fault = (refused ≡ word) × IsNoPrint profile word fault
-IsNoJobBy profile verb.Check (word ∷ []) print refused fault = (refused ≡ word) × IsNoPrintWord profile word fault
-IsNoJobBy profile verb.Check (one ∷ other ∷ []) print refused fault = AreNoTwo profile one other refused fault
-IsNoJobBy profile verb.Copy (one ∷ other ∷ []) print refused fault = AreNoTwo profile one other refused fault
-IsNoJobBy profile _ _ print refused fault = ⊥
+    ⊎ ((ds : List Directive) × IsReadWord strict profile word ds × IsUnprintable units ds fault)))
+IsNoJobBy strict profile verb.Print (word ∷ values) print refused fault = (refused ≡ word) × IsNoPrint profile word fault
+IsNoJobBy strict profile verb.Check (word ∷ []) print refused fault = (refused ≡ word) × IsNoPrintWord profile word fault
+IsNoJobBy strict profile verb.Check (one ∷ other ∷ []) print refused fault = AreNoTwo profile one other refused fault
+IsNoJobBy strict profile verb.Copy (one ∷ other ∷ []) print refused fault = AreNoTwo profile one other refused fault
+IsNoJobBy strict profile _ _ print refused fault = ⊥
 
 -- the fault that a job ends with is its own: that of its pair
 abbrev pub IsOwnFault : Job → CommandFault → Type 0
@@ -119,9 +120,9 @@ scan_of _ = None
 -- ---- orders
 
 abbrev pub IsJob : Order → Job → Type 0
-IsJob order job = IsJobBy (grammar_of order.profile) (form_of order.output) (option_map string_bytes order.print) job order.verb
-    (map string_bytes order.texts.items)
+IsJob order job = IsJobBy order.strict (grammar_of order.profile) (form_of order.output) (option_map string_bytes order.print) job
+    order.verb (map string_bytes order.texts.items)
 
 abbrev pub IsNoJob : Order → List ℕ → CommandFault → Type 0
-IsNoJob order refused fault = IsNoJobBy (grammar_of order.profile) order.verb (map string_bytes order.texts.items)
+IsNoJob order refused fault = IsNoJobBy order.strict (grammar_of order.profile) order.verb (map string_bytes order.texts.items)
     (option_map string_bytes order.print) refused fault

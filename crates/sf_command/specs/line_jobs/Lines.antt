@@ -170,17 +170,17 @@ module _ {S K E : Type 0} (to_come : S → Option (List ℕ)) (read_faults : S �
       from from' out out' err err' answer
 
 -- The words are refused, with nothing read, written or said; or they are formats, and the lines are scanned by them. file: the name of
--- the file that is read, if it has one; due: whether a header is; explain: whether
--- more is said of a line that fails than its line.
+-- the file that is read, if it has one; due: whether a header is; strict: whether each conversion is read as if it had !; explain:
+-- whether more is said of a line that fails than its line.
 abbrev pub ScansLines : {S K E : Type 0} → (S → Option (List ℕ)) → (S → ℕ) → (K → Option (List ℕ)) → (K → ℕ) → (E → Option (List ℕ))
-    → (E → ℕ) → Option (List ℕ) → Bool → Profile → OutputForm → Bool → Option (List ℕ) → Option (List ℕ) → LineOptions → Bool → ℕ → List
-    (List ℕ) → List (List ℕ)
-    → Ahead S → Ahead S → K → K → E → E → Answer → Type 0
-ScansLines to_come read_faults contents write_faults said unsaid file due profile form tagged names print options explain limit passed words
+    → (E → ℕ) → Option (List ℕ) → Bool → Bool → Profile → OutputForm → Bool → Option (List ℕ) → Option (List ℕ) → LineOptions → Bool → ℕ
+    → List (List ℕ) → List (List ℕ) → Ahead S → Ahead S → K → K → E → E → Answer → Type 0
+ScansLines to_come read_faults contents write_faults said unsaid file due strict profile form tagged names print options explain limit
+    passed words
     from from' out out' err err' answer =
-    IsFaultOf (AreRefused profile form print passed words) answer × (from' ≡ from) × (out' ≡ out) × (err' ≡ err)
+    IsFaultOf (AreRefused strict profile form print passed words) answer × (from' ≡ from) × (out' ≡ out) × (err' ≡ err)
     ⊎ ((writing : Writing) × (ignored formats : List (List Directive)) × (telling : ℕ → List ℕ → LineFault → List ℕ)
-    × IsWriting profile form print writing × AreScanWords profile passed ignored × AreScanWords profile words formats
+    × IsWriting profile form print writing × AreScanWords strict profile passed ignored × AreScanWords strict profile words formats
     × SuitsAll writing formats × IsTelling file profile options.quiet explain words formats telling
     × RunsWriting to_come read_faults contents write_faults said unsaid tagged due names writing options limit ignored formats telling from
     from' out out' err err' answer)

@@ -31,7 +31,7 @@ use Rattle.sf_words.specs.declared.order.Order.{Order}
 use Rattle.sf_words.specs.declared.order.Verb.{Verb}
 use Rattle.sf_words.specs.declared.order.Verb.TheVariants as verb
 use Rattle.sf_command.specs.jobs.Answers.{Answer}
-use Rattle.sf_command.specs.jobs.Checks.{IsPrintWord, IsVerdict}
+use Rattle.sf_command.specs.jobs.Checks.{IsPrintWord, IsVerdict, as_read}
 use Rattle.sf_command.specs.jobs.Commands.{grammar_of}
 use Rattle.sf_arguments.specs.declared.argument_fault.ArgumentFault.{ArgumentFault}
 use Rattle.sf_arguments.specs.declared.argument_fault.ArgumentFault.TheVariants as argument
@@ -104,25 +104,29 @@ IsMoreOfLine profile false text ds line fault notes = notes ≡ []
 IsMoreOfLine profile true text ds line fault notes =
     (pieces : List Piece) → IsFormat (Scan profile) pieces → text ≡ text_of pieces → notes ≡ more_of_line pieces ds line fault
 
--- The bytes are those of these parts of a format, which stand for these directives: the notes of a record that is no match, by
--- the place where the run stopped, if that is known, and the bytes that the run left.
-pub record TellsFailed (profile : Profile) (number : ℕ) (outcome : Outcome) (place : Option Place) (rest text notes : List ℕ) : Type 0 where
+-- The bytes are those of these parts of a format, which stand for directives that are read as these: the notes of a record that is no
+-- match, by the place where the run stopped, if that is known, and the bytes that the run left.
+pub record TellsFailed (strict : Bool) (profile : Profile) (number : ℕ) (outcome : Outcome) (place : Option Place)
+    (rest text notes : List ℕ) : Type 0 where
   pub pieces : List Piece
+  pub own : List Directive
   pub ds : List Directive
   pub format : IsFormat (Scan profile) pieces
   pub text_is : text ≡ text_of pieces
-  pub mean : MeanAll (Means profile) 1 pieces ds
+  pub mean : MeanAll (Means profile) 1 pieces own
+  pub read : ds ≡ as_read strict own
   pub notes_are : notes ≡ failed_notes ds (told_at pieces ds outcome.at) number outcome place rest
 
 -- nothing is said where the bytes are no format
-abbrev pub SaysFailedText : Profile → ℕ → Outcome → Option Place → List ℕ → List ℕ → List ℕ → Type 0
-SaysFailedText profile number outcome place rest text notes =
-    TellsFailed profile number outcome place rest text notes ⊎ ((at : ℕ) × (why : FormatWhy) × Fault profile text at why × (notes ≡ []))
+abbrev pub SaysFailedText : Bool → Profile → ℕ → Outcome → Option Place → List ℕ → List ℕ → List ℕ → Type 0
+SaysFailedText strict profile number outcome place rest text notes =
+    TellsFailed strict profile number outcome place rest text notes
+    ⊎ ((at : ℕ) × (why : FormatWhy) × Fault profile text at why × (notes ≡ []))
 
 -- the notes of a record that is no match, by the word of its format
-abbrev pub SaysFailed : Profile → ℕ → Outcome → Option Place → List ℕ → List ℕ → List ℕ → Type 0
-SaysFailed profile number outcome place rest word notes =
-    ((text : List ℕ) × Unescapes word text × SaysFailedText profile number outcome place rest text notes)
+abbrev pub SaysFailed : Bool → Profile → ℕ → Outcome → Option Place → List ℕ → List ℕ → List ℕ → Type 0
+SaysFailed strict profile number outcome place rest word notes =
+    ((text : List ℕ) × Unescapes word text × SaysFailedText strict profile number outcome place rest text notes)
     ⊎ ((at : ℕ) × IsBadEscape word at × (notes ≡ []))
 
 -- a word that is refused
@@ -179,23 +183,29 @@ OfBoth says _ notes = notes ≡ []
 
 -- ---- orders
 
-abbrev pub Explains : Profile → Option (List ℕ) → Verb → List (List ℕ) → Option Place → List ℕ → CommandFault → List ℕ → Type 0
-Explains profile print verb texts place rest (BadEscape name at) notes =
+-- a scan is strict where the words ask for it, and nothing else
+abbrev pub is_strict_of : Verb → Bool → Bool
+is_strict_of verb.Scan strict = strict
+is_strict_of verb strict = false
+
+abbrev pub Explains : Bool → Profile → Option (List ℕ) → Verb → List (List ℕ) → Option Place → List ℕ → CommandFault → List ℕ → Type 0
+Explains strict profile print verb texts place rest (BadEscape name at) notes =
     OfWord (λ word said. said ≡ escape_notes word at) (word_by print verb texts name) notes
-Explains profile print verb texts place rest (Format fault) notes = OfWord (SaysFormat fault) (word_by print verb texts name.Scan) notes
-Explains profile print verb texts place rest (PrintFormat fault) notes =
+Explains strict profile print verb texts place rest (Format fault) notes = OfWord (SaysFormat fault) (word_by print verb texts name.Scan)
+    notes
+Explains strict profile print verb texts place rest (PrintFormat fault) notes =
     OfWord (SaysFormat fault) (word_by print verb texts name.Print) notes
-Explains profile print verb texts place rest (Record (Failed number outcome)) notes =
-    OfWord (SaysFailed profile number outcome place rest) (word_by print verb texts name.Scan) notes
-Explains profile print verb texts place rest (Record (Stalled number)) notes = notes ≡ stalled_notes place
-Explains profile print verb texts place rest (Record (Unfit number)) notes = notes ≡ input_notes place
-Explains profile print verb texts place rest (Record (Read number)) notes = notes ≡ input_notes place
-Explains profile print verb texts place rest (Values fault) notes =
+Explains strict profile print verb texts place rest (Record (Failed number outcome)) notes =
+    OfWord (SaysFailed (is_strict_of verb strict) profile number outcome place rest) (word_by print verb texts name.Scan) notes
+Explains strict profile print verb texts place rest (Record (Stalled number)) notes = notes ≡ stalled_notes place
+Explains strict profile print verb texts place rest (Record (Unfit number)) notes = notes ≡ input_notes place
+Explains strict profile print verb texts place rest (Record (Read number)) notes = notes ≡ input_notes place
+Explains strict profile print verb texts place rest (Values fault) notes =
     OfWord (λ word said. said ≡ value_notes word fault) (value_word texts fault) notes
-Explains profile print verb texts place rest (Pair fault) notes = OfBoth (SaysPair profile) texts notes
-Explains profile print verb texts place rest (Unprintable mismatch) notes = notes ≡ mismatch_notes mismatch
-Explains profile print verb texts place rest (NameCount expected got) notes = notes ≡ name_count_notes expected got
-Explains profile print verb texts place rest _ notes = notes ≡ []
+Explains strict profile print verb texts place rest (Pair fault) notes = OfBoth (SaysPair profile) texts notes
+Explains strict profile print verb texts place rest (Unprintable mismatch) notes = notes ≡ mismatch_notes mismatch
+Explains strict profile print verb texts place rest (NameCount expected got) notes = notes ≡ name_count_notes expected got
+Explains strict profile print verb texts place rest _ notes = notes ≡ []
 
 -- where there is an exit status: of a check of two formats why they are no pair, and of one why none reads it back
 abbrev pub SaysClean : Profile → Option ℕ → Verb → List (List ℕ) → List ℕ → Type 0
@@ -203,13 +213,14 @@ SaysClean profile width verb.Check (print ∷ []) notes = SaysAlone profile widt
 SaysClean profile width verb.Check texts notes = OfBoth (SaysPair profile) texts notes
 SaysClean profile width _ texts notes = notes ≡ []
 
-abbrev pub SaysOf : Profile → Option ℕ → Option (List ℕ) → Verb → List (List ℕ) → Option Place → List ℕ → Answer → List ℕ → Type 0
-SaysOf profile width print verb texts place rest (Ok status) notes = SaysClean profile width verb texts notes
-SaysOf profile width print verb texts place rest (Err fault) notes = Explains profile print verb texts place rest fault notes
+abbrev pub SaysOf : Bool → Profile → Option ℕ → Option (List ℕ) → Verb → List (List ℕ) → Option Place → List ℕ → Answer → List ℕ → Type 0
+SaysOf strict profile width print verb texts place rest (Ok status) notes = SaysClean profile width verb texts notes
+SaysOf strict profile width print verb texts place rest (Err fault) notes = Explains strict profile print verb texts place rest fault notes
 
 -- nothing more is said where the words don't ask for it, or where memory for it was refused
 abbrev pub SaysMore : Bool → Order → Option Place → List ℕ → Answer → List ℕ → Type 0
 SaysMore true order place rest answer notes =
-    SaysOf (grammar_of order.profile) order.width (option_map string_bytes order.print) order.verb (map string_bytes order.texts.items)
+    SaysOf order.strict (grammar_of order.profile) order.width (option_map string_bytes order.print) order.verb
+    (map string_bytes order.texts.items)
     place rest answer notes ⊎ (notes ≡ [])
 SaysMore false order place rest answer notes = notes ≡ []

@@ -1,11 +1,12 @@
 //! What an order asks for: by its formats, on an input and an output.
-ghost use Rattle.std.specs.Prelude.{◌≡◌, ◌≤◌, ◌∷◌, ℕ, List, option_map, map, string_bytes, IfErr, Some};
+ghost use Rattle.std.specs.Prelude.{◌≡◌, ◌≤◌, ◌∷◌, ℕ, Bool, List, option_map, map, string_bytes, IfErr, Some};
 ghost use Rattle.sf_format.specs.Grammar.{Spells, SpellsPrint};
 ghost use Rattle.sf_format.specs.declared.directive.Profile.{Profile};
 ghost use Rattle.sf_read.specs.source.Ahead.{input_of};
 ghost use Rattle.sf_records.specs.Forms.{writing};
 ghost use Rattle.sf_records.specs.form.OutputForm.{OutputForm};
 ghost use Rattle.sf_words.specs.Orders.{HasTexts};
+ghost use Rattle.sf_command.specs.jobs.Checks.{SpellsRead};
 ghost use Rattle.sf_command.specs.jobs.Commands.{CarriesOut, CarriesOutBy, Counts, IsUnwrittenBy, PrintsBy, ScansAs};
 ghost use Rattle.sf_command.specs.jobs.Commands.{ScansBy};
 ghost use Rattle.sf_command.specs.jobs.Commands.{ShowsBy, Unread};
@@ -41,9 +42,9 @@ fn scan_by<S: Source, K: Sink, const N: usize>(
     out: &mut K,
 ) -> Result<u8, CommandFault>
     requires { limit ≤ 2147483647 }
-    ensures scans { (profile : Profile) (text t : List ℕ) → Spells profile text format.now
+    ensures scans { (strict : Bool) (profile : Profile) (text t : List ℕ) → SpellsRead strict profile text format.now
         → input_of S.to_come from.old ≡ Some t
-        → ScansBy S.to_come profile (writing form) limit text t from.new (S.failures from.old.source)
+        → ScansBy S.to_come strict profile (writing form) limit text t from.new (S.failures from.old.source)
         (S.failures from.new.source) (K.contents out.old) (K.contents out.new) result }
     ensures unread { IfErr result (λ fault. Unread fault from.old from.new out.old out.new) }
     ensures failures { Counts (K.failures out.old) (K.failures out.new) result }
@@ -99,8 +100,9 @@ fn scan_written<S: Source, K: Sink, const N: usize>(
     requires limit { order.now.limit ≤ 2147483647 }
     requires suits { Suits writing.now scan.now.format }
     ensures { (profile : Profile) (form : OutputForm) (word : List ℕ)
-        → IsWriting profile form (option_map string_bytes order.now.print) writing.now → IsScan profile word scan.now
-        → ScansAs S.to_come S.failures K.contents K.failures profile form (is_headed order.now.file)
+        → IsWriting profile form (option_map string_bytes order.now.print) writing.now
+        → IsScan order.now.strict profile word scan.now
+        → ScansAs S.to_come S.failures K.contents K.failures order.now.strict profile form (is_headed order.now.file)
         (names_text order.now) (option_map string_bytes order.now.print) order.now.limit word from.old from.new
         out.old out.new result }
 {
@@ -171,8 +173,8 @@ fn run_by<S: Source, K: Sink, const N: usize>(
     out: &mut K,
 ) -> Result<u8, CommandFault>
     requires limit { order.now.limit ≤ 2147483647 }
-    requires job { IsJobBy profile form (option_map string_bytes order.now.print) job.now order.now.verb
-        (map string_bytes order.now.texts.items) }
+    requires job { IsJobBy order.now.strict profile form (option_map string_bytes order.now.print) job.now
+        order.now.verb (map string_bytes order.now.texts.items) }
     ensures does { CarriesOutBy S.to_come S.failures K.contents K.failures profile form how order.now order.now.verb
         (map string_bytes order.now.texts.items) from.old from.new out.old out.new result }
     ensures own { IfErr result (IsOwnFault job.now) }

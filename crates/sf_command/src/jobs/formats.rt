@@ -1,6 +1,6 @@
 //! Formats as words: their escapes, then what they spell.
-ghost use Rattle.std.specs.Prelude.{IfOk, IfErr};
-ghost use Rattle.sf_command.specs.jobs.Checks.{IsNoPrintWord, IsNoScanWord, IsPrintWord, IsScanWord};
+ghost use Rattle.std.specs.Prelude.{◌≡◌, IfOk, IfErr};
+ghost use Rattle.sf_command.specs.jobs.Checks.{IsNoPrintWord, IsNoScanWord, IsPrintWord, IsReadWord, as_read};
 ghost use Rattle.sf_command.specs.jobs.Commands.{IsBadText};
 ghost use Rattle.sf_command.specs.jobs.Jobs.{IsNoPrint, IsNoScan, IsPrint, IsScan};
 ghost use Rattle.sf_arguments.specs.Escapes.{Unescapes};
@@ -31,27 +31,38 @@ pub(crate) fn resolved(alloc: Global, name: FormatName, word: &str) -> Result<Ve
     }
 }
 
-/// A scan format, and the bytes that spell it.
+/// A scan format as it is read: with `--strict`, each conversion as if it had `!`.
+fn as_read(strict: bool, format: ScanFormat) -> ScanFormat
+    ensures { result ≡ as_read strict format }
+{
+    if strict { format.strict() } else { format }
+}
+
+/// A scan format as it is read, and the bytes that spell it.
 #[derive(Drop)]
 pub struct ScanText {
     /// The bytes.
     pub text: Vec<u8>,
-    /// What they spell.
+    /// What they spell, as it is read.
     pub format: ScanFormat,
 }
 
-/// The scan format that a word spells, and its bytes.
+/// The scan format that a word spells, as it is read, and its bytes.
 pub(crate) fn read_scan_text(
     alloc: Global,
+    strict: bool,
     profile: Profile,
     word: &str,
 ) -> Result<ScanText, CommandFault>
-    ensures ok { IfOk result (IsScan profile word.now) }
+    ensures ok { IfOk result (IsScan strict profile word.now) }
     ensures err { IfErr result (IsNoScan profile word.now) }
 {
     let text = resolved(alloc, FormatName::Scan, word)?;
     match ScanFormat::parse(alloc, profile, &text) {
-        Ok(format) => Ok(ScanText { text, format }),
+        Ok(format) => Ok(ScanText {
+            text,
+            format: as_read(strict, format),
+        }),
         Err(fault) => Err(format_fault(fault)),
     }
 }
@@ -84,14 +95,19 @@ pub fn read_print(alloc: Global, profile: Profile, word: &str) -> Result<PrintFo
     }
 }
 
-/// The scan format that a word spells.
-pub fn read_scan(alloc: Global, profile: Profile, word: &str) -> Result<ScanFormat, CommandFault>
-    ensures ok { IfOk result (λ format. IsScanWord profile word.now format) }
+/// The scan format that a word spells, as it is read.
+pub fn read_scan(
+    alloc: Global,
+    strict: bool,
+    profile: Profile,
+    word: &str,
+) -> Result<ScanFormat, CommandFault>
+    ensures ok { IfOk result (λ format. IsReadWord strict profile word.now format) }
     ensures err { IfErr result (IsNoScanWord profile word.now) }
 {
     let text = resolved(alloc, FormatName::Scan, word)?;
     match ScanFormat::parse(alloc, profile, &text) {
-        Ok(format) => Ok(format),
+        Ok(format) => Ok(as_read(strict, format)),
         Err(fault) => Err(format_fault(fault)),
     }
 }

@@ -1,6 +1,6 @@
 //! What an order of records asks for, with its formats read.
-ghost use Rattle.std.specs.Prelude.{◌≡◌, ◌≤◌, ◌∷◌, drop, [], ℕ, List, Option, Some, None, IfOk, IfErr, length, map};
-ghost use Rattle.std.specs.Prelude.{option_map, string_bytes};
+ghost use Rattle.std.specs.Prelude.{◌≡◌, ◌≤◌, ◌∷◌, drop, [], false, ℕ, Bool, List, Option, Some, None, IfOk, IfErr};
+ghost use Rattle.std.specs.Prelude.{length, map, option_map, string_bytes};
 ghost use Rattle.sf_words.specs.Orders.{HasTexts};
 ghost use Rattle.sf_words.specs.declared.order.Verb.TheVariants as verb;
 ghost use Rattle.sf_records.specs.form.OutputForm.{OutputForm};
@@ -70,12 +70,12 @@ impl Job {
 
 /// The job of `sf show`.
 fn show_job<'o>(alloc: Global, profile: Profile, word: &'o str) -> Result<Job, RefusedWord<'o>>
-    ensures ok { (form : OutputForm) (print : Option (List ℕ))
-        → IfOk result (λ job. IsJobBy profile form print job verb.Show (word.entry.now ∷ [])) }
-    ensures err { (print : Option (List ℕ)) → IfErr result (λ refused.
-        IsNoJobBy profile verb.Show (word.entry.now ∷ []) print refused.word.now refused.fault) }
+    ensures ok { (strict : Bool) (form : OutputForm) (print : Option (List ℕ))
+        → IfOk result (λ job. IsJobBy strict profile form print job verb.Show (word.entry.now ∷ [])) }
+    ensures err { (strict : Bool) (print : Option (List ℕ)) → IfErr result (λ refused.
+        IsNoJobBy strict profile verb.Show (word.entry.now ∷ []) print refused.word.now refused.fault) }
 {
-    match read_scan_text(alloc, profile, word) {
+    match read_scan_text(alloc, false, profile, word) {
         Ok(scan) => Ok(Job::Show { scan }),
         Err(fault) => Err(RefusedWord { word, fault }),
     }
@@ -84,15 +84,16 @@ fn show_job<'o>(alloc: Global, profile: Profile, word: &'o str) -> Result<Job, R
 /// The job of a scan whose records are written in a form.
 fn scan_job<'o>(
     alloc: Global,
+    strict: bool,
     profile: Profile,
     form: OutputForm,
     word: &'o str,
 ) -> Result<Job, RefusedWord<'o>>
-    ensures ok { IfOk result (λ job. IsJobBy profile form None job verb.Scan (word.entry.now ∷ [])) }
+    ensures ok { IfOk result (λ job. IsJobBy strict profile form None job verb.Scan (word.entry.now ∷ [])) }
     ensures err { IfErr result (λ refused.
-        IsNoJobBy profile verb.Scan (word.entry.now ∷ []) None refused.word.now refused.fault) }
+        IsNoJobBy strict profile verb.Scan (word.entry.now ∷ []) None refused.word.now refused.fault) }
 {
-    match read_scan_text(alloc, profile, word) {
+    match read_scan_text(alloc, strict, profile, word) {
         Ok(scan) => Ok(Job::Scan {
             scan,
             writing: Writing::Form(form),
@@ -105,15 +106,16 @@ fn scan_job<'o>(
 fn printed_job<'o>(
     alloc: Global,
     print: PrintFormat,
+    strict: bool,
     profile: Profile,
     word: &'o str,
 ) -> Result<Job, RefusedWord<'o>>
     ensures ok { (form : OutputForm) (given : List ℕ) → IsPrintWord profile given print
-        → IfOk result (λ job. IsJobBy profile form (Some given) job verb.Scan (word.entry.now ∷ [])) }
+        → IfOk result (λ job. IsJobBy strict profile form (Some given) job verb.Scan (word.entry.now ∷ [])) }
     ensures err { (given : List ℕ) → IsPrintWord profile given print → IfErr result (λ refused.
-        IsNoJobBy profile verb.Scan (word.entry.now ∷ []) (Some given) refused.word.now refused.fault) }
+        IsNoJobBy strict profile verb.Scan (word.entry.now ∷ []) (Some given) refused.word.now refused.fault) }
 {
-    let scan = match read_scan_text(alloc, profile, word) {
+    let scan = match read_scan_text(alloc, strict, profile, word) {
         Ok(scan) => scan,
         Err(fault) => return Err(RefusedWord { word, fault }),
     };
@@ -132,31 +134,32 @@ fn printed_job<'o>(
 /// The job of `sf scan`. The print format is judged first, where there is one.
 fn scan_job_of<'o>(
     alloc: Global,
+    strict: bool,
     profile: Profile,
     form: OutputForm,
     print: Option<&'o str>,
     word: &'o str,
 ) -> Result<Job, RefusedWord<'o>>
-    ensures ok { IfOk result (λ job. IsJobBy profile form (option_map (λ given. given.now) print.entry) job verb.Scan
-        (word.entry.now ∷ [])) }
-    ensures err { IfErr result (λ refused. IsNoJobBy profile verb.Scan (word.entry.now ∷ [])
+    ensures ok { IfOk result (λ job. IsJobBy strict profile form (option_map (λ given. given.now) print.entry) job
+        verb.Scan (word.entry.now ∷ [])) }
+    ensures err { IfErr result (λ refused. IsNoJobBy strict profile verb.Scan (word.entry.now ∷ [])
         (option_map (λ given. given.now) print.entry) refused.word.now refused.fault) }
 {
     let Some(given) = print else {
-        return scan_job(alloc, profile, form, word);
+        return scan_job(alloc, strict, profile, form, word);
     };
     match read_print(alloc, profile, given) {
-        Ok(print) => printed_job(alloc, print, profile, word),
+        Ok(print) => printed_job(alloc, print, strict, profile, word),
         Err(fault) => Err(RefusedWord { word: given, fault }),
     }
 }
 
 /// The job of `sf print`.
 fn print_job<'o>(alloc: Global, profile: Profile, word: &'o str) -> Result<Job, RefusedWord<'o>>
-    ensures ok { (form : OutputForm) (print : Option (List ℕ)) (values : List (List ℕ))
-        → IfOk result (λ job. IsJobBy profile form print job verb.Print (word.entry.now ∷ values)) }
-    ensures err { (print : Option (List ℕ)) (values : List (List ℕ)) → IfErr result (λ refused.
-        IsNoJobBy profile verb.Print (word.entry.now ∷ values) print refused.word.now refused.fault) }
+    ensures ok { (strict : Bool) (form : OutputForm) (print : Option (List ℕ)) (values : List (List ℕ))
+        → IfOk result (λ job. IsJobBy strict profile form print job verb.Print (word.entry.now ∷ values)) }
+    ensures err { (strict : Bool) (print : Option (List ℕ)) (values : List (List ℕ)) → IfErr result (λ refused.
+        IsNoJobBy strict profile verb.Print (word.entry.now ∷ values) print refused.word.now refused.fault) }
 {
     match read_print_text(alloc, profile, word) {
         Ok(print) => Ok(Job::Print { print }),
@@ -166,10 +169,10 @@ fn print_job<'o>(alloc: Global, profile: Profile, word: &'o str) -> Result<Job, 
 
 /// The job of `sf check` without a scan format.
 fn answer_job<'o>(alloc: Global, profile: Profile, word: &'o str) -> Result<Job, RefusedWord<'o>>
-    ensures ok { (form : OutputForm) (print : Option (List ℕ))
-        → IfOk result (λ job. IsJobBy profile form print job verb.Check (word.entry.now ∷ [])) }
-    ensures err { (print : Option (List ℕ)) → IfErr result (λ refused.
-        IsNoJobBy profile verb.Check (word.entry.now ∷ []) print refused.word.now refused.fault) }
+    ensures ok { (strict : Bool) (form : OutputForm) (print : Option (List ℕ))
+        → IfOk result (λ job. IsJobBy strict profile form print job verb.Check (word.entry.now ∷ [])) }
+    ensures err { (strict : Bool) (print : Option (List ℕ)) → IfErr result (λ refused.
+        IsNoJobBy strict profile verb.Check (word.entry.now ∷ []) print refused.word.now refused.fault) }
 {
     match read_print(alloc, profile, word) {
         Ok(print) => Ok(Job::Answer { print }),
@@ -192,7 +195,7 @@ pub(crate) fn two_of<'o>(
     other: &'o str,
 ) -> Result<Two, RefusedWord<'o>>
     ensures ok { IfOk result (λ two. IsPrintWord profile one.entry.now two.print
-        × IsScan profile other.entry.now two.scan) }
+        × IsScan false profile other.entry.now two.scan) }
     ensures err { IfErr result (λ refused. AreNoTwo profile one.entry.now other.entry.now refused.word.now
         refused.fault) }
 {
@@ -200,7 +203,7 @@ pub(crate) fn two_of<'o>(
         Ok(print) => print,
         Err(fault) => return Err(RefusedWord { word: one, fault }),
     };
-    match read_scan_text(alloc, profile, other) {
+    match read_scan_text(alloc, false, profile, other) {
         Ok(scan) => Ok(Two { print, scan }),
         Err(fault) => Err(RefusedWord { word: other, fault }),
     }
@@ -213,8 +216,8 @@ fn check_job<'o>(
     one: &'o str,
     other: &'o str,
 ) -> Result<Job, RefusedWord<'o>>
-    ensures ok { (form : OutputForm) (given : Option (List ℕ))
-        → IfOk result (λ job. IsJobBy profile form given job verb.Check (one.entry.now ∷ other.entry.now ∷ [])) }
+    ensures ok { (strict : Bool) (form : OutputForm) (given : Option (List ℕ))
+        → IfOk result (λ job. IsJobBy strict profile form given job verb.Check (one.entry.now ∷ other.entry.now ∷ [])) }
     ensures err { IfErr result (λ refused. AreNoTwo profile one.entry.now other.entry.now refused.word.now
         refused.fault) }
 {
@@ -239,10 +242,10 @@ fn check_job_of<'o>(
     rest: &'o [String],
 ) -> Result<Job, RefusedWord<'o>>
     requires { length rest.now ≤ 1 }
-    ensures ok { (form : OutputForm) (given : Option (List ℕ)) → IfOk result (λ job.
-        IsJobBy profile form given job verb.Check (one.entry.now ∷ map string_bytes rest.entry.now)) }
-    ensures err { (given : Option (List ℕ)) → IfErr result (λ refused. IsNoJobBy profile verb.Check
-        (one.entry.now ∷ map string_bytes rest.entry.now) given refused.word.now refused.fault) }
+    ensures ok { (strict : Bool) (form : OutputForm) (given : Option (List ℕ)) → IfOk result (λ job.
+        IsJobBy strict profile form given job verb.Check (one.entry.now ∷ map string_bytes rest.entry.now)) }
+    ensures err { (strict : Bool) (given : Option (List ℕ)) → IfErr result (λ refused. IsNoJobBy strict profile
+        verb.Check (one.entry.now ∷ map string_bytes rest.entry.now) given refused.word.now refused.fault) }
 {
     match rest {
         [] => answer_job(alloc, profile, one),
@@ -257,8 +260,8 @@ fn copy_job<'o>(
     one: &'o str,
     other: &'o str,
 ) -> Result<Job, RefusedWord<'o>>
-    ensures ok { (form : OutputForm) (given : Option (List ℕ))
-        → IfOk result (λ job. IsJobBy profile form given job verb.Copy (one.entry.now ∷ other.entry.now ∷ [])) }
+    ensures ok { (strict : Bool) (form : OutputForm) (given : Option (List ℕ))
+        → IfOk result (λ job. IsJobBy strict profile form given job verb.Copy (one.entry.now ∷ other.entry.now ∷ [])) }
     ensures err { IfErr result (λ refused. AreNoTwo profile one.entry.now other.entry.now refused.word.now
         refused.fault) }
 {
@@ -276,10 +279,10 @@ fn copy_job_of<'o>(
     rest: &'o [String],
 ) -> Result<Job, RefusedWord<'o>>
     requires { length rest.now ≡ 1 }
-    ensures ok { (form : OutputForm) (given : Option (List ℕ)) → IfOk result (λ job.
-        IsJobBy profile form given job verb.Copy (one.entry.now ∷ map string_bytes rest.entry.now)) }
-    ensures err { (given : Option (List ℕ)) → IfErr result (λ refused. IsNoJobBy profile verb.Copy
-        (one.entry.now ∷ map string_bytes rest.entry.now) given refused.word.now refused.fault) }
+    ensures ok { (strict : Bool) (form : OutputForm) (given : Option (List ℕ)) → IfOk result (λ job.
+        IsJobBy strict profile form given job verb.Copy (one.entry.now ∷ map string_bytes rest.entry.now)) }
+    ensures err { (strict : Bool) (given : Option (List ℕ)) → IfErr result (λ refused. IsNoJobBy strict profile
+        verb.Copy (one.entry.now ∷ map string_bytes rest.entry.now) given refused.word.now refused.fault) }
 {
     copy_job(alloc, profile, one, rest[0].as_str())
 }
@@ -299,9 +302,10 @@ fn job_by(
     order: &Order,
 ) -> Result<Job, RefusedWord<'_>>
     requires { HasTexts order.now.verb (map string_bytes order.now.texts.items) }
-    ensures ok { IfOk result (λ job. IsJobBy profile form (option_map string_bytes order.entry.now.print) job
-        order.entry.now.verb (map string_bytes order.entry.now.texts.items)) }
-    ensures err { IfErr result (λ refused. IsNoJobBy profile order.entry.now.verb
+    ensures ok { IfOk result (λ job. IsJobBy order.entry.now.strict profile form
+        (option_map string_bytes order.entry.now.print) job order.entry.now.verb
+        (map string_bytes order.entry.now.texts.items)) }
+    ensures err { IfErr result (λ refused. IsNoJobBy order.entry.now.strict profile order.entry.now.verb
         (map string_bytes order.entry.now.texts.items) (option_map string_bytes order.entry.now.print)
         refused.word.now refused.fault) }
 {
@@ -312,7 +316,14 @@ fn job_by(
     let rest = after_first(&order.texts);
     match order.verb {
         Verb::Show => show_job(alloc, profile, word),
-        Verb::Scan => scan_job_of(alloc, profile, form, text_of(order.print.as_ref()), word),
+        Verb::Scan => scan_job_of(
+            alloc,
+            order.strict,
+            profile,
+            form,
+            text_of(order.print.as_ref()),
+            word,
+        ),
         Verb::Print => print_job(alloc, profile, word),
         Verb::Check => check_job_of(alloc, profile, word, rest),
         Verb::Copy => copy_job_of(alloc, profile, word, rest),

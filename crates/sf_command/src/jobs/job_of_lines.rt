@@ -12,20 +12,21 @@ use sf_records::OutputForm;
 use sf_words::Order;
 use std::alloc::Global;
 
-/// The scan formats that the words spell, in their order; or the first that spells none.
+/// The scan formats that the words spell, in their order, as they are read; or the first that spells none.
 fn formats_of(
     alloc: Global,
+    strict: bool,
     profile: Profile,
     words: &[String],
 ) -> Result<Vec<ScanFormat>, RefusedWord<'_>>
-    ensures ok { IfOk result (λ formats. AreScanWords profile (map string_bytes words.entry.now) formats.items) }
+    ensures ok { IfOk result (λ formats. AreScanWords strict profile (map string_bytes words.entry.now) formats.items) }
     ensures err { IfErr result (λ refused. IsFirstRefused profile
         (map string_bytes words.entry.now) refused.word.now refused.fault) }
 {
     let mut formats = Vec::new(alloc);
     for given in words {
         let word = given.as_str();
-        let format = match read_scan(alloc, profile, word) {
+        let format = match read_scan(alloc, strict, profile, word) {
             Ok(format) => format,
             Err(fault) => return Err(RefusedWord { word, fault }),
         };
@@ -49,22 +50,23 @@ pub struct ScanFormats {
 /// The scan formats that the words spell, those by which lines are passed over first; or the first that spells none.
 fn scan_formats<'w>(
     alloc: Global,
+    strict: bool,
     profile: Profile,
     ignored: &'w [String],
     words: &'w [String],
 ) -> Result<ScanFormats, RefusedWord<'w>>
-    ensures ignored { IfOk result (λ formats. AreScanWords profile (map string_bytes ignored.entry.now)
+    ensures ignored { IfOk result (λ formats. AreScanWords strict profile (map string_bytes ignored.entry.now)
         formats.ignored.items) }
-    ensures tried { IfOk result (λ formats. AreScanWords profile (map string_bytes words.entry.now)
+    ensures tried { IfOk result (λ formats. AreScanWords strict profile (map string_bytes words.entry.now)
         formats.tried.items) }
     ensures err { IfErr result (λ refused. IsFirstRefused profile
         (map string_bytes ignored.entry.now ++ map string_bytes words.entry.now) refused.word.now refused.fault) }
 {
-    let ignored = match formats_of(alloc, profile, ignored) {
+    let ignored = match formats_of(alloc, strict, profile, ignored) {
         Ok(formats) => formats,
         Err(refused) => return Err(refused),
     };
-    match formats_of(alloc, profile, words) {
+    match formats_of(alloc, strict, profile, words) {
         Ok(tried) => Ok(ScanFormats { ignored, tried }),
         Err(refused) => Err(refused),
     }
@@ -89,20 +91,20 @@ pub fn lines_job<'o>(
 ) -> Result<LinesJob, RefusedWord<'o>>
     ensures writing { IfOk result (λ job. IsWriting profile form (option_map string_bytes order.entry.now.print)
         job.writing) }
-    ensures ignored { IfOk result (λ job. AreScanWords profile (map string_bytes order.entry.now.ignored.items)
-        job.formats.ignored.items) }
-    ensures tried { IfOk result (λ job. AreScanWords profile (map string_bytes order.entry.now.texts.items)
-        job.formats.tried.items) }
+    ensures ignored { IfOk result (λ job. AreScanWords order.entry.now.strict profile
+        (map string_bytes order.entry.now.ignored.items) job.formats.ignored.items) }
+    ensures tried { IfOk result (λ job. AreScanWords order.entry.now.strict profile
+        (map string_bytes order.entry.now.texts.items) job.formats.tried.items) }
     ensures suits { IfOk result (λ job. SuitsAll job.writing job.formats.tried.items) }
-    ensures err { IfErr result (λ refused. IsRefused profile form (option_map string_bytes order.entry.now.print)
-        (map string_bytes order.entry.now.ignored.items) (map string_bytes order.entry.now.texts.items)
-        refused.word.now refused.fault) }
+    ensures err { IfErr result (λ refused. IsRefused order.entry.now.strict profile form
+        (option_map string_bytes order.entry.now.print) (map string_bytes order.entry.now.ignored.items)
+        (map string_bytes order.entry.now.texts.items) refused.word.now refused.fault) }
 {
     let writing = match read_writing(alloc, profile, form, text_of(order.print.as_ref())) {
         Ok(writing) => writing,
         Err(refused) => return Err(refused),
     };
-    let formats = match scan_formats(alloc, profile, &order.ignored, &order.texts) {
+    let formats = match scan_formats(alloc, order.strict, profile, &order.ignored, &order.texts) {
         Ok(formats) => formats,
         Err(refused) => return Err(refused),
     };

@@ -385,15 +385,15 @@ pub fn scan_lines<S: Source, K: Sink, E, C: Console<K, E>, const N: usize>(
 ) -> Result<u8, CommandFault>
     requires limit { order.now.limit ≤ 2147483647 }
     requires some { 0 < length order.now.texts.items }
-    requires ignored { AreScanWords (grammar_of order.now.profile) (map string_bytes order.now.ignored.items)
-        job.now.formats.ignored.items }
-    requires tried { AreScanWords (grammar_of order.now.profile) (map string_bytes order.now.texts.items)
-        job.now.formats.tried.items }
+    requires ignored { AreScanWords order.now.strict (grammar_of order.now.profile)
+        (map string_bytes order.now.ignored.items) job.now.formats.ignored.items }
+    requires tried { AreScanWords order.now.strict (grammar_of order.now.profile)
+        (map string_bytes order.now.texts.items) job.now.formats.tried.items }
     requires suits { SuitsAll job.now.writing job.now.formats.tried.items }
     requires writing { IsWriting (grammar_of order.now.profile) (form_of order.now.output)
         (option_map string_bytes order.now.print) job.now.writing }
     ensures { ScansLines S.to_come S.failures K.contents K.failures C.said C.unsaid (file_name order.now)
-        (is_headed order.now.file) (grammar_of order.now.profile)
+        (is_headed order.now.file) order.now.strict (grammar_of order.now.profile)
         (form_of order.now.output) order.now.tag (names_text order.now) (option_map string_bytes order.now.print)
         options explain order.now.limit
         (map string_bytes order.now.ignored.items) (map string_bytes order.now.texts.items) from.old from.new

@@ -1,6 +1,6 @@
 //! What is said after the line of a fault, where the words ask for more.
-ghost use Rattle.std.specs.Prelude.{◌≡◌, ◌++◌, ℕ, [], None, List, Option, IfErr, IfOk, map, option_map, slice_get};
-ghost use Rattle.std.specs.Prelude.{string_bytes};
+ghost use Rattle.std.specs.Prelude.{◌≡◌, ◌++◌, ℕ, [], Bool, None, List, Option, IfErr, IfOk, map, option_map};
+ghost use Rattle.std.specs.Prelude.{slice_get, string_bytes};
 ghost use Rattle.sf_format.specs.Language.{Scan};
 ghost use Rattle.sf_format.specs.Grammar.{IsFormat};
 ghost use Rattle.std.specs.Option.{ForSome};
@@ -18,7 +18,7 @@ ghost use Rattle.sf_command.specs.jobs.CopyFormats.{AreCopies, IsOwnUnpaired};
 ghost use Rattle.sf_command.specs.notes.Explains.{AreSpansOf, Explains, MaySay, OfBoth, OfWord, SaysClean, SaysFailed};
 ghost use Rattle.sf_command.specs.notes.Explains.{SaysAlone, SaysFormat, SaysMore, SaysMoreOfRefused, SaysPair};
 ghost use Rattle.sf_command.specs.notes.Explains.{SaysRefused};
-ghost use Rattle.sf_command.specs.notes.Explains.{IsMoreOfLine};
+ghost use Rattle.sf_command.specs.notes.Explains.{IsMoreOfLine, is_strict_of};
 ghost use Rattle.sf_command.specs.notes.Explains.{shown_at, told_at, told_of_line, value_number, value_word};
 ghost use Rattle.sf_command.specs.notes.Explains.{verdict_notes};
 ghost use Rattle.sf_command.specs.notes.Explains.{word_by};
@@ -326,8 +326,8 @@ fn of_clean_end(
     width: Option<u16>,
     job: &Job,
 ) -> Result<Vec<u8>, AllocError>
-    ensures { (form : OutputForm) (print : Option (List ℕ)) (of : Verb) (texts : List (List ℕ))
-        → IsJobBy profile form print job.now of texts
+    ensures { (strict : Bool) (form : OutputForm) (print : Option (List ℕ)) (of : Verb) (texts : List (List ℕ))
+        → IsJobBy strict profile form print job.now of texts
         → IfOk result (λ notes. MaySay (SaysClean profile width of texts) notes.items) }
 {
     match job {
@@ -348,8 +348,8 @@ fn of_pair_fault(
     job: &Job,
     fault: PairFault,
 ) -> Result<Vec<u8>, AllocError>
-    ensures { (form : OutputForm) (print : Option (List ℕ)) (of : Verb) (texts : List (List ℕ))
-        → IsJobBy profile form print job.now of texts → IsOwnFault job.now (CommandFault.Pair fault)
+    ensures { (strict : Bool) (form : OutputForm) (print : Option (List ℕ)) (of : Verb) (texts : List (List ℕ))
+        → IsJobBy strict profile form print job.now of texts → IsOwnFault job.now (CommandFault.Pair fault)
         → IfOk result (λ notes. MaySay (OfBoth (SaysPair profile) texts) notes.items) }
 {
     match job {
@@ -367,10 +367,10 @@ fn of_failed_job(
     outcome: Outcome,
     left: Left<'_>,
 ) -> Result<Vec<u8>, AllocError>
-    ensures { (form : OutputForm) (print : Option (List ℕ)) (of : Verb) (texts : List (List ℕ))
-        → IsJobBy profile form print job.now of texts
-        → IfOk result (λ notes. MaySay (OfWord (SaysFailed profile number outcome left.entry.place left.entry.held.now)
-        (word_by print of texts FormatName.Scan)) notes.items) }
+    ensures { (strict : Bool) (form : OutputForm) (print : Option (List ℕ)) (of : Verb) (texts : List (List ℕ))
+        → IsJobBy strict profile form print job.now of texts
+        → IfOk result (λ notes. MaySay (OfWord (SaysFailed (is_strict_of of strict) profile number outcome
+        left.entry.place left.entry.held.now) (word_by print of texts FormatName.Scan)) notes.items) }
 {
     match job.scan() {
         Some(scan) => of_failed(alloc, profile, scan, number, outcome, left),
@@ -387,10 +387,12 @@ fn of_fault(
     left: Left<'_>,
     fault: CommandFault,
 ) -> Result<Vec<u8>, AllocError>
-    ensures { (form : OutputForm) → IsJobBy profile form (option_map string_bytes order.now.print) job.now
-        order.now.verb (map string_bytes order.now.texts.items) → IsOwnFault job.now fault
-        → IfOk result (λ notes. MaySay (Explains profile (option_map string_bytes order.now.print) order.now.verb
-        (map string_bytes order.now.texts.items) left.entry.place left.entry.held.now fault) notes.items) }
+    ensures { (strict : Bool) (form : OutputForm)
+        → IsJobBy strict profile form (option_map string_bytes order.now.print) job.now order.now.verb
+        (map string_bytes order.now.texts.items) → IsOwnFault job.now fault
+        → IfOk result (λ notes. MaySay (Explains strict profile (option_map string_bytes order.now.print)
+        order.now.verb (map string_bytes order.now.texts.items) left.entry.place left.entry.held.now fault)
+        notes.items) }
 {
     match fault {
         CommandFault::Record(ToolFault::Failed { number, outcome }) => {

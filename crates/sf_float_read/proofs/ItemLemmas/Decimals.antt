@@ -11,6 +11,7 @@ use Rattle.std.specs.Char.{digit_value, is_ascii_digit}
 use Rattle.std.specs.Fmt.{sign_text}
 use Rattle.std.specs.Str.Parse.{AllDigits, digits_value_after}
 use Rattle.sf_float_read.specs.item.Decimals.{IsDecimal}
+use Rattle.sf_float_read.specs.declared.item.reached.Forms.TheVariants.{All}
 use Rattle.sf_float_read.specs.declared.item.reached.Radix.TheVariants.{Ten}
 use Rattle.sf_float_read.specs.declared.item.reached.Reached.TheVariants as at
 use Rattle.sf_float_read.specs.item.Sequences.{IsFloat}
@@ -109,7 +110,7 @@ decimal_read text negative digits places d =
     ap (read (Some at.Start)) d.joined ∙ numeral_read negative d.whole d.fraction d.some d.whole_digits d.fraction_digits
 
 pub decimal_float : (text : List ℕ) (negative : Bool) (digits places : ℕ) → IsDecimal text negative digits places → IsFloat text
-decimal_float text negative digits places d = (float_decided text).0 (ap is_whole_at (decimal_read text negative digits places d))
+decimal_float text negative digits places d = (float_decided All text).0 (ap is_whole_at (decimal_read text negative digits places d))
 
 -- what follows no number
 fraction_ends : (b : ℕ) → is_ascii_digit b ≡ false → b ≢ 101 → b ≢ 69 → next (at.Fraction Ten) b ≡ None

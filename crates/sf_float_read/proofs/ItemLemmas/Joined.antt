@@ -8,9 +8,10 @@ use Rattle.sf_float_read.specs.declared.item.reached.Radix.TheVariants.{Ten, Six
 use Rattle.sf_float_read.specs.item.Sequences.{is_digit, is_sign, AllDecimal, IsDecimal, IsSignedDecimal, IsExponentPart, IsFraction}
 use Rattle.sf_float_read.specs.item.Sequences.{IsWhole}
 use Rattle.sf_float_read.specs.item.Sequences.{IsNumber, Spells, Begins, IsPayload, IsNanTail, IsInfinityTail, IsZeroTail, IsUnsigned}
-use Rattle.sf_float_read.specs.item.Sequences.{IsFloat}
+use Rattle.sf_float_read.specs.item.Sequences.{IsFloat, IsDecimalFloat}
 use Rattle.sf_float_read.specs.item.Parts.{AreDigits, IsSign, IsExponent, IsNumeral, IsHexadecimal, IsInfinity, IsCharSequence, IsNan}
-use Rattle.sf_float_read.specs.item.Parts.{IsFloatInParts, PartsAreSequences}
+use Rattle.sf_float_read.specs.item.Parts.{IsFloatInParts, IsDecimalInParts, PartsAreSequences}
+use Rattle.sf_float_read.specs.item.Laws.{DecimalsAreFloats}
 use Rattle.sf_float_read.proofs.ItemLemmas.Apart.{either}
 
 -- ---- from the left to parts
@@ -377,5 +378,30 @@ signed sign t (inl e) h = subst (λ s. IsFloat (s ++ t)) (sym e) (bare t h)
 signed sign t (inr (inl e)) h = subst (λ s. IsFloat (s ++ t)) (sym e) (inl (refl, h))
 signed sign t (inr (inr e)) h = subst (λ s. IsFloat (s ++ t)) (sym e) (inl (refl, h))
 
+-- ---- a decimal number after a minus, or after none
+
+decimal_of : (f : List ℕ) → IsDecimalFloat f → IsDecimalInParts f
+decimal_of [] h = absurd h
+decimal_of (b ∷ t) (inl s) = (b ∷ [], t, inr (ap (λ x. x ∷ []) s.0), refl, numeral_of Ten t s.1)
+decimal_of (b ∷ t) (inr n) = ([], b ∷ t, inl refl, refl, numeral_of Ten (b ∷ t) n)
+
+bare_decimal : (t : List ℕ) → IsNumber Ten t → IsDecimalFloat t
+bare_decimal [] h = absurd h
+bare_decimal (b ∷ t) h = inr h
+
+signed_decimal : (sign t : List ℕ) → ((sign ≡ []) ⊎ (sign ≡ 45 ∷ [])) → IsNumber Ten t → IsDecimalFloat (sign ++ t)
+signed_decimal sign t (inl e) h = subst (λ s. IsDecimalFloat (s ++ t)) (sym e) (bare_decimal t h)
+signed_decimal sign t (inr e) h = subst (λ s. IsDecimalFloat (s ++ t)) (sym e) (inl (refl, h))
+
+pub decimals_are_floats : DecimalsAreFloats
+decimals_are_floats [] h = absurd h
+decimals_are_floats (b ∷ t) (inl s) = inl (ap is_sign s.0, number_unsigned t s.1)
+decimals_are_floats (b ∷ t) (inr n) = inr (inr (inl n))
+
 pub parts_are_sequences : PartsAreSequences
-parts_are_sequences f = (parts_of f, (λ p. subst IsFloat (sym p.3) (signed p.0 p.1 p.2 (unsigned_of p.1 p.4))))
+parts_are_sequences f = (
+  parts_of f,
+  (λ p. subst IsFloat (sym p.3) (signed p.0 p.1 p.2 (unsigned_of p.1 p.4))),
+  decimal_of f,
+  (λ p. subst IsDecimalFloat (sym p.3) (signed_decimal p.0 p.1 p.2 (number_of Ten p.1 p.4))),
+)

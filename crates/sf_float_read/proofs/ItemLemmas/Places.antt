@@ -262,6 +262,9 @@ first_goes b =
     (λ i. goes_if (to_ascii_lowercase b == 110) (Unsigned b) (Some at.N) _ (λ e. n_first b (eqb-true (to_ascii_lowercase b) 110 e))
     (λ n. other_first b z i n)))
 
+minus_apart : (b : ℕ) (t : List ℕ) → b ≡ 45 → IsNumber Ten (b ∷ t) → ⊥
+minus_apart b t e n = both (ap is_sign e) (unsigned_opens b t (inr (inl n)))
+
 start_goes : (b : ℕ) → Goes (λ t. Completes at.Start (b ∷ t)) (tests.next at.Start b)
 start_goes b =
     goes_if (is_sign b) (λ t. Completes at.Start (b ∷ t)) (Some at.Signed) (tests.first b)
@@ -269,11 +272,22 @@ start_goes b =
     (λ e. goes_as (Unsigned b) (λ t. Completes at.Start (b ∷ t)) (tests.first b)
     (λ t. ((λ h. elim h [ inl s ↦ absurd (both s.0 e) | inr u ↦ u ]), (λ u. inr u))) (first_goes b))
 
+decimal_goes : (b : ℕ) → Goes (λ t. Completes at.DecimalStart (b ∷ t)) (tests.next at.DecimalStart b)
+decimal_goes b =
+    goes_if (b == 45) (λ t. Completes at.DecimalStart (b ∷ t)) (Some at.DecimalSigned) (tests.first_of_number Ten b)
+    (λ e t. (
+      (λ h. elim h [ inl s ↦ s.1 | inr n ↦ absurd (minus_apart b t (eqb-true b 45 e) n) ]),
+      (λ h. inl (eqb-true b 45 e, h)),
+    )) (λ e. goes_as (λ t. IsNumber Ten (b ∷ t)) (λ t. Completes at.DecimalStart (b ∷ t)) (tests.first_of_number Ten b)
+    (λ t. ((λ h. elim h [ inl s ↦ absurd (same_not b 45 e s.0) | inr n ↦ n ]), (λ n. inr n))) (number_goes Ten b))
+
 -- ---- all places
 
 pub next_goes : (r : Reached) (b : ℕ) → Goes (λ t. Completes r (b ∷ t)) (tests.next r b)
 next_goes at.Start b = start_goes b
 next_goes at.Signed b = first_goes b
+next_goes at.DecimalStart b = decimal_goes b
+next_goes at.DecimalSigned b = number_goes Ten b
 next_goes at.Zero b = zero_goes b
 next_goes at.Prefix b = number_goes Sixteen b
 next_goes (at.Whole radix) b = digits_go radix b
@@ -318,6 +332,8 @@ shown P h = ((λ e. h), (λ _. refl))
 pub whole_is : (r : Reached) → (tests.is_whole r ≡ true → Completes r []) × (Completes r [] → tests.is_whole r ≡ true)
 whole_is at.Start = refuted _ (λ h. h)
 whole_is at.Signed = refuted _ (λ h. h)
+whole_is at.DecimalStart = refuted _ (λ h. h)
+whole_is at.DecimalSigned = refuted _ (λ h. h)
 whole_is at.Zero = shown _ tt
 whole_is at.Prefix = refuted _ (λ h. h)
 whole_is (at.Whole radix) = shown _ tt
@@ -353,6 +369,8 @@ taken r q b byte is = (b, byte, λ none. some_none q (tests.next r b) is none)
 takes_one : (r : Reached) → (r ≡ at.Infinity → ⊥) → (r ≡ at.Closed → ⊥) → TakesOne r
 takes_one at.Start i c = taken at.Start at.Signed 43 (lit< tt) refl
 takes_one at.Signed i c = taken at.Signed at.Zero 48 (lit< tt) refl
+takes_one at.DecimalStart i c = taken at.DecimalStart at.DecimalSigned 45 (lit< tt) refl
+takes_one at.DecimalSigned i c = taken at.DecimalSigned (at.Whole Ten) 48 (lit< tt) refl
 takes_one at.Zero i c = taken at.Zero at.Prefix 120 (lit< tt) refl
 takes_one at.Prefix i c = taken at.Prefix (at.Whole Sixteen) 48 (lit< tt) refl
 takes_one (at.Whole Ten) i c = taken (at.Whole Ten) (at.Whole Ten) 48 (lit< tt) refl

@@ -4,7 +4,7 @@ use Rattle.std.specs.List.{AllByRecursion}
 use Rattle.std.specs.Char.{is_ascii_alphanumeric}
 use Rattle.sf_float_read.specs.declared.item.reached.Radix.{Radix}
 use Rattle.sf_float_read.specs.declared.item.reached.Radix.TheVariants.{Ten, Sixteen}
-use Rattle.sf_float_read.specs.item.Sequences.{is_digit, opens_exponent, Spells, IsFloat}
+use Rattle.sf_float_read.specs.item.Sequences.{is_digit, opens_exponent, Spells, IsFloat, IsDecimalFloat}
 
 -- digits, or none
 abbrev pub AreDigits : Radix → List ℕ → Type 0
@@ -60,6 +60,11 @@ abbrev pub IsFloatInParts : List ℕ → Type 0
 IsFloatInParts f = (sign : List ℕ) × (size : List ℕ) × IsSign sign × (f ≡ sign ++ size)
     × (IsNumeral Ten size ⊎ IsHexadecimal size ⊎ IsInfinity size ⊎ IsNan size)
 
+-- with !: a minus or none, and a decimal numeral
+abbrev pub IsDecimalInParts : List ℕ → Type 0
+IsDecimalInParts f = (sign : List ℕ) × (size : List ℕ) × ((sign ≡ []) ⊎ (sign ≡ 45 ∷ [])) × (f ≡ sign ++ size) × IsNumeral Ten size
+
 -- both relations say the same
 abbrev pub PartsAreSequences : Type 0
 PartsAreSequences = (f : List ℕ) → (IsFloat f → IsFloatInParts f) × (IsFloatInParts f → IsFloat f)
+    × (IsDecimalFloat f → IsDecimalInParts f) × (IsDecimalInParts f → IsDecimalFloat f)

@@ -2,6 +2,8 @@
 -- stand from a place on.
 use Rattle.std.specs.Prelude.{◌≡◌, ◌⊎◌, ℕ, Bool, true, ◌||◌, ◌==◌, List, [], ◌∷◌, ⊤}
 use Rattle.std.specs.Char.{is_ascii_digit, is_ascii_hexdigit, is_ascii_alphanumeric, to_ascii_lowercase}
+use Rattle.sf_float_read.specs.declared.item.reached.Forms.{Forms}
+use Rattle.sf_float_read.specs.declared.item.reached.Forms.TheVariants.{All, Decimal}
 use Rattle.sf_float_read.specs.declared.item.reached.Radix.{Radix}
 use Rattle.sf_float_read.specs.declared.item.reached.Radix.TheVariants.{Ten, Sixteen}
 
@@ -98,3 +100,13 @@ IsUnsigned (b ∷ t) = (b ≡ 48) × IsZeroTail t ⊎ IsNumber Ten (b ∷ t)
 abbrev pub IsFloat : List ℕ → Type 0
 IsFloat [] = ⊥
 IsFloat (b ∷ t) = (is_sign b ≡ true) × IsUnsigned t ⊎ IsUnsigned (b ∷ t)
+
+-- one of a conversion with !: a minus or none, and a decimal number
+abbrev pub IsDecimalFloat : List ℕ → Type 0
+IsDecimalFloat [] = ⊥
+IsDecimalFloat (b ∷ t) = (b ≡ 45) × IsNumber Ten t ⊎ IsNumber Ten (b ∷ t)
+
+-- one of these forms
+abbrev pub IsFloatOf : Forms → List ℕ → Type 0
+IsFloatOf All f = IsFloat f
+IsFloatOf Decimal f = IsDecimalFloat f

@@ -1,11 +1,12 @@
 -- What completes a matching sequence that was read so far (C11 7.21.6.2p9: an input item is a matching sequence or a front of one).
 use Rattle.std.specs.Prelude.{◌≡◌, ℕ, ◌<◌, List, [], ◌∷◌, ◌++◌, ⊤, Option, Some, None}
+use Rattle.sf_float_read.specs.declared.item.reached.Forms.{Forms}
+use Rattle.sf_float_read.specs.declared.item.reached.Radix.TheVariants.{Ten, Sixteen}
 use Rattle.sf_float_read.specs.declared.item.reached.Reached.{Reached}
 use Rattle.sf_float_read.specs.declared.item.reached.Reached.TheVariants as at
 use Rattle.sf_float_read.specs.item.Sequences.{IsDecimal, AllDecimal, IsSignedDecimal, IsFraction, IsSomeFraction, IsWhole, IsNumber}
-use Rattle.sf_float_read.specs.item.Sequences.{Spells}
-use Rattle.sf_float_read.specs.item.Sequences.{Begins, IsPayload, IsNanTail, IsInfinityTail, IsZeroTail, IsUnsigned, IsFloat}
-use Rattle.sf_float_read.specs.declared.item.reached.Radix.TheVariants.{Sixteen}
+use Rattle.sf_float_read.specs.item.Sequences.{Spells, Begins, IsPayload, IsNanTail, IsInfinityTail, IsZeroTail, IsUnsigned}
+use Rattle.sf_float_read.specs.item.Sequences.{IsFloat, IsDecimalFloat, IsFloatOf}
 
 abbrev pub AllBytes : List ℕ → Type 0
 AllBytes [] = ⊤
@@ -14,6 +15,8 @@ AllBytes (b ∷ t) = (b < 256) × AllBytes t
 abbrev pub Completes : Reached → List ℕ → Type 0
 Completes at.Start t = IsFloat t
 Completes at.Signed t = IsUnsigned t
+Completes at.DecimalStart t = IsDecimalFloat t
+Completes at.DecimalSigned t = IsNumber Ten t
 Completes at.Zero t = IsZeroTail t
 Completes at.Prefix t = IsNumber Sixteen t
 Completes (at.Whole radix) t = IsWhole radix t
@@ -41,13 +44,13 @@ abbrev pub Goes : (List ℕ → Type 0) → Option Reached → Type 0
 Goes P None = (t : List ℕ) → P t → ⊥
 Goes P (Some q) = (t : List ℕ) → (P t → Completes q t) × (Completes q t → P t)
 
--- the bytes f were read: what completes them is what completes the sequence from there
-abbrev pub HasRead : Reached → List ℕ → Type 0
-HasRead r f = (t : List ℕ) → (IsFloat (f ++ t) → Completes r t) × (Completes r t → IsFloat (f ++ t))
+-- the bytes f of these forms were read: what completes them is what completes the sequence from there
+abbrev pub HasRead : Forms → Reached → List ℕ → Type 0
+HasRead forms r f = (t : List ℕ) → (IsFloatOf forms (f ++ t) → Completes r t) × (Completes r t → IsFloatOf forms (f ++ t))
 
 -- the bytes are a matching sequence or a front of one (C11 7.21.6.2p9); no width bounds what may follow
-abbrev pub BeginsFloat : List ℕ → Type 0
-BeginsFloat f = (t : List ℕ) × AllBytes t × IsFloat (f ++ t)
+abbrev pub BeginsFloat : Forms → List ℕ → Type 0
+BeginsFloat forms f = (t : List ℕ) × AllBytes t × IsFloatOf forms (f ++ t)
 
 -- each place can be completed
 abbrev pub EachGoesOn : Type 0

@@ -2,11 +2,13 @@
 -- Sequences and Steps.
 use Rattle.std.specs.Prelude.{◌≡◌, ◌↔◌, ℕ, Bool, true, false, ◌||◌, ◌==◌, if◌then◌else◌, List, [], ◌∷◌, Option, Some, None, is_some}
 use Rattle.std.specs.Char.{is_ascii_digit, is_ascii_alphanumeric, to_ascii_lowercase}
+use Rattle.sf_float_read.specs.declared.item.reached.Forms.{Forms}
+use Rattle.sf_float_read.specs.declared.item.reached.Forms.TheVariants.{All, Decimal}
 use Rattle.sf_float_read.specs.declared.item.reached.Radix.{Radix}
 use Rattle.sf_float_read.specs.declared.item.reached.Radix.TheVariants.{Ten, Sixteen}
 use Rattle.sf_float_read.specs.declared.item.reached.Reached.{Reached}
 use Rattle.sf_float_read.specs.declared.item.reached.Reached.TheVariants as at
-use Rattle.sf_float_read.specs.item.Sequences.{is_digit, opens_exponent, is_sign, IsFloat}
+use Rattle.sf_float_read.specs.item.Sequences.{is_digit, opens_exponent, is_sign, IsFloatOf}
 use Rattle.sf_float_read.specs.item.Steps.{BeginsFloat}
 
 -- ---- how far it is read with one byte more, where that begins a matching sequence
@@ -51,6 +53,8 @@ in_parentheses b = if b == 41 then Some at.Closed else (if is_ascii_alphanumeric
 abbrev pub next : Reached → ℕ → Option Reached
 next at.Start b = if is_sign b then Some at.Signed else first b
 next at.Signed b = first b
+next at.DecimalStart b = if b == 45 then Some at.DecimalSigned else first_of_number Ten b
+next at.DecimalSigned b = first_of_number Ten b
 next at.Zero b = after_zero b
 next at.Prefix b = first_of_number Sixteen b
 next (at.Whole radix) b = after_digits radix b
@@ -97,13 +101,26 @@ abbrev pub is_whole_at : Option Reached → Bool
 is_whole_at None = false
 is_whole_at (Some r) = is_whole r
 
--- f is a matching sequence
-abbrev pub is_float : List ℕ → Bool
-is_float f = is_whole_at (read (Some at.Start) f)
+-- where the forms are read from
+abbrev pub start_of : Forms → Reached
+start_of All = at.Start
+start_of Decimal = at.DecimalStart
 
--- f is a matching sequence or a front of one
+-- f is a matching sequence of these forms
+abbrev pub is_float_of : Forms → List ℕ → Bool
+is_float_of forms f = is_whole_at (read (Some (start_of forms)) f)
+
+-- f is a matching sequence of these forms or a front of one
+abbrev pub begins_float_of : Forms → List ℕ → Bool
+begins_float_of forms f = is_some (read (Some (start_of forms)) f)
+
+-- the same of all forms
+abbrev pub is_float : List ℕ → Bool
+is_float f = is_float_of All f
+
 abbrev pub begins_float : List ℕ → Bool
-begins_float f = is_some (read (Some at.Start) f)
+begins_float f = begins_float_of All f
 
 abbrev pub TestsAreSequences : Type 0
-TestsAreSequences = (f : List ℕ) → (is_float f ≡ true ↔ IsFloat f) × (begins_float f ≡ true ↔ BeginsFloat f)
+TestsAreSequences = (forms : Forms) (f : List ℕ) → (is_float_of forms f ≡ true ↔ IsFloatOf forms f)
+    × (begins_float_of forms f ≡ true ↔ BeginsFloat forms f)

@@ -5,7 +5,7 @@ ghost use Rattle.sf_float_read.specs.item.Sequences.{is_digit, opens_exponent, i
 ghost use Rattle.sf_float_read.specs.item.Steps.{Completes, Goes};
 ghost use Rattle.sf_float_read.specs.item.Tests.{after_exponent, after_letter, letter_of_exponent, after_point};
 ghost use Rattle.sf_float_read.specs.item.Tests.{after_fraction, after_digits, first_of_number, after_zero, first};
-ghost use Rattle.sf_float_read.specs.item.Tests.{in_parentheses, letter, next, is_whole};
+ghost use Rattle.sf_float_read.specs.item.Tests.{in_parentheses, letter, next, is_whole, start_of};
 
 /// In which radix the digits of the number are.
 #[derive(Clone, Copy, Debug, PartialEq, Eq)]
@@ -14,11 +14,24 @@ pub enum Radix {
     Sixteen,
 }
 
+/// Which texts are floats.
+#[derive(Clone, Copy, Debug, PartialEq, Eq)]
+pub enum Forms {
+    /// Those of C: a sign or none, and a decimal or hexadecimal number, `inf` or `nan`.
+    All,
+    /// A minus or none, and a decimal number.
+    Decimal,
+}
+
 /// How far a floating-point number has been read.
 #[derive(Clone, Copy, Debug, PartialEq, Eq)]
 pub enum Reached {
     Start,
     Signed,
+    /// The start of a decimal number, before which a minus may stand.
+    DecimalStart,
+    /// The same, after the minus.
+    DecimalSigned,
     /// One 0, after which the letter of a prefix may stand.
     Zero,
     /// `0x`
@@ -192,6 +205,18 @@ fn letter(b: u8, lower: u8, place: Reached) -> Option<Reached>
     }
 }
 
+impl Forms {
+    /// Where they are read from.
+    pub fn start(self) -> Reached
+        ensures { result ≡ start_of self }
+    {
+        match self {
+            Forms::All => Reached::Start,
+            Forms::Decimal => Reached::DecimalStart,
+        }
+    }
+}
+
 impl Reached {
     /// The place after one byte more, by the table.
     fn place_after(self, b: u8) -> Option<Reached>
@@ -200,6 +225,8 @@ impl Reached {
         match self {
             Reached::Start if sign(b) => Some(Reached::Signed),
             Reached::Start | Reached::Signed => first(b),
+            Reached::DecimalStart if b == b'-' => Some(Reached::DecimalSigned),
+            Reached::DecimalStart | Reached::DecimalSigned => first_of_number(Radix::Ten, b),
             Reached::Zero => after_zero(b),
             Reached::Prefix => first_of_number(Radix::Sixteen, b),
             Reached::Whole(radix) => after_digits(radix, b),

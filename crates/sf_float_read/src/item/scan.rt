@@ -1,12 +1,12 @@
 //! The input item of a floating-point conversion.
 ghost use Rattle.std.specs.Prelude.{◌≡◌, ◌↔◌, ◌+◌, ◌<◌, ◌≤◌, ◌∷◌, ◌++◌, if◌then◌else◌, ℕ, List, [], length, take, Some};
 ghost use Rattle.std.specs.Prelude.{None, IsTrue, IsFalse};
-ghost use Rattle.sf_float_read.specs.item.Sequences.{IsFloat};
+ghost use Rattle.sf_float_read.specs.item.Sequences.{IsFloat, IsFloatOf};
 ghost use Rattle.sf_float_read.specs.item.Steps.{HasRead, BeginsFloat};
-ghost use Rattle.sf_float_read.specs.item.Tests.{next, read, is_whole};
+ghost use Rattle.sf_float_read.specs.item.Tests.{next, read, is_whole, start_of};
 
 use crate::item::digits::digit_run;
-use crate::item::reached::Reached;
+use crate::item::reached::{Forms, Reached};
 
 /// The item, as far as it was read. No byte of it is kept.
 #[derive(Clone, Copy, Debug)]
@@ -15,20 +15,22 @@ pub struct FloatScan {
 }
 
 impl FloatScan {
-    pub fn start() -> FloatScan
-        ensures nothing { HasRead result.reached [] }
-        ensures start { result.reached ≡ Reached.Start }
+    /// The item of a number in one of these forms, of which no byte was taken yet.
+    pub fn start(forms: Forms) -> FloatScan
+        ensures nothing { HasRead forms result.reached [] }
+        ensures start { result.reached ≡ start_of forms }
     {
         FloatScan {
-            reached: Reached::Start,
+            reached: forms.start(),
         }
     }
 
     /// Takes the byte if what was taken and the byte begin a matching sequence.
     pub fn step(&mut self, b: u8) -> bool
-        ensures taken { (f : List ℕ) → HasRead self.old.reached f → (IsTrue result ↔ BeginsFloat (f ++ b ∷ [])) }
-        ensures after { (f : List ℕ) → HasRead self.old.reached f → IsTrue result
-            → HasRead self.new.reached (f ++ b ∷ []) }
+        ensures taken { (forms : Forms) (f : List ℕ) → HasRead forms self.old.reached f
+            → (IsTrue result ↔ BeginsFloat forms (f ++ b ∷ [])) }
+        ensures after { (forms : Forms) (f : List ℕ) → HasRead forms self.old.reached f → IsTrue result
+            → HasRead forms self.new.reached (f ++ b ∷ []) }
         ensures refused { IsFalse result → self.new ≡ self.old }
         ensures next { (if result then Some self.new.reached else None) ≡ next self.old.reached b }
     {
@@ -79,7 +81,8 @@ impl FloatScan {
 
     /// Whether what was taken is a matching sequence.
     pub fn is_match(&self) -> bool
-        ensures matches { (f : List ℕ) → HasRead self.now.reached f → (IsTrue result ↔ IsFloat f) }
+        ensures matches { (forms : Forms) (f : List ℕ) → HasRead forms self.now.reached f
+            → (IsTrue result ↔ IsFloatOf forms f) }
         ensures whole { result ≡ is_whole self.now.reached }
     {
         self.reached.is_match()
@@ -97,7 +100,7 @@ impl FloatScan {
 pub fn is_float(text: &[u8]) -> bool
     ensures { IsTrue result ↔ IsFloat text.now }
 {
-    let mut scan = FloatScan::start();
+    let mut scan = FloatScan::start(Forms::All);
     let taken = scan.take_run(text);
     taken == text.len() && scan.is_match()
 }

@@ -49,6 +49,8 @@ impl Grammar for PrintGrammar {
             number,
             star: false,
             optional: false,
+            column: false,
+            strict: false,
             flags,
             width,
             point,

@@ -1,7 +1,8 @@
 //! The parts of a scan format.
-ghost use Rattle.std.specs.Prelude.{◌≡◌, ◌&&◌};
+ghost use Rattle.std.specs.Prelude.{◌≡◌, ◌&&◌, ◌+◌, length};
 ghost use Rattle.sf_format.specs.Lists.{is_written};
-ghost use Rattle.sf_format.specs.Cut.{optional_at};
+ghost use Rattle.sf_format.specs.Cut.{marks_of_three};
+ghost use Rattle.sf_format.specs.Pieces.{star_text, optional_text, column_text, strict_text};
 ghost use Rattle.sf_format.specs.Language.{Scan};
 ghost use Rattle.sf_format.specs.Grammar.{Means};
 
@@ -22,14 +23,35 @@ pub struct ScanGrammar {
     pub profile: Profile,
 }
 
-/// Whether a `?` stands in front that the profile has, and what follows it.
-fn optional_mark(profile: Profile, text: &[u8]) -> (bool, &[u8])
-    ensures { (result.0, result.1.now) ≡ optional_at profile text.now }
+/// Which of the marks `?`, `=` and `!` stand in front, and what follows them.
+#[derive(Clone, Copy)]
+struct Marks<'a> {
+    optional: bool,
+    column: bool,
+    strict: bool,
+    rest: &'a [u8],
+}
+
+/// The marks in front, if the profile has them.
+fn marks_of_three(profile: Profile, text: &[u8]) -> Marks<'_>
+    ensures { (result.optional, result.column, result.strict, result.rest.now) ≡ marks_of_three profile text.now }
 {
-    if has_doubles(profile) {
-        mark(b'?', text)
-    } else {
-        (false, text)
+    if !has_doubles(profile) {
+        return Marks {
+            optional: false,
+            column: false,
+            strict: false,
+            rest: text,
+        };
+    }
+    let (optional, text) = mark(b'?', text);
+    let (column, text) = mark(b'=', text);
+    let (strict, rest) = mark(b'!', text);
+    Marks {
+        optional,
+        column,
+        strict,
+        rest,
     }
 }
 
@@ -39,6 +61,14 @@ impl Written<'_> {
         ensures { result ≡ (is_written self.now.number.now && self.now.star) }
     {
         !self.number.is_empty() && self.star
+    }
+
+    /// How many marks stand before the width: `*`, `?`, `=` and `!`.
+    fn mark_count(&self) -> u16
+        ensures { result ≡ length (star_text self.now.star) + length (optional_text self.now.optional)
+            + length (column_text self.now.column) + length (strict_text self.now.strict) }
+    {
+        self.star as u16 + self.optional as u16 + self.column as u16 + self.strict as u16
     }
 }
 
@@ -68,13 +98,15 @@ impl Grammar for ScanGrammar {
         let none = &text[..0];
         let (number, text) = number(text);
         let (star, text) = mark(b'*', text);
-        let (optional, text) = optional_mark(self.profile, text);
-        let (width, text) = split_front(text, Class::Digit);
+        let marks = marks_of_three(self.profile, text);
+        let (width, text) = split_front(marks.rest, Class::Digit);
         let (size, text) = size(text);
         let written = Written {
             number,
             star,
-            optional,
+            optional: marks.optional,
+            column: marks.column,
+            strict: marks.strict,
             flags: none,
             width,
             point: false,
@@ -85,8 +117,11 @@ impl Grammar for ScanGrammar {
     }
 
     fn opening_fault(self, at: u16, written: &Written) -> Option<FormatFault> {
+        if written.number.is_empty() && written.width.is_empty() {
+            return None;
+        }
         let star_at = at + 1 + number_len(written.number);
-        let width_at = star_at + written.star as u16 + written.optional as u16;
+        let width_at = star_at + written.mark_count();
         let width = capped(written.width);
         fault_by(&[
             rule(FormatWhy::BadNumber, at + 1, is_no_slot(written.number)),

@@ -4,12 +4,14 @@ use Rattle.std.specs.Fmt.{decimal}
 use Rattle.sf_base.specs.declared.values.Kind.{Kind}
 use Rattle.sf_base.specs.declared.values.Kind.TheVariants as kind
 use Rattle.sf_base.specs.Sets.{has_byte, count_below}
+use Rattle.sf_format.specs.declared.directive.Base.{Base}
 use Rattle.sf_format.specs.declared.directive.Base.TheVariants.{Dec, Oct, Hex, Bin, Auto, AutoBin}
 use Rattle.sf_format.specs.declared.directive.Shape.{Shape}
 use Rattle.sf_format.specs.declared.directive.Shape.TheVariants as shape
 use Rattle.sf_format.specs.declared.directive.Conversion.{Conversion}
 use Rattle.sf_format.specs.declared.directive.Directive.{Directive}
 use Rattle.sf_format.specs.declared.directive.Directive.TheVariants.{Space, Byte, Percent, Conv}
+use Rattle.sf_format.specs.Leads.{is_strict}
 use Rattle.sf_format.specs.Proper.{destinations_of}
 use Rattle.sf_arguments.specs.Names.{kind_text}
 use Rattle.sf_forms.specs.Quotes.{quoted}
@@ -24,17 +26,20 @@ decimal_letter kind.I32 = codes "d"
 decimal_letter kind.I64 = codes "d"
 decimal_letter _ = codes "u"
 
+abbrev pub base_letter : Base → Kind → List ℕ
+base_letter Dec kind = decimal_letter kind
+base_letter Oct kind = codes "o"
+base_letter Hex kind = codes "x"
+base_letter Bin kind = codes "b"
+base_letter Auto kind = codes "i"
+base_letter AutoBin kind = codes "i"
+
 abbrev pub letter_text : Shape → Kind → List ℕ
-letter_text (shape.Int Dec) kind = decimal_letter kind
-letter_text (shape.Int Oct) kind = codes "o"
-letter_text (shape.Int Hex) kind = codes "x"
-letter_text (shape.Int Bin) kind = codes "b"
-letter_text (shape.Int Auto) kind = codes "i"
-letter_text (shape.Int AutoBin) kind = codes "i"
-letter_text shape.Text kind = codes "s"
+letter_text (shape.Int numeral) kind = base_letter numeral.base kind
+letter_text (shape.Text lead) kind = codes "s"
 letter_text (shape.Set members) kind = codes "["
 letter_text shape.Chars kind = codes "c"
-letter_text shape.Float kind = codes "f"
+letter_text (shape.Float lead) kind = codes "f"
 letter_text shape.Count kind = codes "n"
 
 -- a number, or - where there is none
@@ -52,6 +57,19 @@ abbrev pub missing_mark : Bool → List ℕ
 missing_mark true = codes " optional"
 missing_mark false = []
 
+-- whether it takes a column
+abbrev pub column_mark : Bool → List ℕ
+column_mark true = codes " column"
+column_mark false = []
+
+-- and then whether it has a !
+abbrev pub strict_mark : Bool → List ℕ
+strict_mark true = codes " strict"
+strict_mark false = []
+
+abbrev pub marks_text : Conversion → List ℕ
+marks_text c = missing_mark c.optional ++ (column_mark c.column ++ strict_mark (is_strict c.shape))
+
 -- the letter, and the kind
 abbrev pub head_text : Conversion → List ℕ
 head_text c = letter_text c.shape c.kind ++ (codes " " ++ kind_text c.kind)
@@ -61,7 +79,7 @@ field_text label number = label ++ optional_text number
 
 abbrev pub conversion_text : Conversion → List ℕ
 conversion_text c = head_text c ++ (field_text (codes " width ") c.width
-    ++ (field_text (codes " slot ") c.slot ++ (members_text c.shape ++ missing_mark c.optional)))
+    ++ (field_text (codes " slot ") c.slot ++ (members_text c.shape ++ marks_text c)))
 
 abbrev pub directive_text : Directive → List ℕ
 directive_text Space = codes "space"

@@ -1,7 +1,8 @@
 //! How directives are shown, and the lines that show a scan format.
 ghost use Rattle.std.specs.Prelude.{◌≡◌, ◌++◌, ◌≤◌, OnErr, OnOk, IfOk, length};
 ghost use Rattle.std.specs.Fmt.{decimal};
-ghost use Rattle.sf_messages.specs.shown.Shown.{letter_text, optional_text, members_text, missing_mark, head_text};
+ghost use Rattle.sf_messages.specs.shown.Shown.{base_letter, letter_text, optional_text, members_text, missing_mark};
+ghost use Rattle.sf_messages.specs.shown.Shown.{column_mark, head_text, marks_text, strict_mark};
 ghost use Rattle.sf_messages.specs.shown.Shown.{field_text};
 ghost use Rattle.sf_messages.specs.shown.Shown.{conversion_text, directive_text, line_text, directive_lines};
 ghost use Rattle.sf_messages.specs.shown.Shown.{summary_text};
@@ -9,29 +10,38 @@ ghost use Rattle.sf_messages.specs.shown.Shown.{show_text};
 
 use sf_arguments::kind_text;
 use sf_base::Kind;
-use sf_format::{Base, Conversion, Directive, ScanFormat, Shape};
+use sf_format::{Base, Conversion, Directive, Numeral, ScanFormat, Shape};
 use sf_forms::push_quoted;
 use std::alloc::{AllocError, Global};
 use std::io::Write;
 
-fn letter_text(shape: &Shape, kind: Kind) -> &'static str
-    ensures { result.now ≡ letter_text shape.now kind }
+/// The letter of integers of a base.
+fn base_letter(base: Base, kind: Kind) -> &'static str
+    ensures { result.now ≡ base_letter base kind }
 {
-    match shape {
-        Shape::Int(Base::Dec) => match kind {
+    match base {
+        Base::Dec => match kind {
             Kind::I8 | Kind::I16 | Kind::I32 | Kind::I64 => "d",
             Kind::U8 | Kind::U16 | Kind::U32 | Kind::U64 | Kind::Text | Kind::F32 | Kind::F64 => {
                 "u"
             }
         },
-        Shape::Int(Base::Oct) => "o",
-        Shape::Int(Base::Hex) => "x",
-        Shape::Int(Base::Bin) => "b",
-        Shape::Int(Base::Auto | Base::AutoBin) => "i",
-        Shape::Text => "s",
+        Base::Oct => "o",
+        Base::Hex => "x",
+        Base::Bin => "b",
+        Base::Auto | Base::AutoBin => "i",
+    }
+}
+
+fn letter_text(shape: &Shape, kind: Kind) -> &'static str
+    ensures { result.now ≡ letter_text shape.now kind }
+{
+    match shape {
+        Shape::Int(Numeral { base, .. }) => base_letter(*base, kind),
+        Shape::Text(_) => "s",
         Shape::Set(_) => "[",
         Shape::Chars => "c",
-        Shape::Float => "f",
+        Shape::Float(_) => "f",
         Shape::Count => "n",
     }
 }
@@ -78,6 +88,35 @@ fn push_mark(output: &mut Vec<u8>, optional: bool) -> Result<(), AllocError>
     Ok(())
 }
 
+/// Appends the mark of a conversion that takes a column.
+fn push_column(output: &mut Vec<u8>, column: bool) -> Result<(), AllocError>
+    ensures { OnOk result (output.new.items ≡ output.old.items ++ column_mark column) }
+{
+    if column {
+        push_text(output, " column")?;
+    }
+    Ok(())
+}
+
+/// Appends the mark of a strict conversion.
+fn push_strict(output: &mut Vec<u8>, strict: bool) -> Result<(), AllocError>
+    ensures { OnOk result (output.new.items ≡ output.old.items ++ strict_mark strict) }
+{
+    if strict {
+        push_text(output, " strict")?;
+    }
+    Ok(())
+}
+
+/// Appends the marks of a conversion.
+fn push_marks(output: &mut Vec<u8>, conversion: &Conversion) -> Result<(), AllocError>
+    ensures { OnOk result (output.new.items ≡ output.old.items ++ marks_text conversion.now) }
+{
+    push_mark(output, conversion.optional)?;
+    push_column(output, conversion.column)?;
+    push_strict(output, conversion.shape.is_strict())
+}
+
 fn push_head(output: &mut Vec<u8>, conversion: &Conversion) -> Result<(), AllocError>
     ensures { OnOk result (output.new.items ≡ output.old.items ++ head_text conversion.now) }
 {
@@ -101,7 +140,7 @@ fn push_conversion(output: &mut Vec<u8>, conversion: &Conversion) -> Result<(), 
     push_field(output, " width ", conversion.width.map(u32::from))?;
     push_field(output, " slot ", conversion.slot.map(u32::from))?;
     push_members(output, &conversion.shape)?;
-    push_mark(output, conversion.optional)
+    push_marks(output, conversion)
 }
 
 /// Appends how a directive is shown; where memory is refused, a part of that.

@@ -9,6 +9,7 @@ use Rattle.std.proofs.lemmas.Nat.{pow-add}
 use lib.Ieee.Bits.{of_bits-fits}
 use Rattle.std.proofs.lemmas.Bool.{lt-ltb, ltb-true}
 use Rattle.std.proofs.lemmas.Bool.Decides.{nat_tests}
+use Rattle.std.specs.Float.{float_is_finite}
 use Rattle.std.specs.Float.Ieee.{Float, nan, inf, fin, up, down, fits, binary64}
 use Rattle.std.specs.Float.Ieee.Nearest.{closest}
 use lib.Ieee.Fits.{down_pos}
@@ -304,6 +305,42 @@ filled_most : (z : Bool) (w h v k n most : ℕ) → h + v ≤ 1 → n ≤ most
 filled_most true w h v k n most one low = omega arith
 filled_most false w h v k n most one low = omega arith
 
+by_letter : (k : PrintLetter) → style_of (letter.Float (written_style k) false) ≡ style_of k
+by_letter (letter.Float style.Fixed u) = refl
+by_letter (letter.Float style.Exponent u) = refl
+by_letter (letter.Float style.General u) = refl
+by_letter (letter.Float style.Hexadecimal u) = refl
+by_letter letter.Text = refl
+by_letter letter.One = refl
+by_letter _ = refl
+
+by_mark : (l : FloatStyle) → cond (is_hexadecimal (style_of (letter.Float l false))) 2 0 ≡ mark_digits l
+by_mark style.Fixed = refl
+by_mark style.Exponent = refl
+by_mark style.General = refl
+by_mark style.Hexadecimal = refl
+
+-- without what fills a width
+pub bare_most : (c : PrintConv) → unwrap_or c.precision 6 ≤ 255 → (bits : ℕ) → float_is_finite (from_bits binary64 bits) ≡ true
+    → (let f = float_conv c in let x = from_bits binary64 bits in
+    hidden f x + length (bare_sign f x) + length (mark f x) + length (size_of f x)) ≤ longest_float c
+bare_most c few bits finite =
+    let f : FloatConv = float_conv c in
+    let x : Float = from_bits binary64 bits in
+    let l : FloatStyle = written_style c.letter in
+    let same : style_of (letter.Float l false) ≡ style_of c.letter = by_letter c.letter in
+    let digits : length (digits_text f.style f.alt f.precision x) ≤ longest_digits l c =
+    subst (λ (s : Style). length (digits_text s c.alt c.precision x) ≤ longest_digits l c) same
+    (digits_most l c x (of_bits-fits binary64 bits) few) in
+    let marked : length (mark f x) ≡ mark_digits l = mark_size f x finite ∙ ap (λ (s : Style). cond (is_hexadecimal s) 2 0) (sym same)
+    ∙ by_mark l in
+    within c.zero c.width (hidden f x) (length (bare_sign f x)) (length (mark f x)) (mark_digits l) (length (size_of f x))
+    (longest_digits l c) ((signs_of f x).here) marked (omega (arith, case_length f.upper (digits_text f.style f.alt f.precision x), digits))
+  where
+    within : (z : Bool) (w h v m k n most : ℕ) → h + v ≤ 1 → m ≡ k → n ≤ most → h + v + m + n ≤ cond z (max (1 + k + most) w) (1 + k + most)
+    within true w h v m k n most one same low = omega (arith, one, same, low)
+    within false w h v m k n most one same low = omega (arith, one, same, low)
+
 pub none_is_longer : (c : PrintConv) → c.minus ≡ false → unwrap_or c.precision 6 ≤ 255 → NoneIsLonger c (longest_float c)
 none_is_longer c right few bits finite =
     let f : FloatConv = float_conv c in
@@ -326,18 +363,3 @@ none_is_longer c right few bits finite =
       filled_most c.zero c.width (hidden f x) (length (bare_sign f x)) (mark_digits l) (length (size_of f x)) (longest_digits l c)
           ((signs_of f x).here) (omega (arith, case_length f.upper (digits_text f.style f.alt f.precision x), digits)),
     )
-  where
-    by_letter : (k : PrintLetter) → style_of (letter.Float (written_style k) false) ≡ style_of k
-    by_letter (letter.Float style.Fixed u) = refl
-    by_letter (letter.Float style.Exponent u) = refl
-    by_letter (letter.Float style.General u) = refl
-    by_letter (letter.Float style.Hexadecimal u) = refl
-    by_letter letter.Text = refl
-    by_letter letter.One = refl
-    by_letter _ = refl
-
-    by_mark : (l : FloatStyle) → cond (is_hexadecimal (style_of (letter.Float l false))) 2 0 ≡ mark_digits l
-    by_mark style.Fixed = refl
-    by_mark style.Exponent = refl
-    by_mark style.General = refl
-    by_mark style.Hexadecimal = refl

@@ -147,6 +147,7 @@ pointed_read pre ds before all =
 
 abbrev begun : Reached → Bool
 begun at.Start = false
+begun at.DecimalStart = false
 begun _ = true
 
 either : (t : Bool) (x y : Option Reached) → passes begun x ≡ true → passes begun y ≡ true → passes begun (cond t x y) ≡ true
@@ -190,6 +191,8 @@ first_begun b =
 next_begun : (r : Reached) (b : ℕ) → passes begun (next r b) ≡ true
 next_begun at.Start b = either (is_sign b) (Some at.Signed) (first b) refl (first_begun b)
 next_begun at.Signed b = first_begun b
+next_begun at.DecimalStart b = either (eqb b 45) (Some at.DecimalSigned) (first_of_number Ten b) refl (number_begun Ten b)
+next_begun at.DecimalSigned b = number_begun Ten b
 next_begun at.Zero b = either (eqb b 120 || eqb b 88) (Some at.Prefix) (after_digits Ten b) refl (digits_begun Ten b)
 next_begun at.Prefix b = number_begun Sixteen b
 next_begun (at.Whole radix) b = digits_begun radix b
@@ -230,6 +233,8 @@ exponent_place _ = false
 sign_next : (r : Reached) → begun r ≡ true → (b : ℕ) → is_one_of signs b ≡ true → passes raised_place (next r b) ≡ true
 sign_next at.Start e b is = absurd cc
 sign_next at.Signed e b is = one_of (λ b. passes raised_place (next at.Signed b)) signs b refl is
+sign_next at.DecimalStart e b is = absurd cc
+sign_next at.DecimalSigned e b is = one_of (λ b. passes raised_place (next at.DecimalSigned b)) signs b refl is
 sign_next at.Zero e b is = one_of (λ b. passes raised_place (next at.Zero b)) signs b refl is
 sign_next at.Prefix e b is = one_of (λ b. passes raised_place (next at.Prefix b)) signs b refl is
 sign_next (at.Whole Ten) e b is = one_of (λ b. passes raised_place (next (at.Whole Ten) b)) signs b refl is
@@ -351,7 +356,7 @@ was_read test f e h = by (read (Some at.Start) f) refl e h
     by (Some r) is e h = record { place = r; is = is; whole = e; tested = h }
 
 -- so it goes on with no such byte
-pub none_follows : (f : List ℕ) (r : Reached) → read (Some at.Start) f ≡ Some r → (b : ℕ) → next r b ≡ None
-    → read (Some at.Start) (f ++ b ∷ []) ≡ None
-none_follows f r is b none =
-    read_more (Some at.Start) f (b ∷ []) ∙ ap (λ (o : Option Reached). read o (b ∷ [])) is ∙ ap (λ (o : Option Reached). read o []) none
+pub none_follows : (start : Reached) (f : List ℕ) (r : Reached) → read (Some start) f ≡ Some r → (b : ℕ) → next r b ≡ None
+    → read (Some start) (f ++ b ∷ []) ≡ None
+none_follows start f r is b none =
+    read_more (Some start) f (b ∷ []) ∙ ap (λ (o : Option Reached). read o (b ∷ [])) is ∙ ap (λ (o : Option Reached). read o []) none

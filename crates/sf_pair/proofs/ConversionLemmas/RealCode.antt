@@ -12,6 +12,7 @@ use Rattle.sf_float.specs.declared.text.Style.{Style}
 use Rattle.sf_float.specs.declared.text.Style.TheVariants.{Fixed, Exponent, General, Hexadecimal}
 use Rattle.sf_float.specs.Printed.{is_hexadecimal}
 use Rattle.sf_float.specs.Computed.{size_text, float_text}
+use Rattle.sf_float_read.specs.declared.item.reached.Forms.TheVariants as forms
 use Rattle.sf_float_read.specs.item.Sequences.{IsFloat}
 use Rattle.sf_float_read.specs.item.Tests.{is_float}
 use Rattle.sf_float_read.specs.value.Values.{IsStored}
@@ -31,14 +32,14 @@ pub read_as_so : LawsBelow → (item : List ℕ) (bits : ℕ) (o : Option ℕ) (
 read_as_so laws item bits o r float stored e =
     let k = (laws.stored binary64 item).1 o stored in
     e ∙ pattern_eq o bits ∙ ap (λ (o : Option ℕ). is_pattern o bits) k.1
-    ∙ sym (ap (λ (t : Bool). t && is_pattern (stored_in binary64 item) bits) ((laws.floats item).0.1 float))
+    ∙ sym (ap (λ (t : Bool). t && is_pattern (stored_in binary64 item) bits) ((laws.floats forms.All item).0.1 float))
 
 pub not_read_as : LawsBelow → (item : List ℕ) (bits : ℕ) (r : Bool) → r ≡ false → (IsFloat item → r ≡ true) → r ≡ is_read_as item bits
 not_read_as laws item bits r none is = none ∙ by (is_float item) refl
   where
     by : (t : Bool) → is_float item ≡ t → false ≡ (t && is_pattern (stored_in binary64 item) bits)
     by false e = refl
-    by true e = absurd (true≢false (sym (is ((laws.floats item).0.0 e)) ∙ none))
+    by true e = absurd (true≢false (sym (is ((laws.floats forms.All item).0.0 e)) ∙ none))
 
 -- the digits of 0
 pub zero_size : (s : Style) (alt : Bool) (precision : Option ℕ)

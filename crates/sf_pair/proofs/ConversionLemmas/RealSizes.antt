@@ -18,7 +18,7 @@ use Rattle.sf_float.specs.declared.text.Style.TheVariants.{Fixed, Exponent, Gene
 use Rattle.sf_float.specs.declared.text.FloatConv.{FloatConv}
 use Rattle.sf_float.specs.Scaled.{scaled, scaled_at}
 use Rattle.sf_float.specs.Texts.{fixed_digits, exponent_digits, exponent_size, point_text}
-use Rattle.sf_float.specs.Printed.{sign, mark, is_hexadecimal, bare_len, inner_zeros, right_blanks, pads_with_zeros}
+use Rattle.sf_float.specs.Printed.{sign, mark, is_hexadecimal, bare_len, left_blanks, inner_zeros, right_blanks, pads_with_zeros}
 use Rattle.sf_float.specs.Hexadecimal.{hex_digits, hex_digit, hex_text, hex_point, binary_power}
 use Rattle.sf_float.specs.Computed.{first_passing, least_passing, count_of, needed_of, kept_of, cut_to, is_zero_size, power_of, number_of}
 use Rattle.sf_float.specs.Computed.{is_plain_power, fixed_of, exponent_of, general_of, units_of, two_power_of, binary_number_of}
@@ -432,6 +432,10 @@ module _ (c : FloatConv) (x : Float) (finite : float_is_finite x ≡ true) where
         length-append (zeros (inner_zeros c x (size_of c x))) (size_of c x),
         length-replicate {A = ℕ} (inner_zeros c x (size_of c x)) 48,
       )
+
+  pub left_size : left_blanks c x (size_of c x) ≡ cond c.minus 0 (cond (c.zero && not c.minus) 0
+      (c.width - (hidden c x + length (bare_sign c x) + length (mark c x) + length (size_of c x))))
+  left_size = (λ i. cond c.minus 0 (cond (pads_is i) 0 (c.width - bare_size i)))
 
   pub right_size : right_blanks c x (size_of c x)
       ≡ cond c.minus (c.width - (hidden c x + length (bare_sign c x) + length (mark c x) + length (size_of c x))) 0

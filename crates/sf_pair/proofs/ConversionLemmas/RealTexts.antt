@@ -236,7 +236,7 @@ general_starts alt k n power = by (is_plain_power k power)
 
 -- ---- the style of a
 
-hexadecimal_signed : (alt : Bool) (precision : Option ℕ) (x : Float) → Signed (digits_text Hexadecimal alt precision x)
+pub hexadecimal_signed : (alt : Bool) (precision : Option ℕ) (x : Float) → Signed (digits_text Hexadecimal alt precision x)
 hexadecimal_signed alt precision x =
     let m = binary_number_of x in
     let power = binary_power m (two_power_of x) in
@@ -425,11 +425,21 @@ module _ (c : FloatConv) (x : Float) (finite : float_is_finite x ≡ true) where
       ∙ signed_read early s.sign late (omega (arith, length-append head (in_case c.upper s.before), case_length c.upper s.before, s.begun))
       s.signed (omega (arith, case_length c.upper s.after, s.some)) (case_all c.upper digits s.after refl s.all)
 
-  decimal_end : is_hexadecimal c.style ≡ false → All decimal_bytes (digits_text c.style c.alt c.precision x)
-      → passes decimal_place (read (Some at.Start) (body c x)) ≡ true
-  decimal_end other all =
-      decimal_read (body c x) (subst (All decimal_bytes) (sym body_is) (all_append decimal_bytes head (size_of c x) (head_decimal other)
-      (case_all c.upper decimal_bytes (digits_text c.style c.alt c.precision x) refl all)))
+  digits_decimal_in : (s : Style) → is_hexadecimal s ≡ false → All decimal_bytes (digits_text s c.alt c.precision x)
+  digits_decimal_in Fixed other = let d = unwrap_or c.precision 6 in fixed_decimal c.alt d (scaled x d 0)
+  digits_decimal_in Exponent other =
+      let d = unwrap_or c.precision 6 in exponent_decimal c.alt d (number_of x (d + 1)) (power_of x (d + 1))
+  digits_decimal_in General other =
+      let k = max (unwrap_or c.precision 6) 1 in general_decimal c.alt k (number_of x (k - 1 + 1)) (power_of x (k - 1 + 1))
+  digits_decimal_in Hexadecimal other = absurd cc
+
+  -- but for `a` no byte of it is of another number
+  pub body_decimal : is_hexadecimal c.style ≡ false → All decimal_bytes (body c x)
+  body_decimal other = subst (All decimal_bytes) (sym body_is) (all_append decimal_bytes head (size_of c x) (head_decimal other)
+      (case_all c.upper decimal_bytes (digits_text c.style c.alt c.precision x) refl (digits_decimal_in c.style other)))
+
+  pub decimal_ends : is_hexadecimal c.style ≡ false → passes decimal_place (read (Some at.Start) (body c x)) ≡ true
+  decimal_ends other = decimal_read (body c x) (body_decimal other)
 
   pub exponent_ends : (c.style ≡ Exponent) ⊎ (c.style ≡ Hexadecimal) → passes exponent_place (read (Some at.Start) (body c x)) ≡ true
   exponent_ends (inl e) = let d = unwrap_or c.precision 6 in
@@ -437,16 +447,6 @@ module _ (c : FloatConv) (x : Float) (finite : float_is_finite x ≡ true) where
       (exponent_signed c.alt d (number_of x (d + 1)) (power_of x (d + 1))))
   exponent_ends (inr e) = signed_end (subst (λ (s : Style). Signed (digits_text s c.alt c.precision x)) (sym e)
       (hexadecimal_signed c.alt c.precision x))
-
-  pub general_ends : c.style ≡ General → passes decimal_place (read (Some at.Start) (body c x)) ≡ true
-  general_ends e = let k = max (unwrap_or c.precision 6) 1 in
-      decimal_end (ap is_hexadecimal e) (subst (λ (s : Style). All decimal_bytes (digits_text s c.alt c.precision x)) (sym e)
-      (general_decimal c.alt k (number_of x (k - 1 + 1)) (power_of x (k - 1 + 1))))
-
-  pub fixed_ends : c.style ≡ Fixed → passes decimal_place (read (Some at.Start) (body c x)) ≡ true
-  fixed_ends e = let d = unwrap_or c.precision 6 in
-      decimal_end (ap is_hexadecimal e) (subst (λ (s : Style). All decimal_bytes (digits_text s c.alt c.precision x)) (sym e)
-      (fixed_decimal c.alt d (scaled x d 0)))
 
   pub pointed_ends : c.style ≡ Fixed → (nat_lt 0 (unwrap_or c.precision 6) || c.alt) ≡ true
       → passes pointed_place (read (Some at.Start) (body c x)) ≡ true

@@ -21,6 +21,7 @@ use Rattle.sf_float.specs.Printed.{in_case, is_hexadecimal, inner_zeros}
 use Rattle.sf_float.specs.Computed.{digits_text}
 use Rattle.sf_float.proofs.TextLaws.{zero_round}
 use Rattle.sf_float.proofs.Limbs.{power_pos}
+use Rattle.sf_float_read.specs.declared.item.reached.Forms.TheVariants as forms
 use Rattle.sf_float_read.specs.item.Laws.{is_plain}
 use Rattle.sf_float_read.specs.item.Sequences.{IsFloat}
 use Rattle.sf_float_read.specs.value.Values.{stored}
@@ -262,7 +263,7 @@ module _ (laws : LawsBelow) (c : FloatConv) where
           let all : All decimal_zeros (48 ∷ t) =
           subst (All decimal_zeros) front (inner_part decimal_zeros refl (size_in decimal_zeros refl refl refl s e h)) in
           ap (stored_in binary64) is ∙ decimal_stored laws c.plus t all
-          (subst IsFloat is ((laws.floats (body c zero_number)).0.0 (zero_matches c)))
+          (subst IsFloat is ((laws.floats forms.All (body c zero_number)).0.0 (zero_matches c)))
 
       by : (s : Style) → c.style ≡ s → stored_in binary64 (body c zero_number) ≡ Some 0
       by Fixed e = decimal Fixed e refl tt

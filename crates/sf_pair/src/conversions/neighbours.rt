@@ -6,17 +6,20 @@ ghost use Rattle.sf_item.specs.Tests.{is_ink};
 ghost use Rattle.sf_print.specs.texts.Text.{pads_with_zeros};
 ghost use Rattle.sf_print.specs.texts.Visible.{least};
 ghost use Rattle.sf_pair.specs.conversions.Neighbours.{sign_or_digit, number_first, integer_first, float_digit};
-ghost use Rattle.sf_pair.specs.conversions.Neighbours.{float_first};
+ghost use Rattle.sf_pair.specs.conversions.Neighbours.{float_first, first_by_letter};
+ghost use Rattle.sf_pair.specs.conversions.Neighbours.{is_float, fills_with_zeros, fills_with_blanks, inked_first};
+ghost use Rattle.sf_pair.specs.conversions.Neighbours.{bare_first, column_first, first_read, suits_column};
 ghost use Rattle.sf_pair.specs.conversions.Neighbours.{text_first, first_by, is_auto_base, integer_stops};
-ghost use Rattle.sf_pair.specs.conversions.Neighbours.{fraction_stops};
+ghost use Rattle.sf_pair.specs.conversions.Neighbours.{fraction_stops, is_prefix_letter};
 ghost use Rattle.sf_pair.specs.conversions.Neighbours.{whole_stops, float_stops, stop_set};
 
 use crate::conversions::reals::has_point;
 use sf_base::{digit_value, is_space};
-use sf_format::{Base, FloatStyle, PrintConv, PrintLetter, Shape, Unit};
+use sf_format::{Base, Conversion, FloatStyle, Numeral, PrintConv, PrintLetter, Shape, Unit};
 use sf_item::{prefix_radix, radices_of};
 
-fn has_digit(base: u8, b: u8) -> bool
+/// Whether the byte is a digit of the base.
+pub fn has_digit(base: u8, b: u8) -> bool
     requires { base ≤ 16 }
     ensures { result ≡ is_digit b base }
 {
@@ -91,7 +94,7 @@ fn text_first(conv: &PrintConv, read: &Shape, b: u8) -> bool
     ensures { result ≡ text_first conv.now read.now b }
 {
     match read {
-        Shape::Text => {
+        Shape::Text(_) => {
             if conv.width > 0 {
                 b == b' ' || is_ink(b)
             } else {
@@ -100,22 +103,105 @@ fn text_first(conv: &PrintConv, read: &Shape, b: u8) -> bool
         }
         Shape::Set(members) => members.contains(b),
         Shape::Chars => true,
-        Shape::Int(_) | Shape::Float | Shape::Count => false,
+        Shape::Int(_) | Shape::Float(_) | Shape::Count => false,
     }
 }
 
-/// Whether the byte may stand first in the unit's text, where the next directive reads so.
-pub fn may_begin(unit: &Unit, read: &Shape, b: u8) -> bool
+/// Whether the byte may stand first in the conversion's text, where an item of the shape reads it.
+fn item_first(conv: &PrintConv, read: &Shape, b: u8) -> bool
+    ensures { result ≡ first_by_letter conv.now.letter conv.now read.now b }
+{
+    match conv.letter {
+        PrintLetter::Text => text_first(conv, read, b),
+        PrintLetter::One => matches!(read, Shape::Chars),
+        PrintLetter::Float(..) => float_first(conv, b),
+        _ => integer_first(conv, b),
+    }
+}
+
+fn is_float(letter: PrintLetter) -> bool
+    ensures { result ≡ is_float letter }
+{
+    matches!(letter, PrintLetter::Float(..))
+}
+
+/// Whether zeros fill the width.
+pub fn fills_with_zeros(conv: &PrintConv) -> bool
+    ensures { result ≡ fills_with_zeros conv.now }
+{
+    conv.zero && !conv.minus && (is_float(conv.letter) || conv.precision.is_none())
+}
+
+/// Whether blanks may fill the width in front, in a column that reads so.
+fn fills_with_blanks(conv: &PrintConv, read: &Shape) -> bool
+    ensures { result ≡ fills_with_blanks conv.now read.now }
+{
+    conv.width > 0 && !conv.minus && !fills_with_zeros(conv) && !read.is_strict()
+}
+
+/// Whether a column that reads so takes what the letter prints: a number, or a text that is read by `s` or `[`.
+fn suits_column(letter: PrintLetter, read: &Shape) -> bool
+    ensures { result ≡ suits_column letter read.now }
+{
+    match letter {
+        PrintLetter::Text => matches!(read, Shape::Text(_) | Shape::Set(_)),
+        PrintLetter::One => false,
+        _ => true,
+    }
+}
+
+/// Whether a text in a column that reads so may begin with the byte.
+fn inked_first(read: &Shape, b: u8) -> bool
+    ensures { result ≡ inked_first read.now b }
+{
+    match read {
+        Shape::Text(_) => is_ink(b),
+        Shape::Set(members) => members.contains(b) && is_ink(b),
+        Shape::Int(_) | Shape::Float(_) | Shape::Chars | Shape::Count => false,
+    }
+}
+
+/// Whether the byte may stand first after those blanks.
+fn bare_first(conv: &PrintConv, read: &Shape, b: u8) -> bool
+    ensures { result ≡ bare_first conv.now.letter conv.now read.now b }
+{
+    match conv.letter {
+        PrintLetter::Text => inked_first(read, b),
+        PrintLetter::One => false,
+        PrintLetter::Float(..) => float_digit(conv, b),
+        _ => number_first(conv, b),
+    }
+}
+
+/// Whether the byte may stand first in the conversion's text, where a column of the shape reads it.
+fn column_first(conv: &PrintConv, read: &Shape, b: u8) -> bool
+    ensures { result ≡ column_first conv.now read.now b }
+{
+    if suits_column(conv.letter, read) && fills_with_blanks(conv, read) {
+        b == b' ' || bare_first(conv, read, b)
+    } else {
+        bare_first(conv, read, b)
+    }
+}
+
+/// Whether the byte may stand first in the conversion's text, where it is read by that one.
+fn first_read(conv: &PrintConv, read: &Conversion, b: u8) -> bool
+    ensures { result ≡ first_read conv.now read.now b }
+{
+    if read.column {
+        column_first(conv, &read.shape, b)
+    } else {
+        item_first(conv, &read.shape, b)
+    }
+}
+
+/// Whether the byte may stand first in the unit's text, where it is read by that conversion.
+pub fn may_begin(unit: &Unit, read: &Conversion, b: u8) -> bool
     ensures { result ≡ first_by unit.now read.now b }
 {
     match unit {
         Unit::Byte(byte) => b == *byte,
-        Unit::Conv(conv) => match conv.letter {
-            PrintLetter::Text => text_first(conv, read, b),
-            PrintLetter::One => matches!(read, Shape::Chars),
-            PrintLetter::Float(..) => float_first(conv, b),
-            _ => integer_first(conv, b),
-        },
+        Unit::Conv(conv) => first_read(conv, read, b),
     }
 }
 
@@ -126,12 +212,12 @@ pub fn is_auto_base(base: Base) -> bool
     matches!(base, Base::Auto | Base::AutoBin)
 }
 
-/// Whether an integer of the base would go on with the byte, after a text that may be a 0 alone or is longer.
-fn integer_goes_on(base: Base, lone: bool, b: u8) -> bool
-    ensures { result ≡ integer_stops base lone b }
+/// Whether an integer that is written so would go on with the byte, after a text that may be a 0 alone or is longer.
+fn integer_goes_on(numeral: Numeral, lone: bool, b: u8) -> bool
+    ensures { result ≡ integer_stops numeral lone b }
 {
-    let letter = prefix_radix(base, b).is_some();
-    ((lone || is_auto_base(base)) && letter) || has_digit(radices_of(base).first, b)
+    let letter = prefix_radix(numeral, b).is_some();
+    ((lone || is_auto_base(numeral.base)) && letter) || has_digit(radices_of(numeral.base).first, b)
 }
 
 fn fraction_goes_on(b: u8) -> bool
@@ -140,13 +226,19 @@ fn fraction_goes_on(b: u8) -> bool
     has_digit(10, b) || b == b'e' || b == b'E'
 }
 
+fn is_prefix_letter(b: u8) -> bool
+    ensures { result ≡ is_prefix_letter b }
+{
+    b == b'x' || b == b'X'
+}
+
 fn whole_goes_on(b: u8) -> bool
     ensures { result ≡ whole_stops b }
 {
-    fraction_goes_on(b) || b == b'.' || b == b'x' || b == b'X'
+    fraction_goes_on(b) || b == b'.' || is_prefix_letter(b)
 }
 
-/// Whether a float would go on with the byte, after the conversion's text.
+/// Whether a float of every form would go on with the byte, after the conversion's text.
 fn float_goes_on(conv: &PrintConv, b: u8) -> bool
     ensures { result ≡ float_stops conv.now.letter conv.now b }
 {
@@ -171,10 +263,10 @@ pub fn goes_on(conv: &PrintConv, read: &Shape, lone: bool, b: u8) -> bool
     ensures { result ≡ stop_set read.now conv.now b }
 {
     match read {
-        Shape::Int(base) => integer_goes_on(*base, lone, b),
-        Shape::Text => is_ink(b),
+        Shape::Int(numeral) => integer_goes_on(*numeral, lone, b),
+        Shape::Text(_) => is_ink(b),
         Shape::Set(members) => members.contains(b),
-        Shape::Float => float_goes_on(conv, b),
+        Shape::Float(lead) => float_goes_on(conv, b) && !(lead.is_strict() && is_prefix_letter(b)),
         Shape::Chars | Shape::Count => false,
     }
 }

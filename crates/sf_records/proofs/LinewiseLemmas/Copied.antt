@@ -91,7 +91,7 @@ empty_fails (b ∷ y) end e none = true≢false (sym (ap (λ (d : StepEnd). is_s
 
 -- its conversion
 abbrev one_of : List Bool → Conversion
-one_of members = record { shape = Set members; kind = kind.Text; width = Some 1; slot = None; optional = false }
+one_of members = record { shape = Set members; kind = kind.Text; width = Some 1; slot = None; optional = false; column = false }
 
 passes_one : (members : List Bool) (x : List ℕ) (n bytes : ℕ) (end : StepEnd) → Step (reads_one members) x n bytes end
     → is_some (failure_of end) ≡ false → (bytes ≡ 1) × (end ≡ Passes)

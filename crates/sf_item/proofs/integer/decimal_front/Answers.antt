@@ -8,9 +8,9 @@ loop-i-preserved c =
     let b = slice_index_or c.args.piece.now c.loop-i.i 0 in
     let value = decimal_value b c.if-b-lt48.false c.if-b-gt57.false in
     record {
-      read = λ base sign.
-          decimal_read base sign c.args.piece.now c.loop-i.i c.args.number.now c.loop-i.value (b - 48) c.loop-i-test.true
-          (omega (arith, value, c.if-b-gt57.false)) (sym value) (c.loop-i.invariant.read base sign);
+      read = λ numeral sign.
+          decimal_read numeral sign c.args.piece.now c.loop-i.i c.args.number.now c.loop-i.value (b - 48) c.loop-i-test.true
+          (omega (arith, value, c.if-b-gt57.false)) (sym value) (c.loop-i.invariant.read numeral sign);
       nothing = λ e. absurd (omega (arith, e));
     }
 

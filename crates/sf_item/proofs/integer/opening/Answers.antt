@@ -6,13 +6,13 @@ use Rattle.sf_item.proofs.integer.opening.Goals as goal
 pub returns-then-not-advance-clause-stops : goal.returns-then-not-advance-clause-stops
 returns-then-not-advance-clause-stops c = λ below.
     inr (λ p shows.
-    byte_read c.args.base c.args.piece.now c.loop-i.i p c.loop-i.reached None
+    byte_read c.args.numeral c.args.piece.now c.loop-i.i p c.loop-i.reached None
     (c.loop-i.invariant.read p shows) below c.if-not-advance.ensures.next)
 
 pub loop-i-preserved : goal.loop-i-preserved
 loop-i-preserved c = record {
   read = λ p shows.
-      byte_read c.args.base c.args.piece.now c.loop-i.i p c.loop-i.reached (Some c.advance.new.reached) (c.loop-i.invariant.read p shows)
+      byte_read c.args.numeral c.args.piece.now c.loop-i.i p c.loop-i.reached (Some c.advance.new.reached) (c.loop-i.invariant.read p shows)
       c.loop-i-test.true c.if-not-advance.ensures.next;
   nothing = λ e. absurd (omega (arith, e));
 }

@@ -5,7 +5,7 @@ pub returns-clause-front : goal.returns-clause-front
 returns-clause-front c = can_take_fronts
 
 pub returns-clause-zero : goal.returns-clause-zero
-returns-clause-zero c = λ conversion base f is. integer_goes_on conversion f (base, is)
+returns-clause-zero c = λ conversion numeral f is. integer_goes_on conversion f (numeral, is)
 
 pub returns-clause-parts : goal.returns-clause-parts
 returns-clause-parts c = read_more

@@ -10,14 +10,14 @@ use Rattle.sf_item.proofs.reading.read_all.Goals as goal
 pub returns-in-Integer-clause-read : goal.returns-in-Integer-clause-read
 returns-in-Integer-clause-read c = λ f h.
     rw c.in-Integer.is
-    (integer_read c.in-Integer.base c.in-Integer.reached f (take c.integer_front.result c.args.piece.now)
+    (integer_read c.in-Integer.numeral c.in-Integer.reached f (take c.integer_front.result c.args.piece.now)
     (subst (λ r. HasRead r f) c.in-Integer.is h)
     c.integer_front.new.reached c.integer_front.ensures.read)
 
 pub returns-in-Integer-clause-stops : goal.returns-in-Integer-clause-stops
 returns-in-Integer-clause-stops c = λ f h below.
     rw c.in-Integer.is
-    (integer_ends c.in-Integer.base c.in-Integer.reached f (take (c.integer_front.result + 1) c.args.piece.now)
+    (integer_ends c.in-Integer.numeral c.in-Integer.reached f (take (c.integer_front.result + 1) c.args.piece.now)
     (subst (λ r. HasRead r f) c.in-Integer.is h)
     (c.integer_front.ensures.stops below))
 
@@ -51,10 +51,11 @@ pub returns-in-Float-clause-read : goal.returns-in-Float-clause-read
 returns-in-Float-clause-read c = λ f h.
     let read = subst (λ r. HasRead r f) c.in-Float.is h in
     rw c.in-Float.is
-    (float_reads c.in-Float.scan f (take c.take_run.result c.args.piece.now) read c.take_run.new.self c.take_run.ensures.read)
+    (float_reads c.in-Float.field-0 c.in-Float.scan f
+    (take c.take_run.result c.args.piece.now) read c.take_run.new.self c.take_run.ensures.read)
 
 pub returns-in-Float-clause-stops : goal.returns-in-Float-clause-stops
 returns-in-Float-clause-stops c = λ f h below.
     let read = subst (λ r. HasRead r f) c.in-Float.is h in
     rw c.in-Float.is
-    (float_stops c.in-Float.scan f (take (c.take_run.result + 1) c.args.piece.now) read (c.take_run.ensures.stops below))
+    (float_stops c.in-Float.field-0 c.in-Float.scan f (take (c.take_run.result + 1) c.args.piece.now) read (c.take_run.ensures.stops below))

@@ -25,9 +25,9 @@ loop-i-preserved c =
     let below = c.loop-i-test.true in
     let least = c.min-end.ensures in
     record {
-      read = λ base sign.
-          decimal_read base sign c.args.piece.now c.loop-i.i 0 c.loop-i.number (b - 48) (omega (arith, below, least, c.requires))
-          (omega (arith, value, c.if-b-gt57.false)) (sym value) (c.loop-i.invariant.read base sign);
+      read = λ numeral sign.
+          decimal_read numeral sign c.args.piece.now c.loop-i.i 0 c.loop-i.number (b - 48) (omega (arith, below, least, c.requires))
+          (omega (arith, value, c.if-b-gt57.false)) (sym value) (c.loop-i.invariant.read numeral sign);
       small = ten_more c.loop-i.i c.loop-i.number (b - 48) c.loop-i.invariant.small (omega (arith, c.if-b-gt57.false));
     }
 

@@ -24,9 +24,9 @@ loop-i-preserved c =
     let below = c.loop-i-test.true in
     let least = c.min-most.ensures in
     record {
-      read = λ base sign.
-          hex_read base sign c.args.piece.now c.loop-i.i 0 c.loop-i.number c.value_of-digit.result (omega (arith, below, least))
-          (omega (arith, value, low)) value (c.loop-i.invariant.read base sign);
+      read = λ numeral sign.
+          hex_read numeral sign c.args.piece.now c.loop-i.i 0 c.loop-i.number c.value_of-digit.result (omega (arith, below, least))
+          (omega (arith, value, low)) value (c.loop-i.invariant.read numeral sign);
       small = sixteen_more c.loop-i.i c.loop-i.number c.value_of-digit.result c.loop-i.invariant.small (omega (arith, low));
     }
 

@@ -15,9 +15,9 @@ loop-i-preserved c =
     let below : i < length c.args.digits.now = omega (arith, within, differs) in
     let front = ap length c.requires.front in
     record {
-      read = λ base sign.
-          decimal_read base sign piece i 0 c.loop-i.number (b - 48) (omega (arith, below, front, length-take {A = ℕ}))
-          (omega (arith, value, c.if-b-gt57.false)) (sym value) (c.loop-i.invariant.read base sign);
+      read = λ numeral sign.
+          decimal_read numeral sign piece i 0 c.loop-i.number (b - 48) (omega (arith, below, front, length-take {A = ℕ}))
+          (omega (arith, value, c.if-b-gt57.false)) (sym value) (c.loop-i.invariant.read numeral sign);
       small = ten_more i c.loop-i.number (b - 48) c.loop-i.invariant.small (omega (arith, c.if-b-gt57.false));
       within = omega (arith, below);
     }

@@ -14,17 +14,16 @@ is_chars _ = ⊥
 
 pub returns : goal.returns
 returns c =
-    let found = c.text_item.ensures None refl in
     let piece = c.args.piece.now in
     record {
-      only = λ conv shape width z k item. if_match _ c.text_item.result found
+      only = λ conv lead shape width z k item. if_match _ c.text_item.result (c.text_item.ensures lead None refl)
           (λ n w.
           let one = c.one_item.ensures conv (ap has_item shape) (subst IsProperShape (sym shape) tt) (piece ++ z) in
           one.only k item ∙ sym (one.only n (w.item conv shape width tt z)));
-      stays = λ conv shape width z. if_match _ c.text_item.result found
+      stays = λ conv lead shape width z. if_match _ c.text_item.result (c.text_item.ensures lead None refl)
           (λ n w. c.ended_items_stay.ensures conv (subst IsProperShape (sym shape) tt) piece z n
           (subst (λ (x : List ℕ). IsItem conv x n) (append-nil piece) (w.item conv shape width tt [])) w.behind);
-      cut = λ conv shape width w. if_match _ c.text_item.result found
+      cut = λ conv lead shape width w. if_match _ c.text_item.result (c.text_item.ensures lead None refl)
           (λ n i. c.widths_cut_items.ensures (record conv { width = Some w }) (subst IsProperShape (sym shape) tt)
           (λ e. subst is_chars (sym e ∙ shape) tt) w refl piece n
           (subst (λ (x : List ℕ). IsItem (record conv { width = None }) x n) (append-nil piece)

@@ -15,7 +15,7 @@ pub returns-then-is_empty-clause-suits : goal.returns-then-is_empty-clause-suits
 returns-then-is_empty-clause-suits c =
     let none : 0 ≡ length c.args.piece.now = search rules in
     subst (λ (r : Run). Suits (Conv c.args.conversion.now) phase.Skipping c.args.piece.now r) (sym c.waits.ensures)
-    (suits_waits (Conv c.args.conversion.now) 0 c.args.piece.now c.requires none)
+    (suits_waits (Conv c.args.conversion.now) 0 c.args.piece.now c.requires.item none)
 
 pub returns-in-Some-clause-answers : goal.returns-in-Some-clause-answers
 returns-in-Some-clause-answers c proper ink n =
@@ -29,7 +29,7 @@ returns-then-run-eq0-clause-answers c proper ink n =
     let some : 0 < length piece = search rules in
     let same : conversion_of c.start.result ≡ k = c.start.ensures.conversion in
     subst (λ (r : Run). Answers (Conv k) Skipping n piece r) (sym c.ends-then-run-eq0.ensures)
-    (nothing_taken k n piece c.finish_nothing.result proper.0 c.requires some (ink some) (λ can.
+    (nothing_taken k c.requires.plain n piece c.finish_nothing.result proper.0 c.requires.item some (ink some) (λ can.
     let none : c.go_on-run.result.item ≡ 0 = c.if-run-eq0.true in
     c.go_on-run.ensures.stops [] c.start.ensures.nothing (omega (arith, none, some))
     (subst (λ i. CanTake (conversion_of c.start.result) (take (i + 1) piece)) (sym none)
@@ -47,8 +47,8 @@ returns-clause-answers c proper ink n =
     let shape = subst (λ (x : Conversion). IsProperShape x.shape) (sym same) proper.0 in
     subst (λ b. Answers (Conv k) Skipping n piece (record { before = b; item = run.item; phase = run.phase; ends = run.ends }))
     (sym e.before)
-    (item_begins k n piece run.item proper some within (ink (omega (arith, some, within)))
+    (item_begins k c.requires.plain n piece run.item proper some within (ink (omega (arith, some, within)))
     (subst (λ (x : Conversion). CanAll x [] (take run.item piece)) same (e.can [] shape c.start.ensures.nothing))
     run.phase run.ends (e.slot ∙ c.text_slot.ensures) e.waits
-    (λ more. e.shows (Conv k) [] (ap Conv (sym same)) (sym c.text_slot.ensures) c.start.ensures.nothing more)
-    (λ more. e.ends [] proper (sym same) c.start.ensures.nothing (sym c.text_slot.ensures) more))
+    (λ more. e.shows (Conv k) [] (ap Conv (sym same)) (sym c.text_slot.ensures) c.requires.plain c.start.ensures.nothing more)
+    (λ more. e.ends [] proper (sym same) c.requires.plain c.start.ensures.nothing (sym c.text_slot.ensures) more))

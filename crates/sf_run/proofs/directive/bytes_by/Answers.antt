@@ -10,7 +10,7 @@ returns-clause-answers c k is item proper ink n =
     subst (λ (o : Option ℕ). IfSome o (ItemWithin k.shape k.width c.args.piece.now)) c.in_ok-item.was item in
     let some = own.some in
     let below = own.behind in
-    bytes_read k n c.in_ok-item.item c.args.piece.now c.finish_bytes.result proper is.shape own (ink (omega (arith, below)))
+    bytes_read k is.plain n c.in_ok-item.item c.args.piece.now c.finish_bytes.result proper is.shape own (ink (omega (arith, below)))
     (λ none. c.finish_bytes.ensures.none (sym is.slot ∙ none)) (λ slot some. c.finish_bytes.ensures.some slot (sym is.slot ∙ some))
 
 pub returns-clause-fits : goal.returns-clause-fits

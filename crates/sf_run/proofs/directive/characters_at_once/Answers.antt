@@ -12,4 +12,4 @@ returns c k shape is n =
     let item = subst (λ (s : Shape). IfSome c.characters_item.result (ItemWithin s k.width piece)) (sym shape)
     (c.characters_item.ensures.has k.width is.width) in
     let own = c.bytes_by.ensures in
-    ends_unskipped k n piece c.bytes_by.result (ap shape_skips shape) (own.answers k is item) (own.fits k is item)
+    ends_unskipped k is.plain n piece c.bytes_by.result (ap shape_skips shape) (own.answers k is item) (own.fits k is item)

@@ -5,10 +5,10 @@ use Rattle.sf_run.proofs.directive.ended_by_run.Goals as goal
 
 pub returns-clause-ends : goal.returns-clause-ends
 returns-clause-ends c =
-    ended_by c.args.directive.now c.args.used c.args.piece.now c.run_on.result c.as_ended.result c.as_ended.ensures.is
-    (λ proper. c.run_on.ensures.answers Skipping proper refl) c.run_on.ensures.suits
+    ended_by c.args.directive.now c.args.used c.args.piece.now c.run_on-run.result c.as_ended.result c.as_ended.ensures.is
+    (λ proper. c.run_on-run.ensures.answers Skipping proper refl) c.run_on-run.ensures.suits
 
 pub returns-clause-waits : goal.returns-clause-waits
 returns-clause-waits c none proper room sure =
-    waits_late c.args.directive.now c.args.used c.args.piece.now room c.run_on.result (c.as_ended.ensures.none none)
-    (c.run_on.ensures.answers Skipping proper refl) c.run_on.ensures.suits sure
+    waits_late c.args.directive.now c.args.used c.args.piece.now room c.run_on-run.result (c.as_ended.ensures.none none)
+    (c.run_on-run.ensures.answers Skipping proper refl) c.run_on-run.ensures.suits sure

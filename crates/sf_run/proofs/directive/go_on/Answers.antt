@@ -19,7 +19,7 @@ returns-clause-can c f proper h =
     (e.each f h)
 
 pub returns-clause-ends : goal.returns-clause-ends
-returns-clause-ends c f proper same h text some =
+returns-clause-ends c f proper same plain h text some =
     let k : Conversion = c.args.conversion.now in
     let e = c.take_run-item.ensures in
     let scan = c.take_run-item.new.self in
@@ -27,8 +27,9 @@ returns-clause-ends c f proper same h text some =
     let own = e.conversion ∙ sym same in
     let taken = e.taken f h in
     let other = ap (λ (x : Conversion). is_count x.shape) (sym own) ∙ scan_has_item scan _ taken in
-    over_ends k (conversion_of scan) (f ++ take n c.args.piece.now) (drop n c.args.piece.now) c.finish_taken.result own other
-    (c.is_over.ensures.over f (subst (λ (x : Conversion). IsProper (Conv x)) (sym own) proper) taken
+    over_ends k (conversion_of scan) (f ++ take n c.args.piece.now) (drop n c.args.piece.now) c.finish_taken.result own plain other
+    (c.is_over.ensures.over f (subst (λ (x : Conversion). IsProper (Conv x)) (sym own) proper)
+    (ap (λ (x : Conversion). x.column) own ∙ plain) taken
     (λ below can. e.stops f h below (subst (λ (x : Conversion). CanTake x (f ++ take (n + 1) c.args.piece.now)) e.conversion can))
     c.if-not-is_over.false)
     (c.finish_taken.ensures.end (f ++ take n c.args.piece.now) some (sym own) taken text)

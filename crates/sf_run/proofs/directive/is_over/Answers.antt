@@ -8,14 +8,14 @@ use Rattle.sf_run.proofs.Stages.{item_full, shown_full}
 use Rattle.sf_run.proofs.directive.is_over.Goals as goal
 
 pub returns-then-item-piece-clause-over : goal.returns-then-item-piece-clause-over
-returns-then-item-piece-clause-over c f proper h never over = grind (arith, over_next)
+returns-then-item-piece-clause-over c f proper plain h never over = grind (arith, over_next)
 
 pub returns-else-item-piece-clause-over : goal.returns-else-item-piece-clause-over
-returns-else-item-piece-clause-over c f proper h never full =
+returns-else-item-piece-clause-over c f proper plain h never full =
     let scan = c.args.scan.now in
     let item = f ++ take c.args.item c.args.piece.now in
     stays_full (Conv (conversion_of scan)) (Item item) (drop c.args.item c.args.piece.now) proper
-    (sym (item_full scan item c.is_full.result proper.0 (c.is_full.ensures item h proper.0)) ∙ full)
+    (sym (item_full scan item c.is_full.result proper.0 plain (c.is_full.ensures item h proper.0)) ∙ full)
 
 pub returns-else-item-piece-clause-more : goal.returns-else-item-piece-clause-more
 returns-else-item-piece-clause-more c d slot q proper shows none =

@@ -12,5 +12,7 @@ returns-in_ok-ended-in-Conv c n =
     let r = c.in_ok-ended-in-Conv.ended in
     let e : Ended = record { before = c.skipped-before.result; item = r.item; finished = r.finished } in
     subst (λ (d : Directive). EndsAtOnce d n c.args.piece.now e) (sym c.in-Conv.is)
-    (ended_behind c.in-Conv.conversion n c.skipped-before.result c.args.piece.now _ r c.split_at.ensures.back skip.within
-    skip.white skip.next own.before own.answers own.fits)
+    (ended_behind c.in-Conv.conversion (λ _. c.if-conversion.false) n c.skipped-before.result c.args.piece.now _ r c.split_at.ensures.back
+    skip.within
+    skip.white skip.next own.before
+    (λ sound. own.answers sound.0) own.fits)

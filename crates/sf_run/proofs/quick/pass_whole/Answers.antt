@@ -1,12 +1,12 @@
 use Rattle.std.proofs.Common.{refl, sym, subst, Option, Some, None}
 use Rattle.std.specs.Prelude.{IfSome, IsNone, IsSome}
 use Rattle.sf_base.specs.stores.Kept.{Kept}
-use Rattle.sf_run.specs.declared.directive.Ended.{Ended}
+use Rattle.sf_run.specs.declared.directive.EndedColumn.{EndedColumn}
 use Rattle.sf_run.specs.Quick.{EndsSo, IsSure, MayBeGiven}
 use Rattle.sf_run.specs.Texts.{slot_of}
 use Rattle.sf_run.proofs.quick.pass_whole.Goals as goal
 
-by_end : {P : Type 0} (o : Option Ended) → (IsSome o → P) → (IsNone o → ⊥) → P
+by_end : {P : Type 0} (o : Option EndedColumn) → (IsSome o → P) → (IsNone o → ⊥) → P
 by_end None some none = absurd (none refl)
 by_end (Some e) some none = some refl
 

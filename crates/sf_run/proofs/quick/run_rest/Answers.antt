@@ -12,7 +12,7 @@ use Rattle.sf_run.specs.Counting.{HasCome}
 use Rattle.sf_run.specs.Quick.{EndsSo, IsEndedWithin, IsSure}
 use Rattle.sf_run.specs.declared.quick.Place.{Place}
 use Rattle.sf_run.proofs.AtOnce.{after_place, come_done, come_failed, come_on, free_at, placed}
-use Rattle.sf_run.proofs.Moves.{proper_at}
+use Rattle.sf_run.proofs.Moves.{sound_at, sound_of}
 use Rattle.sf_run.proofs.Slots.{apart_from}
 use Rattle.sf_run.proofs.Surely.{sure_next}
 use Rattle.sf_run.proofs.quick.run_rest.Goals as goal
@@ -40,7 +40,7 @@ returns-in_err-passage-clause-answers g c capacity roomy ended =
     let rest : List ℕ = c.split_at-in-loop-come.result.1.now in
     let old : Kept = g.S.Store.kept c.loop-come.store in
     let at = at_place ds.result.now come.left d c.loop-come-test.true c.loop-come.invariant.short c.index-directives-at.is in
-    let proper = proper_at ds.result.now _ d ds.ensures.proper at in
+    let sound = sound_at ds.result.now _ d (sound_of ds.result.now _ ds.ensures.value ds.ensures.proper ds.ensures.accepted) at in
     let own : IsEndedWithin ds.result.now c.args.limit c.args.piece.now capacity =
     subst (λ (l : List Directive). IsEndedWithin l c.args.limit c.args.piece.now capacity) (sym ds.ensures.value) ended in
     let back = c.split_at-in-loop-come.ensures.back in
@@ -51,7 +51,7 @@ returns-in_err-passage-clause-answers g c capacity roomy ended =
     c.split_at.ensures.front c.split_at.ensures.front_len c.min-most.ensures c.loop-come.invariant.come
     (after_place front come.used c.loop-come.invariant.low) (omega (arith, roomy, room)) own in
     let here : IsSure d come.used rest old.room = subst (λ (y : List ℕ). IsSure d come.used y old.room) (sym back) sure in
-    absurd (let h = c.in_err-passage.ensures.sure proper here in cc)
+    absurd (let h = c.in_err-passage.ensures.sure sound here in cc)
 
 pub returns-in-Fails-clause-run : goal.returns-in-Fails-clause-run
 returns-in-Fails-clause-run g c = λ z ending.
@@ -63,7 +63,7 @@ returns-in-Fails-clause-run g c = λ z ending.
     let new : Kept = g.S.Store.kept c.pass_whole.new.store in
     let passage = c.in_ok-passage.passage in
     let at = at_place ds.result.now come.left d c.loop-come-test.true c.loop-come.invariant.short c.index-directives-at.is in
-    let proper = proper_at ds.result.now _ d ds.ensures.proper at in
+    let sound = sound_at ds.result.now _ d (sound_of ds.result.now _ ds.ensures.value ds.ensures.proper ds.ensures.accepted) at in
     let o : Outcome = c.failed.result in
     let same = ap length ds.ensures.value in
     subst (λ (l : List Directive). RunWithin l c.args.limit (c.args.piece.now ++ z) ending (report_by o new.values)) ds.ensures.value
@@ -72,7 +72,7 @@ returns-in-Fails-clause-run g c = λ z ending.
     (let long = c.split_at.ensures.front_len in let least = c.min-most.ensures in omega (arith, long, least))
     c.loop-come.invariant.come
     (subst (λ (y : List ℕ). EndsSo d come.used y passage old new) c.split_at-in-loop-come.ensures.back
-    (c.in_ok-passage.ensures.ends proper))
+    (c.in_ok-passage.ensures.ends sound))
     c.in-Fails.is c.failed.ensures.status c.failed.ensures.at c.failed.ensures.used
     (subst (λ (l : List Directive). o.assigned ≡ items_assigned (take (length ds.result.now - come.left) l) - c.loop-come.missing.assigned)
     (sym ds.ensures.value) c.failed.ensures.assigned)
@@ -91,10 +91,11 @@ run_rows-come-requires-clause-come g c =
     let passage = c.in_ok-passage.passage in
     let next : Place = record { left = come.left - 1; used = come.used + passage.taken } in
     let at = at_place ds.result.now come.left d c.loop-come-test.true c.loop-come.invariant.short c.index-directives-at.is in
-    let on = come_on ds.result.now front come next d c.loop-come.missing old new passage at c.loop-come-test.true
+    let sound = sound_at ds.result.now _ d (sound_of ds.result.now _ ds.ensures.value ds.ensures.proper ds.ensures.accepted) at in
+    let on = come_on ds.result.now front come next d c.loop-come.missing old new passage sound.1 at c.loop-come-test.true
     c.loop-come.invariant.short c.loop-come.invariant.low c.loop-come.invariant.come
     (subst (λ (y : List ℕ). EndsSo d come.used y passage old new) c.split_at-in-loop-come.ensures.back
-    (c.in_ok-passage.ensures.ends (proper_at ds.result.now _ d ds.ensures.proper at))) refl refl in
+    (c.in_ok-passage.ensures.ends sound)) refl refl in
     let m = c.match-passage in
     let here : HasCome c.args.format.now front next m.missing new =
     subst (λ (l : List Directive). HasCome l front next m.missing new) ds.ensures.value (elim m.branch [
@@ -116,10 +117,11 @@ loop-come-preserved g c =
     let passage = c.in_ok-passage.passage in
     let next : Place = record { left = come.left - 1; used = come.used + passage.taken } in
     let at = at_place ds.result.now come.left d c.loop-come-test.true c.loop-come.invariant.short c.index-directives-at.is in
-    let on = come_on ds.result.now front come next d c.loop-come.missing old new passage at c.loop-come-test.true
+    let sound = sound_at ds.result.now _ d (sound_of ds.result.now _ ds.ensures.value ds.ensures.proper ds.ensures.accepted) at in
+    let on = come_on ds.result.now front come next d c.loop-come.missing old new passage sound.1 at c.loop-come-test.true
     c.loop-come.invariant.short c.loop-come.invariant.low c.loop-come.invariant.come
     (subst (λ (y : List ℕ). EndsSo d come.used y passage old new) c.split_at-in-loop-come.ensures.back
-    (c.in_ok-passage.ensures.ends (proper_at ds.result.now _ d ds.ensures.proper at))) refl refl in
+    (c.in_ok-passage.ensures.ends sound)) refl refl in
     let m = c.match-passage in
     let here : HasCome c.args.format.now front next m.missing new =
     subst (λ (l : List Directive). HasCome l front next m.missing new) ds.ensures.value (elim m.branch [

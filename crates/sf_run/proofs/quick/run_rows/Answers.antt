@@ -6,7 +6,7 @@ use Rattle.sf_format.specs.declared.directive.Directive.{Directive}
 use Rattle.sf_format.specs.declared.layout.Row.{Row}
 use Rattle.sf_run.specs.Counting.{Counted, HasCome}
 use Rattle.sf_run.proofs.AtOnce.{come_of, counting, free_at, placed}
-use Rattle.sf_run.proofs.Moves.{proper_at}
+use Rattle.sf_run.proofs.Moves.{sound_at, sound_of}
 use Rattle.sf_run.proofs.RowsLeft.{as_many, first_left, from_end, left_next, nothing_left, opens, there}
 use Rattle.sf_run.proofs.Slots.{apart_from}
 use Rattle.sf_run.proofs.quick.run_rows.Goals as goal
@@ -88,7 +88,7 @@ loop-row-preserved g c =
     let d : Directive = c.index-directives-at.result in
     let at' : slice_get ds.result.now i ≡ Some d = there rows ds.result.now _ left c.in-Some.row.now d c.rows-rows.ensures ds.ensures.value
     c.loop-row.invariant.short c.in-Some.ensures.value c.index-directives-at.is in
-    let proper = proper_at ds.result.now i d ds.ensures.proper at' in
+    let sound = sound_at ds.result.now i d (sound_of ds.result.now _ ds.ensures.value ds.ensures.proper ds.ensures.accepted) at' in
     let front : List ℕ = c.args.front.now in
     let rest : List ℕ = c.loop-row.rest.now in
     let old : Kept = g.S.Store.kept c.loop-row.store in
@@ -113,8 +113,8 @@ loop-row-preserved g c =
       low = omega (arith, low, less);
       counted = λ missing come.
           subst (λ k. Counted ds.result.now front on k missing new) next
-          ((counting ds.result.now front rest on i d n missing old new _ at' (c.loop-row.invariant.counted missing come) refl
-          (c.in-Some-pass.ensures.passes proper) back).0 refl);
+          ((counting ds.result.now front rest on i d n missing old new _ sound.1 at' (c.loop-row.invariant.counted missing come) refl
+          (c.in-Some-pass.ensures.passes sound) back).0 refl);
       room = (let before = c.loop-row.invariant.room in let more = c.pass.ensures.room in omega (arith, before, more));
     }
 

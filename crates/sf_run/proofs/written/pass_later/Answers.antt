@@ -2,7 +2,7 @@ use Rattle.std.proofs.Common.{◌≡◌, ◌-◌, ◌∙◌, List, length, take,
 use Rattle.std.proofs.lemmas.Option.{get_or_from_slice_get}
 use Rattle.std.specs.Prelude.{ℕ, IfSome, slice_get}
 use Rattle.sf_format.specs.declared.directive.Directive.{Directive}
-use Rattle.sf_format.specs.Proper.{IsProper}
+use Rattle.sf_run.specs.Texts.{IsSound}
 use Rattle.sf_run.specs.Written.{IsWrittenSurely, PassesWriting}
 use Rattle.sf_run.proofs.written.pass_later.Goals as goal
 
@@ -19,7 +19,7 @@ returns-clause-passes g c d at proper =
     (there c.args.format.now ds c.args.left d (sym c.directives-directives.ensures.value) at) in
     subst (λ (e : Directive). IfSome c.pass_whole.result (λ run. PassesWriting g.W.ValueWriter.text e c.args.used c.args.piece.now
     run.used (take c.args.at c.args.room.now) (take run.end c.pass_whole.new.room)))
-    is (c.pass_whole.ensures.passes (subst (λ (e : Directive). IsProper e) (sym is) proper))
+    is (c.pass_whole.ensures.passes (subst (λ (e : Directive). IsSound e) (sym is) proper))
 
 pub returns-clause-sure : goal.returns-clause-sure
 returns-clause-sure g c d at proper free sure room =
@@ -27,5 +27,5 @@ returns-clause-sure g c d at proper free sure room =
     let is : c.index-directives-index.result ≡ d =
     c.index-directives-index.is ∙ get_or_from_slice_get ds (length ds - c.args.left) d c.index-directives-index.result
     (there c.args.format.now ds c.args.left d (sym c.directives-directives.ensures.value) at) in
-    c.pass_whole.ensures.sure (subst (λ (e : Directive). IsProper e) (sym is) proper) free
+    c.pass_whole.ensures.sure (subst (λ (e : Directive). IsSound e) (sym is) proper) free
     (subst (λ (e : Directive). IsWrittenSurely g.W.ValueWriter.text e c.args.used c.args.piece.now free) (sym is) sure) room

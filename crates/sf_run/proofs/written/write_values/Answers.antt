@@ -10,7 +10,7 @@ use Rattle.sf_run.specs.Written.{IsWritten, PassesWriting, text_given}
 use Rattle.sf_run.specs.declared.written.WrittenRun.{WrittenRun}
 use Rattle.sf_run.specs.Counting.{Counted}
 use Rattle.sf_run.proofs.AtOnce.{counted_run, counting_on, nothing_counted, some_slot}
-use Rattle.sf_run.proofs.Moves.{proper_at}
+use Rattle.sf_run.proofs.Moves.{sound_at, sound_of}
 use Rattle.sf_run.proofs.RowsLeft.{as_many, first_left, from_end, left_next, nothing_left, opens, still_left}
 use Rattle.sf_run.proofs.Following.{next_written, written_as}
 use Rattle.sf_run.proofs.Writing.{keeps, kept_with, text_after}
@@ -75,7 +75,7 @@ loop-row-preserved g c =
     let d : Directive = c.index-directives-at.result in
     let at : slice_get ds.result.now i ≡ Some d = slice_get_read ds.result.now
     (length ds.result.now) i d refl within c.index-directives-at.is in
-    let proper = proper_at ds.result.now i d ds.ensures.proper at in
+    let sound = sound_at ds.result.now i d (sound_of ds.result.now _ ds.ensures.value ds.ensures.proper ds.ensures.accepted) at in
     let front : List ℕ = c.split_at.result.0.now in
     let rest : List ℕ = c.loop-row.rest.now in
     let others : List Row = c.split_at-in-Some-2.result.1.now in
@@ -93,9 +93,9 @@ loop-row-preserved g c =
     let w : PassesWriting text d n rest passed.used old (take passed.end c.match-ended_at_once.room) =
     elim c.match-ended_at_once.branch [
       | in-Some-ended_at_once+in_ok-passed-in-Some-ended_at_once w ↦
-          written_as text d n rest _ passed old _ _ w.passed-is w.room-is (w.in_ok-passed-in-Some-ended_at_once.ensures.passes proper)
+          written_as text d n rest _ passed old _ _ w.passed-is w.room-is (w.in_ok-passed-in-Some-ended_at_once.ensures.passes sound)
       | in-None+in_ok-passed-in-None w ↦
-          written_as text d n rest _ passed old _ _ w.passed-is w.room-is (w.in_ok-passed-in-None.ensures.passes d later proper)
+          written_as text d n rest _ passed old _ _ w.passed-is w.room-is (w.in_ok-passed-in-None.ensures.passes d later sound)
     ] in
     let place : passed.end ≤ length c.match-ended_at_once.room =
     elim c.match-ended_at_once.branch [
@@ -143,16 +143,17 @@ returns-in_err-passed-in-Some-ended_at_once-clause-answers g c capacity done fit
     let d : Directive = c.index-directives-at.result in
     let at : slice_get ds.result.now i ≡ Some d = slice_get_read ds.result.now
     (length ds.result.now) i d refl within c.index-directives-at.is in
-    let proper = proper_at ds.result.now i d ds.ensures.proper at in
+    let sound = sound_at ds.result.now i d (sound_of ds.result.now _ ds.ensures.value ds.ensures.proper ds.ensures.accepted) at in
     let front : List ℕ = c.split_at.result.0.now in
     let rest : List ℕ = c.loop-row.rest.now in
     let so_far = c.loop-row.invariant.counted capacity in
     let wide = c.loop-row.auto.room in
-    let h = next_written g.W.ValueWriter.text g.W.ValueWriter.spare ds.result.now c.args.format.now ds.ensures.value ds.ensures.proper
-    c.args.limit c.min-most.result (length front - length rest) c.args.piece.now front rest i d so_far.0 capacity c.loop-row.end
+    let h = next_written g.W.ValueWriter.text g.W.ValueWriter.spare ds.result.now c.args.format.now ds.ensures.value
+    (sound_of ds.result.now _ ds.ensures.value ds.ensures.proper ds.ensures.accepted) c.args.limit c.min-most.result (length front - length
+    rest) c.args.piece.now front rest i d so_far.0 capacity c.loop-row.end
     c.loop-row.room at c.split_at.ensures.front c.split_at.ensures.front_len c.min-most.ensures so_far.1 refl so_far.3
     c.loop-row.invariant.place so_far.2 done (omega (arith, fits, wide)) in
-    absurd (let r = c.in_err-passed-in-Some-ended_at_once.ensures.sure proper h.0 h.1 h.2 in cc)
+    absurd (let r = c.in_err-passed-in-Some-ended_at_once.ensures.sure sound h.0 h.1 h.2 in cc)
 
 pub returns-in_err-passed-in-None-clause-answers : goal.returns-in_err-passed-in-None-clause-answers
 returns-in_err-passed-in-None-clause-answers g c capacity done fits =
@@ -165,18 +166,19 @@ returns-in_err-passed-in-None-clause-answers g c capacity done fits =
     let d : Directive = c.index-directives-at.result in
     let at : slice_get ds.result.now i ≡ Some d = slice_get_read ds.result.now
     (length ds.result.now) i d refl within c.index-directives-at.is in
-    let proper = proper_at ds.result.now i d ds.ensures.proper at in
+    let sound = sound_at ds.result.now i d (sound_of ds.result.now _ ds.ensures.value ds.ensures.proper ds.ensures.accepted) at in
     let front : List ℕ = c.split_at.result.0.now in
     let rest : List ℕ = c.loop-row.rest.now in
     let so_far = c.loop-row.invariant.counted capacity in
     let wide = c.loop-row.auto.room in
-    let h = next_written g.W.ValueWriter.text g.W.ValueWriter.spare ds.result.now c.args.format.now ds.ensures.value ds.ensures.proper
-    c.args.limit c.min-most.result (length front - length rest) c.args.piece.now front rest i d so_far.0 capacity c.loop-row.end
+    let h = next_written g.W.ValueWriter.text g.W.ValueWriter.spare ds.result.now c.args.format.now ds.ensures.value
+    (sound_of ds.result.now _ ds.ensures.value ds.ensures.proper ds.ensures.accepted) c.args.limit c.min-most.result (length front - length
+    rest) c.args.piece.now front rest i d so_far.0 capacity c.loop-row.end
     c.loop-row.room at c.split_at.ensures.front c.split_at.ensures.front_len c.min-most.ensures so_far.1 refl so_far.3
     c.loop-row.invariant.place so_far.2 done (omega (arith, fits, wide)) in
     let later : slice_get c.args.format.now (length c.args.format.now - length left) ≡ Some d =
     from_end rows ds.result.now c.args.format.now (length left) d c.rows-rows.ensures ds.ensures.value at in
-    absurd (let r = c.in_err-passed-in-None.ensures.sure d later proper h.0 h.1 h.2 in cc)
+    absurd (let r = c.in_err-passed-in-None.ensures.sure d later sound h.0 h.1 h.2 in cc)
 
 pub returns-clause-run : goal.returns-clause-run
 returns-clause-run g c =

@@ -16,9 +16,10 @@ returns-in-Err g c =
     let print = option_map string_bytes order.print in
     let passed = map string_bytes order.ignored.items in
     let words = map string_bytes order.texts.items in
-    let by_form = subst (λ form. IsRefused c.grammar_of-profile.result form print passed words word fault) c.form_of.ensures
+    let by_form = subst (λ form. IsRefused order.strict c.grammar_of-profile.result form print passed words word fault) c.form_of.ensures
     c.in-Err.ensures.err in
-    let refused = subst (λ profile. IsRefused profile (form_of order.output) print passed words word fault) c.grammar_of-profile.ensures
+    let refused = subst (λ profile. IsRefused order.strict profile (form_of order.output) print passed words word fault)
+    c.grammar_of-profile.ensures
     by_form in
     let ended = subst (λ (s : _). EndsRefused g.C.Console.Hands g.C.Console.said g.C.Console.unsaid c.args.watched c.args.explain
     (g.R.Reasons.why_unread s) (g.C.Console.why c.args.out.now) order word fault c.args.out.now c.end_refused.new.out c.args.err.now
@@ -32,7 +33,8 @@ returns-in-Err g c =
           inl ((fault, refl, (word, refused)), refl, refl, refl),
           (
             notes,
-            more_of_refused_lines (grammar_of order.profile) (form_of order.output) print passed words c.args.explain word notes fault
+            more_of_refused_lines order.strict (grammar_of order.profile) (form_of order.output) print passed words c.args.explain word
+                notes fault
                 refused says,
             (notes, inr refl, ends),
           ),

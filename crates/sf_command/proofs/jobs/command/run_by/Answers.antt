@@ -8,7 +8,8 @@ pub returns-in-Show-clause-does : goal.returns-in-Show-clause-does
 returns-in-Show-clause-does g c =
     let order = c.args.order.now in
     let texts = map string_bytes order.texts.items in
-    let is = subst (λ job. IsJobBy c.args.profile c.args.form (option_map string_bytes order.print) job order.verb texts) c.in-Show.is
+    let is = subst (λ job. IsJobBy order.strict c.args.profile c.args.form (option_map string_bytes order.print) job order.verb texts)
+    c.in-Show.is
     c.requires.job in
     show_does g.S.Source.to_come g.S.Source.failures g.K.Sink.contents g.K.Sink.failures c.args.profile c.args.form c.args.how order
     c.in-Show.scan order.verb texts is c.args.from.now c.args.out.now c.show_by.new.out c.show_by.result c.show_by.ensures.shows
@@ -18,7 +19,8 @@ pub returns-in-Print-clause-does : goal.returns-in-Print-clause-does
 returns-in-Print-clause-does g c =
     let order = c.args.order.now in
     let texts = map string_bytes order.texts.items in
-    let is = subst (λ job. IsJobBy c.args.profile c.args.form (option_map string_bytes order.print) job order.verb texts) c.in-Print.is
+    let is = subst (λ job. IsJobBy order.strict c.args.profile c.args.form (option_map string_bytes order.print) job order.verb texts)
+    c.in-Print.is
     c.requires.job in
     print_does g.S.Source.to_come g.S.Source.failures g.K.Sink.contents g.K.Sink.failures c.args.profile c.args.form c.args.how order
     c.in-Print.print order.verb texts is (map string_bytes c.after_first.result.now)
@@ -30,7 +32,8 @@ pub returns-in-Check-clause-does : goal.returns-in-Check-clause-does
 returns-in-Check-clause-does g c =
     let order = c.args.order.now in
     let texts = map string_bytes order.texts.items in
-    let is = subst (λ job. IsJobBy c.args.profile c.args.form (option_map string_bytes order.print) job order.verb texts) c.in-Check.is
+    let is = subst (λ job. IsJobBy order.strict c.args.profile c.args.form (option_map string_bytes order.print) job order.verb texts)
+    c.in-Check.is
     c.requires.job in
     check_does g.S.Source.to_come g.S.Source.failures g.K.Sink.contents g.K.Sink.failures c.args.profile c.args.form c.args.how order
     c.in-Check.print c.in-Check.scan c.in-Check.verdict order.verb texts is c.args.from.now c.args.out.now c.tell_verdict.new.out
@@ -40,7 +43,8 @@ pub returns-in-Copy-clause-does : goal.returns-in-Copy-clause-does
 returns-in-Copy-clause-does g c =
     let order = c.args.order.now in
     let texts = map string_bytes order.texts.items in
-    let is = subst (λ job. IsJobBy c.args.profile c.args.form (option_map string_bytes order.print) job order.verb texts) c.in-Copy.is
+    let is = subst (λ job. IsJobBy order.strict c.args.profile c.args.form (option_map string_bytes order.print) job order.verb texts)
+    c.in-Copy.is
     c.requires.job in
     copy_does g.S.Source.to_come g.S.Source.failures g.K.Sink.contents g.K.Sink.failures c.args.profile c.args.form c.args.how order
     c.in-Copy.print c.in-Copy.scan order.verb texts is c.args.from.now c.copy_by.new.from c.args.out.now c.copy_by.new.out

@@ -9,7 +9,11 @@ use Rattle.sf_command.proofs.jobs.formats.read_scan_text.Goals as goal
 pub returns-in-Ok-clause-ok : goal.returns-in-Ok-clause-ok
 returns-in-Ok-clause-ok c = record {
   stands = c.in_ok-text.ensures.ok;
-  spells = subst (λ bytes. Spells c.args.profile bytes c.in-Ok.format) c.deref.ensures.value c.in-Ok.ensures.spelled;
+  spells = (
+    c.in-Ok.format,
+    subst (λ bytes. Spells c.args.profile bytes c.in-Ok.format) c.deref.ensures.value c.in-Ok.ensures.spelled,
+    c.as_read.ensures,
+  );
   faultless = λ at why faulty.
       let here : Fault c.args.profile c.deref.result.now at why =
       subst (λ bytes. Fault c.args.profile bytes at why) (sym c.deref.ensures.value) faulty in

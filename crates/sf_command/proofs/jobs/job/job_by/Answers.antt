@@ -16,8 +16,9 @@ returns-in-Show-clause-err c =
     let shown : texts ≡ word ∷ map string_bytes (drop 1 c.as_slice.result.now) =
     ap (map string_bytes) (sym c.as_slice.ensures.value) ∙ first_shown string_bytes c.as_slice.result.now c.word-item.result word
     c.in-len1-up.len_at_least c.word-item.is c.as_str-word.ensures.value in
-    if_err c.show_job.result _ _ (λ refused none. show_none c.args.profile order.verb texts _ word given refused.word.now refused.fault
-    c.in-Show.is shown c.requires none) (c.show_job.ensures.err given)
+    if_err c.show_job.result _ _ (λ refused none. show_none order.strict c.args.profile order.verb texts _ word given refused.word.now
+    refused.fault
+    c.in-Show.is shown c.requires none) (c.show_job.ensures.err order.strict given)
 
 pub returns-in-Print-clause-err : goal.returns-in-Print-clause-err
 returns-in-Print-clause-err c =
@@ -29,10 +30,12 @@ returns-in-Print-clause-err c =
     let shown : texts ≡ word ∷ more =
     ap (map string_bytes) (sym c.as_slice.ensures.value) ∙ first_shown string_bytes c.as_slice.result.now c.word-item.result word
     c.in-len1-up.len_at_least c.word-item.is c.as_str-word.ensures.value in
-    subst (λ (of : Verb). IfErr c.print_job.result (λ refused. IsNoJobBy c.args.profile of texts given refused.word.now refused.fault))
+    subst (λ (of : Verb). IfErr c.print_job.result (λ refused. IsNoJobBy order.strict c.args.profile of texts given refused.word.now
+    refused.fault))
     (sym c.in-Print.is)
-    (subst (λ (ts : List (List ℕ)). IfErr c.print_job.result (λ refused. IsNoJobBy c.args.profile verb.Print ts given refused.word.now
-    refused.fault)) (sym shown) (c.print_job.ensures.err given more))
+    (subst (λ (ts : List (List ℕ)). IfErr c.print_job.result (λ refused. IsNoJobBy order.strict c.args.profile verb.Print ts given
+    refused.word.now
+    refused.fault)) (sym shown) (c.print_job.ensures.err order.strict given more))
 
 -- the words are shown by the first and those after it
 pub check_job_of-requires : goal.check_job_of-requires
@@ -55,10 +58,10 @@ returns-in-Check-clause-err c =
     ap (map string_bytes) (sym c.as_slice.ensures.value) ∙ first_shown string_bytes c.as_slice.result.now c.word-item.result word
     c.in-len1-up.len_at_least c.word-item.is c.as_str-word.ensures.value
     ∙ ap (λ (ts : List _). word ∷ map string_bytes ts) (sym rest) in
-    subst (λ (of : Verb). IfErr c.check_job_of.result (λ refused. IsNoJobBy c.args.profile of texts given refused.word.now
+    subst (λ (of : Verb). IfErr c.check_job_of.result (λ refused. IsNoJobBy order.strict c.args.profile of texts given refused.word.now
     refused.fault)) (sym c.in-Check.is)
-    (subst (λ (ts : List (List ℕ)). IfErr c.check_job_of.result (λ refused. IsNoJobBy c.args.profile verb.Check ts given
-    refused.word.now refused.fault)) (sym shown) (c.check_job_of.ensures.err given))
+    (subst (λ (ts : List (List ℕ)). IfErr c.check_job_of.result (λ refused. IsNoJobBy order.strict c.args.profile verb.Check ts given
+    refused.word.now refused.fault)) (sym shown) (c.check_job_of.ensures.err order.strict given))
 
 pub returns-in-Copy-clause-err : goal.returns-in-Copy-clause-err
 returns-in-Copy-clause-err c =
@@ -72,7 +75,7 @@ returns-in-Copy-clause-err c =
     ap (map string_bytes) (sym c.as_slice.ensures.value) ∙ first_shown string_bytes c.as_slice.result.now c.word-item.result word
     c.in-len1-up.len_at_least c.word-item.is c.as_str-word.ensures.value
     ∙ ap (λ (ts : List _). word ∷ map string_bytes ts) (sym rest) in
-    subst (λ (of : Verb). IfErr c.copy_job_of.result (λ refused. IsNoJobBy c.args.profile of texts given refused.word.now
+    subst (λ (of : Verb). IfErr c.copy_job_of.result (λ refused. IsNoJobBy order.strict c.args.profile of texts given refused.word.now
     refused.fault)) (sym c.in-Copy.is)
-    (subst (λ (ts : List (List ℕ)). IfErr c.copy_job_of.result (λ refused. IsNoJobBy c.args.profile verb.Copy ts given
-    refused.word.now refused.fault)) (sym shown) (c.copy_job_of.ensures.err given))
+    (subst (λ (ts : List (List ℕ)). IfErr c.copy_job_of.result (λ refused. IsNoJobBy order.strict c.args.profile verb.Copy ts given
+    refused.word.now refused.fault)) (sym shown) (c.copy_job_of.ensures.err order.strict given))

@@ -9,5 +9,6 @@ returns-in-Err-clause-err c =
 
 pub returns-in-Err-formats_of-clause-err : goal.returns-in-Err-formats_of-clause-err
 returns-in-Err-formats_of-clause-err c =
-    refused_after c.args.profile (map string_bytes c.args.ignored.now) (map string_bytes c.args.words.now) c.in-Ok.formats.items
+    refused_after c.args.strict c.args.profile (map string_bytes c.args.ignored.now) (map string_bytes c.args.words.now)
+    c.in-Ok.formats.items
     c.in-Err-formats_of.refused.word.now c.in-Err-formats_of.refused.fault c.in-Ok.ensures.ok c.in-Err-formats_of.ensures.err

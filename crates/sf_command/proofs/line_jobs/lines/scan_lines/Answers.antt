@@ -22,14 +22,15 @@ returns-in_err-text g c =
     let passed : List (List ℕ) = map string_bytes order.ignored.items in
     let profile = grammar_of order.profile in
     let some : 0 < length words = omega (arith, length-map texts string_bytes, c.requires.some) in
-    let (word, first) = refused_memory profile words c.args.job.now.formats.tried.items c.requires.tried some in
+    let (word, first) = refused_memory order.strict profile words c.args.job.now.formats.tried.items c.requires.tried some in
     let form = form_of order.output in
     let print = option_map string_bytes order.print in
-    let none : AreRefused profile form print passed words Memory = no_memory profile form print passed words c.args.job.now.writing
+    let none : AreRefused order.strict profile form print passed words Memory = no_memory order.strict profile form print passed words
+    c.args.job.now.writing
     c.requires.writing word
-    (refused_after profile passed words c.args.job.now.formats.ignored.items word Memory c.requires.ignored first) in
-    let bad : AreRefused profile form print passed words c.in_err-text.field-0.0 =
-    subst (λ fault. AreRefused profile form print passed words fault) (sym c.in_err-text.ensures.err) none in
+    (refused_after order.strict profile passed words c.args.job.now.formats.ignored.items word Memory c.requires.ignored first) in
+    let bad : AreRefused order.strict profile form print passed words c.in_err-text.field-0.0 =
+    subst (λ fault. AreRefused order.strict profile form print passed words fault) (sym c.in_err-text.ensures.err) none in
     search (rules, bad)
 
 pub invariant_of-scan : goal.invariant_of-scan
@@ -46,11 +47,11 @@ invariant_of-scan g c =
     λ e. subst (λ w. OfWord Unescapes w c.in_ok-text.text.items)
     (c.last_word.ensures ∙ ap (λ ts. slice_get (map string_bytes ts) (length ts - 1)) c.deref.ensures.value
     ∙ ap (λ n. slice_get words (n - 1)) (sym size)) (c.in_ok-text.ensures.ok e) in
-    let some : 0 < length formats = omega (arith, as_many profile words formats c.requires.tried, size, c.requires.some) in
+    let some : 0 < length formats = omega (arith, as_many order.strict profile words formats c.requires.tried, size, c.requires.some) in
     let said : (ds : List Directive) → slice_get formats (length formats - 1) ≡ Some ds
     → SomeIsSaid (file_name order) profile quiet explain c.deref-4.result.now ds =
     λ ds is. subst (λ t. SomeIsSaid (file_name order) profile quiet explain t ds) (sym c.deref-4.ensures.value)
-    (some_said (file_name order) profile quiet explain words formats c.requires.tried (omega (arith, size, c.requires.some))
+    (some_said (file_name order) order.strict profile quiet explain words formats c.requires.tried (omega (arith, size, c.requires.some))
     c.in_ok-text.text.items reads ds
     is) in
     let both : (tried : List (List Directive)) → tried ≡ formats
@@ -78,7 +79,8 @@ returns g c =
     λ e. subst (λ w. OfWord Unescapes w text)
     (c.last_word.ensures ∙ ap (λ ts. slice_get (map string_bytes ts) (length ts - 1)) c.deref.ensures.value
     ∙ ap (λ n. slice_get words (n - 1)) (sym size)) (c.in_ok-text.ensures.ok e) in
-    let (ds, telling, last, says, is) = telling_of (file_name order) profile quiet explain words formats c.requires.tried some text reads in
+    let (ds, telling, last, says, is) = telling_of (file_name order) order.strict profile quiet explain words formats c.requires.tried some
+    text reads in
     let told = subst (λ t. SaysLines (file_name order) profile quiet explain t ds telling) (sym c.deref-4.ensures.value) says in
     let there = subst (λ (fs : List (List Directive)). slice_get fs (length fs - 1) ≡ Some ds) (sym c.deref-3.ensures.value) last in
     let ran = c.lines_by.ensures ds telling there told in

@@ -6,8 +6,8 @@ use Rattle.sf_command.proofs.NoteLemmas.Explaining.{copy_says}
 use Rattle.sf_command.proofs.notes.explain.of_pair_fault.Goals as goal
 
 pub returns-in-Copy : goal.returns-in-Copy
-returns-in-Copy c form print of texts is own =
-    let here = subst (λ made. IsJobBy c.args.profile form print made of texts) c.in-Copy.is is in
+returns-in-Copy c strict form print of texts is own =
+    let here = subst (λ made. IsJobBy strict c.args.profile form print made of texts) c.in-Copy.is is in
     let fault = subst (λ made. IsOwnFault made (Pair c.args.fault)) c.in-Copy.is own in
-    if_ok c.of_verdict.result _ _ (λ notes says. inl (copy_says c.args.profile form print c.in-Copy.print c.in-Copy.scan notes.items
+    if_ok c.of_verdict.result _ _ (λ notes says. inl (copy_says c.args.profile strict form print c.in-Copy.print c.in-Copy.scan notes.items
     c.args.fault of texts here fault says)) c.of_verdict.ensures

@@ -1,6 +1,6 @@
 use Rattle.std.proofs.Common.{◌≡◌, ◌++◌, ◌∙◌, Bool, true, false, None, ap, sym, subst, arith, true≢false, refl}
-use Rattle.sf_format.specs.Proper.{AreProper}
 use Rattle.sf_run.specs.Standing.{After, Gives, ran_out}
+use Rattle.sf_run.specs.Texts.{AreSound}
 use Rattle.sf_run.specs.Scanner.{standing}
 use Rattle.sf_run.proofs.Moves.{waits_for}
 use Rattle.sf_run.proofs.Waits.{after_push, within_used, ended_gives}
@@ -11,14 +11,14 @@ pub returns-clause-after : goal.returns-clause-after
 returns-clause-after g c ds m x fine h =
     let e = c.push-taken.ensures in
     after_push ds m (standing c.args.self.now) (standing c.push-taken.new.self) x c.args.piece.now c.push-taken.result h
-    c.push-taken.new.self.bounded (λ proper. e.same proper fine) e.used e.within e.all e.stays e.keeps (λ _. e.settled) e.comes
+    c.push-taken.new.self.bounded (λ sound. e.same sound fine) e.used e.within e.all e.stays e.keeps (λ _. e.settled) e.comes
 
 pub returns-clause-state : goal.returns-clause-state
 returns-clause-state g c ds m x fine h =
     let e = c.push-taken.ensures in
     let then : After ds m (standing c.push-taken.new.self) (x ++ c.args.piece.now) =
     after_push ds m (standing c.args.self.now) (standing c.push-taken.new.self) x c.args.piece.now c.push-taken.result h
-    c.push-taken.new.self.bounded (λ proper. e.same proper fine) e.used e.within e.all e.stays e.keeps (λ _. e.settled) e.comes in
+    c.push-taken.new.self.bounded (λ sound. e.same sound fine) e.used e.within e.all e.stays e.keeps (λ _. e.settled) e.comes in
     c.state.ensures.waits ds m (x ++ c.args.piece.now) then
 
 pub returns-clause-taken : goal.returns-clause-taken
@@ -26,7 +26,7 @@ returns-clause-taken g c ds m x first second before after fine h r s =
     let e = c.push-taken.ensures in
     let then : After ds m (standing c.push-taken.new.self) (x ++ c.args.piece.now) =
     after_push ds m (standing c.args.self.now) (standing c.push-taken.new.self) x c.args.piece.now c.push-taken.result h
-    c.push-taken.new.self.bounded (λ proper. e.same proper fine) e.used e.within e.all e.stays e.keeps (λ _. e.settled) e.comes in
+    c.push-taken.new.self.bounded (λ sound. e.same sound fine) e.used e.within e.all e.stays e.keeps (λ _. e.settled) e.comes in
     let a = within_used ds m (standing c.args.self.now) x first before h r in
     let b = within_used ds m (standing c.push-taken.new.self) (x ++ c.args.piece.now) second after then s in
     omega (arith, a, b, e.used)
@@ -41,14 +41,14 @@ returns-clause-gives g c ds m x z ending h is =
       | false ↦ λ fine.
           let then : After ds m (standing c.push-taken.new.self) (x ++ c.args.piece.now) =
           after_push ds m (standing c.args.self.now) (standing c.push-taken.new.self) x c.args.piece.now c.push-taken.result h
-          c.push-taken.new.self.bounded (λ proper. e.same proper fine) e.used e.within e.all e.stays e.keeps (λ _. e.settled) e.comes in
+          c.push-taken.new.self.bounded (λ sound. e.same sound fine) e.used e.within e.all e.stays e.keeps (λ _. e.settled) e.comes in
           ended_gives ds m (standing c.push-taken.new.self) (x ++ c.args.piece.now) z ending then (c.state.ensures.exactly.0 is)
       | true ↦ λ out.
           let waits : c.args.self.now.ended ≡ None =
           waits_for c.args.self.now.ended (λ i. true≢false (sym out ∙ ap (λ t. ran_out (standing t)) (e.unchanged i)
           ∙ after_fine ds m (standing c.args.self.now) x h)) in
           refused_gives ds m (standing c.args.self.now) (standing c.push-taken.new.self) x c.args.piece.now z ending h waits e.keeps
-          (e.memory (subst (λ l. AreProper l) (sym h.format) h.proper) waits out)
+          (e.memory (subst (λ l. AreSound l) (sym h.format) (h.proper, h.columns)) waits out)
     ] in
     by (ran_out (standing c.push-taken.new.self)) refl
 

@@ -4,13 +4,14 @@ use Rattle.std.proofs.lemmas.Option.{slice_get_within}
 use Rattle.sf_run.specs.declared.directive.Finished.{Finished}
 use Rattle.sf_run.specs.declared.directive.Phase.{Phase}
 use Rattle.sf_run.specs.Phases.{Shows, end_of, slot_in}
-use Rattle.sf_run.specs.Pieces.{AnswersBy, item_of}
+use Rattle.sf_run.specs.Pieces.{AnswersBy}
 use Rattle.sf_run.specs.Standing.{Standing, TakesAll, Waits}
-use Rattle.sf_run.specs.Texts.{opened_with}
+use Rattle.sf_run.specs.Texts.{closing_text, item_of, opened_with}
 use Rattle.sf_run.specs.Scanner.{kept_by, standing}
 use Rattle.sf_run.proofs.Coming.{answer_advances, ended_advances, waits_advance}
-use Rattle.sf_run.proofs.Moves.{answer_follows, if_none, limit_follows, runs_out_refuses, waits_follow}
+use Rattle.sf_run.proofs.Moves.{answer_follows, if_none, limit_follows, waits_follow}
 use Rattle.sf_run.proofs.Pieces.{end_is, front_ends, stores_front, uses_front}
+use Rattle.sf_run.proofs.Refusals.{runs_out_refuses}
 use Rattle.sf_run.proofs.Slots.{if_some, own_text}
 use Rattle.sf_run.proofs.scanner.Scanner.hand.Goals as goal
 
@@ -21,7 +22,7 @@ pub fail-requires-clause-current : goal.fail-requires-clause-current
 fail-requires-clause-current g c = slice_get_within _ _ _ c.requires.current
 
 pub returns-then-taken-room-clause-same : goal.returns-then-taken-room-clause-same
-returns-then-taken-room-clause-same g c proper fine z =
+returns-then-taken-room-clause-same g c sound fine z =
     let s = c.args.self.now in
     let d = c.args.directive.now in
     let run = c.run_on-run.result in
@@ -35,11 +36,11 @@ returns-then-taken-room-clause-same g c proper fine z =
     (omega (arith, s.bounded, more, within, few, least, most)) (piece ++ z)
     (λ q shows.
     let all = uses_front d q s.tally.used c.min.result piece c.split_at.result.0.now run c.split_at.ensures.front within
-    (c.run_on-run.ensures.answers q proper shows) z in
+    (c.run_on-run.ensures.answers q sound shows) z in
     omega (arith, all, more))
 
 pub returns-then-not-take_all-clause-memory : goal.returns-then-not-take_all-clause-memory
-returns-then-not-take_all-clause-memory g c proper out =
+returns-then-not-take_all-clause-memory g c sound out =
     let s = c.args.self.now in
     let d = c.args.directive.now in
     let run = c.run_on-run.result in
@@ -52,13 +53,13 @@ returns-then-not-take_all-clause-memory g c proper out =
     c.if-not-take_all.ensures.refused
     (omega (arith, within, few, least)) (omega (arith, s.bounded, fits))
     (λ q shows z. uses_front d q s.tally.used c.min.result piece c.split_at.result.0.now run c.split_at.ensures.front within
-    (c.run_on-run.ensures.answers q proper shows) z)
+    (c.run_on-run.ensures.answers q sound shows) z)
     (λ q shows j below. stores_front d q s.tally.used c.min.result piece c.split_at.result.0.now run c.split_at.ensures.front within
-    (c.run_on-run.ensures.answers q proper shows)
+    (c.run_on-run.ensures.answers q sound shows)
     (slot_in run.phase) refl c.if-not-take_all.ensures.text j below)
 
 pub returns-in_default-clause-same : goal.returns-in_default-clause-same
-returns-in_default-clause-same g c proper fine z =
+returns-in_default-clause-same g c sound fine z =
     let s = c.args.self.now in
     let d = c.args.directive.now in
     let run = c.run_on-run.result in
@@ -70,7 +71,7 @@ returns-in_default-clause-same g c proper fine z =
     (omega (arith, least)) (c.run_on-run.ensures.suits.all c.in_default.is)
     (c.split_at-3.ensures.front ∙ ap (take run.item) c.split_at-2.ensures.back) c.if-not-take_all.ensures.taken
     (λ q shows. subst (λ (o : Option Finished). AnswersBy o d q s.tally.used front run) c.in_default.is
-    ((c.run_on-run.ensures.answers q proper shows).goes)) z
+    ((c.run_on-run.ensures.answers q sound shows).goes)) z
 
 pub returns-in_default-clause-settled : goal.returns-in_default-clause-settled
 returns-in_default-clause-settled g c _ =
@@ -87,7 +88,7 @@ returns-in_default-clause-settled g c _ =
     })
 
 pub returns-clause-same : goal.returns-clause-same
-returns-clause-same g c proper fine z =
+returns-clause-same g c sound fine z =
     let s = c.args.self.now in
     let d = c.args.directive.now in
     let run = c.run_on-run.result in
@@ -105,12 +106,13 @@ returns-clause-same g c proper fine z =
     c.run_on-run.ensures.suits.slot (end_is d run.phase run.ends c.in-Some.finished c.in-Some.is c.run_on-run.ensures.suits.end)
     (λ q shows.
     let a = subst (λ (o : Option Finished). AnswersBy o d q s.tally.used front run) c.in-Some.is
-    ((c.run_on-run.ensures.answers q proper shows).goes) in
-    front_ends d q s.tally.used m n piece front (end_of (item_of q ++ take run.item (drop run.before front)) c.in-Some.finished)
+    ((c.run_on-run.ensures.answers q sound shows).goes) in
+    front_ends d q s.tally.used m n piece front (end_of (closing_text d (item_of d q ++ take run.item (drop run.before front)))
+    c.in-Some.finished)
     c.split_at.ensures.front a z)
 
 pub returns-in_default-clause-comes : goal.returns-in_default-clause-comes
-returns-in_default-clause-comes g c proper =
+returns-in_default-clause-comes g c sound =
     let s = c.args.self.now in
     let d = c.args.directive.now in
     let run = c.run_on-run.result in
@@ -122,10 +124,10 @@ returns-in_default-clause-comes g c proper =
     (omega (arith, least)) (c.run_on-run.ensures.suits.all c.in_default.is)
     (c.split_at-3.ensures.front ∙ ap (take run.item) c.split_at-2.ensures.back) c.if-not-take_all.ensures.taken
     (λ q shows. subst (λ (o : Option Finished). AnswersBy o d q s.tally.used front run) c.in_default.is
-    ((c.run_on-run.ensures.answers q proper shows).goes))
+    ((c.run_on-run.ensures.answers q sound shows).goes))
 
 pub returns-clause-comes : goal.returns-clause-comes
-returns-clause-comes g c proper =
+returns-clause-comes g c sound =
     let s = c.args.self.now in
     let d = c.args.directive.now in
     let run = c.run_on-run.result in
@@ -145,8 +147,9 @@ returns-clause-comes g c proper =
     (omega (arith, within, few, least))
     (λ q shows z.
     let a = subst (λ (o : Option Finished). AnswersBy o d q s.tally.used front run) c.in-Some.is
-    ((c.run_on-run.ensures.answers q proper shows).goes) in
-    front_ends d q s.tally.used m n piece front (end_of (item_of q ++ take run.item (drop run.before front)) c.in-Some.finished)
+    ((c.run_on-run.ensures.answers q sound shows).goes) in
+    front_ends d q s.tally.used m n piece front (end_of (closing_text d (item_of d q ++ take run.item (drop run.before front)))
+    c.in-Some.finished)
     c.split_at.ensures.front a z)
 
 pub returns-then-taken-room-clause-comes : goal.returns-then-taken-room-clause-comes

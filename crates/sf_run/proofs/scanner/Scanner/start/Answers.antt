@@ -33,12 +33,12 @@ returns-clause-after g c =
     let start = c.new.ensures.used in
     let used : c.push.new.self.tally.used ≡ 0 = omega (arith, none, count, start) in
     let fine : ran_out (standing c.push.new.self) ≡ false = none_refused (standing c.push.new.self) _ [] refl
-    (λ out. c.push.ensures.memory c.requires.proper refl out) in
-    after_nothing ds c.args.limit (standing c.push.new.self) c.push.ensures.keeps.directives c.push.ensures.keeps.limit c.requires.proper
-    (λ k z within. c.push.ensures.same c.requires.proper fine z k (run_of (Some k) ds 1 nothing_yet z) (omega (arith, used)) within
+    (λ out. c.push.ensures.memory c.requires.sound refl out) in
+    after_nothing ds c.args.limit (standing c.push.new.self) c.push.ensures.keeps.directives c.push.ensures.keeps.limit c.requires.sound
+    (λ k z within. c.push.ensures.same c.requires.sound fine z k (run_of (Some k) ds 1 nothing_yet z) (omega (arith, used)) within
     (start_does ds ds kept.opened (tally_of c.new.result kept.values) k z refl (ap (λ (k : Kept). k.opened) c.requires.empty) nothing))
     c.push.ensures.settled used c.push.ensures.keeps.met
     (λ waits.
     let first : ComesBy ds 0 phase.Skipping kept.opened c.new.result.used [] [] =
     first_comes ds kept.opened c.new.result.used (ap (λ (k : Kept). k.opened) c.requires.empty) c.new.ensures.used in
-    came (standing c.push.new.self) _ [] [] c.push.result (c.push.ensures.comes c.requires.proper) (omega (arith, none)) first waits)
+    came (standing c.push.new.self) _ [] [] c.push.result (c.push.ensures.comes c.requires.sound) (omega (arith, none)) first waits)

@@ -1,9 +1,9 @@
 use Rattle.std.proofs.Common.{ℕ, Bool, ◌&&◌, sym, ap, ◌∙◌}
-use Rattle.sf_base.specs.Data.{datum_of}
-use Rattle.sf_base.specs.declared.values.Value.{Value}
+use Rattle.sf_base.specs.Data.{datum_of_shown}
+use Rattle.sf_base.specs.declared.values.Shown.{Shown}
 use Rattle.sf_pair.specs.Groups.{width_of}
-use Rattle.sf_pair.specs.Fits.{text_fits, value_fits}
-use Rattle.sf_pair.proofs.fitting.value_fits.Goals as goal
+use Rattle.sf_pair.specs.Fits.{text_fits, item_fits}
+use Rattle.sf_pair.proofs.in_place.item_is_read.Goals as goal
 
 pub returns-in-Text : goal.returns-in-Text
 returns-in-Text c =
@@ -12,4 +12,4 @@ returns-in-Text c =
     c.text_fits.ensures.fits
     ∙ ap (λ (w : ℕ). text_fits s.shape w b) c.width_of.ensures.value
     ∙ sym (ap (λ (t : Bool). t && text_fits s.shape (width_of s) b) c.text_fits.ensures.bytes)
-    ∙ ap (λ (v : Value). value_fits c.args.conv.now s (datum_of v)) (sym c.in-Text.is)
+    ∙ ap (λ (v : Shown). item_fits c.args.conv.now s (datum_of_shown v)) (sym c.in-Text.is)

@@ -1,0 +1,158 @@
+//! Scans of conversions with `!`.
+use crate::scan_rows::{LIMIT, ScanRow};
+use crate::told::{Met, Told};
+use sf_base::Value;
+use sf_format::Profile;
+use sf_run::Status;
+
+static STRICT: [ScanRow; 16] = [
+    ScanRow {
+        profile: Profile::Three,
+        format: b"%!d",
+        limit: LIMIT,
+        text: b" 5",
+        told: Told::Failed(Status::MatchingFailure, 1, 0, 0, Met::Byte),
+        values: &[],
+        at_once: false,
+    },
+    ScanRow {
+        profile: Profile::Three,
+        format: b"%!d",
+        limit: LIMIT,
+        text: b"+5",
+        told: Told::Failed(Status::MatchingFailure, 1, 0, 0, Met::Byte),
+        values: &[],
+        at_once: false,
+    },
+    ScanRow {
+        profile: Profile::Three,
+        format: b"%!d",
+        limit: LIMIT,
+        text: b"-5",
+        told: Told::Done(1, 2, Met::End),
+        values: &[Value::I32(-5)],
+        at_once: false,
+    },
+    ScanRow {
+        profile: Profile::Three,
+        format: b"%!d",
+        limit: LIMIT,
+        text: b"-042,",
+        told: Told::Done(1, 4, Met::Byte),
+        values: &[Value::I32(-42)],
+        at_once: true,
+    },
+    ScanRow {
+        profile: Profile::Three,
+        format: b"%!d",
+        limit: LIMIT,
+        text: b"--5",
+        told: Told::Failed(Status::MatchingFailure, 1, 0, 1, Met::Byte),
+        values: &[],
+        at_once: false,
+    },
+    ScanRow {
+        profile: Profile::Three,
+        format: b"%!u",
+        limit: LIMIT,
+        text: b"-5",
+        told: Told::Failed(Status::MatchingFailure, 1, 0, 0, Met::Byte),
+        values: &[],
+        at_once: false,
+    },
+    ScanRow {
+        profile: Profile::Three,
+        format: b"%!x",
+        limit: LIMIT,
+        text: b"0x1f",
+        told: Told::Done(1, 1, Met::Byte),
+        values: &[Value::U32(0)],
+        at_once: true,
+    },
+    ScanRow {
+        profile: Profile::Three,
+        format: b"%!i",
+        limit: LIMIT,
+        text: b"-0x1f;",
+        told: Told::Done(1, 5, Met::Byte),
+        values: &[Value::I32(-31)],
+        at_once: true,
+    },
+    ScanRow {
+        profile: Profile::Three,
+        format: b"%!2d%!hhu",
+        limit: LIMIT,
+        text: b"-1255,",
+        told: Told::Done(2, 5, Met::Byte),
+        values: &[Value::I32(-1), Value::U8(255)],
+        at_once: true,
+    },
+    ScanRow {
+        profile: Profile::Three,
+        format: b"%!hhu",
+        limit: LIMIT,
+        text: b"256,",
+        told: Told::Failed(Status::OutOfRange, 1, 0, 3, Met::Byte),
+        values: &[],
+        at_once: false,
+    },
+    ScanRow {
+        profile: Profile::Three,
+        format: b"%!u,%!x;%*!d",
+        limit: LIMIT,
+        text: b"7,fF;-1\n",
+        told: Told::Counted(2, 3, 7, Met::Byte),
+        values: &[Value::U32(7), Value::U32(255)],
+        at_once: true,
+    },
+    ScanRow {
+        profile: Profile::Three,
+        format: b"%?!d",
+        limit: LIMIT,
+        text: b"x",
+        told: Told::Done(0, 0, Met::Byte),
+        values: &[],
+        at_once: false,
+    },
+    ScanRow {
+        profile: Profile::Three,
+        format: b"%!s",
+        limit: LIMIT,
+        text: b" a",
+        told: Told::Failed(Status::MatchingFailure, 1, 0, 0, Met::Byte),
+        values: &[],
+        at_once: false,
+    },
+    ScanRow {
+        profile: Profile::Three,
+        format: b"%!s %!3s",
+        limit: LIMIT,
+        text: b"ab cdef",
+        told: Told::Done(2, 6, Met::Nothing),
+        values: &[Value::Text(b"ab"), Value::Text(b"cde")],
+        at_once: true,
+    },
+    ScanRow {
+        profile: Profile::Three,
+        format: b"%*!lf",
+        limit: LIMIT,
+        text: b"0x1",
+        told: Told::Counted(0, 1, 1, Met::Byte),
+        values: &[],
+        at_once: false,
+    },
+    ScanRow {
+        profile: Profile::Three,
+        format: b"%!lf",
+        limit: LIMIT,
+        text: b"inf",
+        told: Told::Failed(Status::MatchingFailure, 1, 0, 0, Met::Byte),
+        values: &[],
+        at_once: false,
+    },
+];
+
+/// Integers, texts and floats before which no white space is skipped.
+pub(crate) fn strict_scans() -> &'static [ScanRow] {
+    &STRICT
+}
