@@ -1162,30 +1162,40 @@ pub(crate) fn whole_byte(due: u8, piece: &[u8]) -> Option<Ended>
 #[derive(Clone, Copy)]
 pub(crate) struct ReadReal {
     pub(crate) ended: Ended,
-    /// The bytes of a column after those of the item.
-    pub(crate) after: usize,
     pub(crate) slot: u8,
     pub(crate) real: Real,
 }
 
-/// A float that is in range, of a conversion whose item's first byte is that of the piece, where it is a decimal
-/// numeral that is read at once.
+/// The slot of a conversion of a float without a width.
 #[inline(always)]
-fn real_by(conversion: &Conversion, slot: u8, piece: &[u8]) -> Option<ReadReal>
-    requires shape { conversion.now.shape ≡ Float Any }
-    requires slot { conversion.now.slot ≡ Some slot }
-    ensures answers { conversion.now.width ≡ None → IsSound (directive.Conv conversion.now)
+fn real_slot(conversion: &Conversion) -> Option<u8>
+    ensures shape { IfSome result (λ _. conversion.now.shape ≡ Float Any) }
+    ensures width { IfSome result (λ _. conversion.now.width ≡ None) }
+    ensures slot { IfSome result (λ slot. conversion.now.slot ≡ Some slot) }
+{
+    match (&conversion.shape, conversion.width) {
+        (Shape::Float(Lead::Any), None) => conversion.slot,
+        _ => None,
+    }
+}
+
+/// A float that is in range, of a conversion without a width whose first byte is that of the piece, where it is a
+/// decimal numeral that is read at once.
+#[inline(always)]
+fn real_by(conversion: &Conversion, piece: &[u8]) -> Option<ReadReal>
+    ensures answers { IsSound (directive.Conv conversion.now)
         → (0 < length piece.now → (shape_skips conversion.now.shape && is_white (get_or piece.now 0 0)) ≡ false)
         → (n : ℕ)
         → IfSome result (λ r. Answers (directive.Conv conversion.now) Skipping n piece.now (run_of r.ended)) }
-    ensures float { IfSome result (λ r. is_float (take r.ended.item piece.now) ≡ true) }
     ensures fits { IfSome result (λ r. IsEndIn (directive.Conv conversion.now) piece.now r.ended) }
     ensures before { IfSome result (λ r. r.ended.before ≡ 0) }
-    ensures finished { IfSome result (λ r. r.ended.finished ≡ finish.Reads slot conversion.now.kind) }
-    ensures slot { IfSome result (λ r. r.slot ≡ slot) }
+    ensures shape { IfSome result (λ _. conversion.now.shape ≡ Float Any) }
+    ensures width { IfSome result (λ _. conversion.now.width ≡ None) }
+    ensures slot { IfSome result (λ r. conversion.now.slot ≡ Some r.slot) }
     ensures real { IfSome result (λ r. end_of (take r.ended.item piece.now) r.ended.finished
-        ≡ StepEnd.Stores slot (RealOf r.real)) }
+        ≡ StepEnd.Stores r.slot (RealOf r.real)) }
 {
+    let slot = real_slot(conversion)?;
     let decimal = numeral_within(piece)?;
     let real = decimal_real(conversion.kind, decimal)?;
     Some(ReadReal {
@@ -1197,95 +1207,15 @@ fn real_by(conversion: &Conversion, slot: u8, piece: &[u8]) -> Option<ReadReal>
                 kind: conversion.kind,
             },
         },
-        after: 0,
         slot,
         real,
     })
 }
 
-/// As `real_by`, of a conversion without a width that took nothing yet.
-#[inline(always)]
-fn real_item(conversion: &Conversion, slot: u8, piece: &[u8]) -> Option<ReadReal>
-    requires shape { conversion.now.shape ≡ Float Any }
-    requires width { conversion.now.width ≡ None }
-    requires slot { conversion.now.slot ≡ Some slot }
-    ensures ends { (n : ℕ) → IfSome result (λ r. EndsWithAll (directive.Conv conversion.now) n piece.now
-        (record { ended = r.ended; after = r.after })) }
-    ensures slot { IfSome result (λ r. r.slot ≡ slot) }
-    ensures real { IfSome result (λ r. end_of (take r.ended.item (drop r.ended.before piece.now)) r.ended.finished
-        ≡ StepEnd.Stores slot (RealOf r.real)) }
-{
-    let before = space_before(piece);
-    let (_, rest) = piece.split_at(before);
-    let read = real_by(conversion, slot, rest)?;
-    Some(ReadReal {
-        ended: Ended {
-            before,
-            item: read.ended.item,
-            finished: read.ended.finished,
-        },
-        after: 0,
-        slot,
-        real: read.real,
-    })
-}
-
-/// How many bytes of white space stand from the place on up to the end of the column that the piece begins with: of
-/// `12.5  7` and a width of 6 it is 2 from the place 4 on. None where another byte stands there, or where the column
-/// doesn't lie whole in the piece.
-#[inline(always)]
-fn white_up_to(width: usize, at: usize, piece: &[u8]) -> Option<usize>
-    ensures end { IfSome result (λ after. at + after ≡ width) }
-    ensures within { IfSome result (λ _. width ≤ length piece.now) }
-    ensures white { IfSome result (λ after. (k : ℕ) → k < after → is_white (get_or piece.now (at + k) 0) ≡ true) }
-{
-    if piece.len() < width || width < at {
-        return None;
-    }
-    let (column, _) = piece.split_at(width);
-    let (_, rest) = column.split_at(at);
-    if space_before(rest) < rest.len() {
-        return None;
-    }
-    Some(rest.len())
-}
-
-/// As `real_item`, of a column that lies whole in the piece. It stands apart, so that a format without columns doesn't
-/// pay for it.
-#[inline(never)]
-fn real_column(conversion: &Conversion, width: u16, slot: u8, piece: &[u8]) -> Option<ReadReal>
-    requires shape { conversion.now.shape ≡ Float Any }
-    requires column { conversion.now.column ≡ true }
-    requires width { conversion.now.width ≡ Some width }
-    requires slot { conversion.now.slot ≡ Some slot }
-    ensures ends { (n : ℕ) → IfSome result (λ r. EndsWithAll (directive.Conv conversion.now) n piece.now
-        (record { ended = r.ended; after = r.after })) }
-    ensures slot { IfSome result (λ r. r.slot ≡ slot) }
-    ensures real { IfSome result (λ r. end_of (take r.ended.item (drop r.ended.before piece.now)) r.ended.finished
-        ≡ StepEnd.Stores slot (RealOf r.real)) }
-{
-    let before = space_before(piece);
-    let (_, rest) = piece.split_at(before);
-    let read = real_by(conversion, slot, rest)?;
-    let after = white_up_to(width as usize, before + read.ended.item, piece)?;
-    Some(ReadReal {
-        ended: Ended {
-            before,
-            item: read.ended.item,
-            finished: read.ended.finished,
-        },
-        after,
-        slot,
-        real: read.real,
-    })
-}
-
-/// A float that is in range, of any directive that took nothing yet, where it is a decimal numeral that is read at
-/// once: an item without a width, or the text of a column that lies whole in the piece.
+/// As `real_by`, of any directive that took nothing yet.
 #[inline(always)]
 pub(crate) fn real_at_once(directive: &Directive, piece: &[u8]) -> Option<ReadReal>
-    ensures ends { (n : ℕ) → IfSome result (λ r. EndsWithAll directive.now n piece.now
-        (record { ended = r.ended; after = r.after })) }
+    ensures ends { (n : ℕ) → IfSome result (λ r. EndsAtOnce directive.now n piece.now r.ended) }
     ensures slot { IfSome result (λ r. slot_of directive.now ≡ Some r.slot) }
     ensures real { IfSome result (λ r. end_of (take r.ended.item (drop r.ended.before piece.now)) r.ended.finished
         ≡ StepEnd.Stores r.slot (RealOf r.real)) }
@@ -1293,16 +1223,19 @@ pub(crate) fn real_at_once(directive: &Directive, piece: &[u8]) -> Option<ReadRe
     let Directive::Conv(conversion) = directive else {
         return None;
     };
-    if !matches!(conversion.shape, Shape::Float(Lead::Any)) {
-        return None;
-    }
-    match (conversion.width, conversion.slot) {
-        (None, Some(slot)) => real_item(conversion, slot, piece),
-        (Some(width), Some(slot)) if conversion.column => real_column(
-            conversion, width, slot, piece,
-        ),
-        _ => None,
-    }
+    let _slot = real_slot(conversion)?;
+    let before = space_before(piece);
+    let (_, rest) = piece.split_at(before);
+    let read = real_by(conversion, rest)?;
+    Some(ReadReal {
+        ended: Ended {
+            before,
+            item: read.ended.item,
+            finished: read.ended.finished,
+        },
+        slot: read.slot,
+        real: read.real,
+    })
 }
 
 /// Whether the byte is the first of no item of a conversion of the shape, where that is seen at once.
@@ -1405,6 +1338,53 @@ fn seen_at_once(directive: &Directive, piece: &[u8]) -> Option<Ended>
     }
 }
 
+/// How many bytes of white space stand from the place on up to the end of the column that the piece begins with: of
+/// `12.5  7` and a width of 6 it is 2 from the place 4 on. None where another byte stands there, or where the column
+/// doesn't lie whole in the piece.
+#[inline(always)]
+fn white_up_to(width: usize, at: usize, piece: &[u8]) -> Option<usize>
+    ensures end { IfSome result (λ after. at + after ≡ width) }
+    ensures within { IfSome result (λ _. width ≤ length piece.now) }
+    ensures white { IfSome result (λ after. (k : ℕ) → k < after → is_white (get_or piece.now (at + k) 0) ≡ true) }
+{
+    if piece.len() < width || width < at {
+        return None;
+    }
+    let (column, _) = piece.split_at(width);
+    let (_, rest) = column.split_at(at);
+    if space_before(rest) < rest.len() {
+        return None;
+    }
+    Some(rest.len())
+}
+
+/// How a column of a float ends that lies whole in the piece, where its text is a decimal numeral that is read as a
+/// whole.
+#[inline(always)]
+fn float_column(conversion: &Conversion, width: u16, slot: u8, piece: &[u8]) -> Option<EndedColumn>
+    requires column { conversion.now.column ≡ true }
+    requires shape { conversion.now.shape ≡ Float Any }
+    requires width { conversion.now.width ≡ Some width }
+    requires slot { conversion.now.slot ≡ Some slot }
+    ensures { (n : ℕ) → IfSome result (EndsWithAll (directive.Conv conversion.now) n piece.now) }
+{
+    let before = space_before(piece);
+    let (_, rest) = piece.split_at(before);
+    let decimal = numeral_within(rest)?;
+    let after = white_up_to(width as usize, before + decimal.bytes, piece)?;
+    Some(EndedColumn {
+        ended: Ended {
+            before,
+            item: decimal.bytes,
+            finished: Finished::Reads {
+                slot,
+                kind: conversion.kind,
+            },
+        },
+        after,
+    })
+}
+
 /// How a column of an integer ends that lies whole in the piece, where its text is an integer that is read as a whole.
 #[inline(always)]
 fn number_column(
@@ -1484,6 +1464,7 @@ fn column_at_once(directive: &Directive, piece: &[u8]) -> Option<EndedColumn>
     match &conversion.shape {
         Shape::Int(numeral) => number_column(conversion, *numeral, width, piece),
         Shape::Text(Lead::Any) => text_column(conversion, width, piece),
+        Shape::Float(Lead::Any) => float_column(conversion, width, conversion.slot?, piece),
         _ => None,
     }
 }

@@ -240,7 +240,7 @@ fn pass_real<S: Store>(
     let read = real_at_once(directive, piece)?;
     store.set_real(read.slot, read.real);
     Some(Passage {
-        taken: read.ended.before + read.ended.item + read.after,
+        taken: read.ended.before + read.ended.item,
         end: PassageEnd::Passes,
     })
 }

@@ -202,7 +202,7 @@ fn pass_real<W: ValueWriter>(
     at: usize,
 ) -> Option<WrittenRun>
     requires place { at ≤ length room.old }
-    requires ends { EndsWithAll directive.now used piece.now (record { ended = read.ended; after = read.after }) }
+    requires ends { EndsAtOnce directive.now used piece.now read.ended }
     requires real { end_of (take read.ended.item (drop read.ended.before piece.now)) read.ended.finished
         ≡ StepEnd.Stores read.slot (RealOf read.real) }
     ensures passes { IsSound directive.now → IfSome result (λ run. PassesWriting W.text directive.now used piece.now
@@ -217,7 +217,7 @@ fn pass_real<W: ValueWriter>(
     let _used = used;
     let end = W::write_real(read.real, room, at)?;
     Some(WrittenRun {
-        used: read.ended.before + read.ended.item + read.after,
+        used: read.ended.before + read.ended.item,
         end,
     })
 }
