@@ -5,13 +5,12 @@
            fprintf(stderr, "%s\n", sf_words(&r, words));
 
    What C leaves open is refused, with a status each, and no destination is written unless the call answers SF_OK.
-   Formats: C11's, of the C locale, without %p, %m and wide characters; %b of base 2; %?d, whose item may be missing, so
-   that its destination stays as it is; %=8lf, a column of eight bytes; %!d, digits alone.
-   %d wants int32_t, %ld int64_t, %hhu uint8_t, %f float, %lf double, and so on.
-   Ownership: a call keeps nothing but what a reader is opened with (`from`), which has to live as long as the reader.
-   sf_close gives back all of a reader's memory, which grows to the longest record. Any thread may call; a reader is for
-   one thread at a time. There are no globals, no locale and no errno. Memory comes from malloc: no signal handler may
-   call. Where memory is refused the answer is SF_MEMORY; nothing aborts. */
+   Formats: C11's, of the C locale, without %p, %m and wide characters; %b of base 2; %?d, which may be missing, so that
+   its destination stays as it is; %=8lf, a column of eight bytes; %!d, no blank or plus before it. %d wants int32_t,
+   %ld int64_t, %hhu uint8_t, %f float, %lf double. Ownership: a call keeps only what a reader is opened with (`from`),
+   which has to live as long as the reader. sf_close gives back a reader's memory, which grows to the longest record.
+   Any thread may call; a reader is for one thread at a time. There are no globals, no locale, no errno. Memory comes
+   from malloc: no signal handler may call. Where memory is refused the answer is SF_MEMORY; nothing aborts. */
 #ifndef SF_H
 #define SF_H
 #include "sf_c.h"
