@@ -8,8 +8,7 @@ usage: tools/fscanf.py [--profile N] [--limit N] FORMAT < INPUT
     slot 1: 12
     slot 2: -7
 
-It is a reference: the definitions of the page are functions here, in its order. It shares nothing with the program.
-FORMAT has no escapes; tools/scan_formats.py reads it.
+It is a reference: the definitions of the page are functions here, in its order. It shares nothing with the program. FORMAT has no escapes.
 """
 import argparse
 import math
@@ -24,7 +23,7 @@ sys.dont_write_bytecode = True
 sys.path.insert(0, os.path.dirname(os.path.abspath(__file__)))
 getattr(sys, "set_int_max_str_digits", int)(0)
 
-from scan_formats import Byte, Conversion, Fault, Percent, Space, WHITE, directives_of, quoted  # noqa: E402
+from scan_formats import Conversion, Fault, Opens, Percent, Space, WHITE, directives_of, more_of, quoted  # noqa: E402
 
 
 def skip(x):
@@ -125,9 +124,8 @@ def item(c, x):
 
 # ---- values (p10)
 
-# Of an integer the bits beside its sign. Of a float the bits, the power of two of the last one, and a power that is too great.
-BITS = {"i8": 7, "i16": 15, "i32": 31, "i64": 63, "u8": 8, "u16": 16, "u32": 32, "u64": 64}
-FORMATS = {"f32": (24, -149, 128), "f64": (53, -1074, 1024)}
+BITS = {"i8": 7, "i16": 15, "i32": 31, "i64": 63, "u8": 8, "u16": 16, "u32": 32, "u64": 64}  # beside the sign
+FORMATS = {"f32": (24, -149, 128), "f64": (53, -1074, 1024)}  # the bits, the power of two of the last one, and a power that is too great
 
 
 def value_of(kind, negative, m):
@@ -142,10 +140,8 @@ def nearest(kind, digits, base, power):
     """The number of the kind nearest to digits * base ** power, of two the even one; None where that is an infinity."""
     bits, least, most = FORMATS[kind]
     size = digits.bit_length() + max(-(10**12), min(power, 10**12)) * math.log2(base)
-    if digits == 0 or size < least - 10:
-        return 0.0
-    if size > most + 10:
-        return None
+    if digits == 0 or not least - 10 <= size <= most + 10:
+        return None if digits and size > most else 0.0
     exact = digits * Fraction(base) ** power
     top = exact.numerator.bit_length() - exact.denominator.bit_length()
     unit = Fraction(2) ** max(top - (exact < Fraction(2) ** top) - bits + 1, least)
@@ -179,9 +175,10 @@ PASSES, MISSES = ("Passes",), ("Misses",)
 INPUT_FAILURE, MATCHING_FAILURE, OUT_OF_RANGE = (("Fails", it) for it in ("InputFailure", "MatchingFailure", "OutOfRange"))
 
 
-def byte_step(b, x):
-    """ByteStep: the byte stands there that is due, or another one, or none (p6)."""
-    return (0, INPUT_FAILURE) if not x else (1, PASSES) if x[0] == b else (0, MATCHING_FAILURE)
+def literal_step(d, x):
+    """LiteralStep, ByteStep: the byte stands there that is due, or another one, or none (p6). PercentStep: after white space (p12)."""
+    s, due = (skip(x), ord("%")) if isinstance(d, Percent) else (0, d.byte)
+    return (s, INPUT_FAILURE) if s == len(x) else (s + 1, PASSES) if x[s] == due else (s, MATCHING_FAILURE)
 
 
 def stores(c, value):
@@ -216,11 +213,11 @@ def step(d, x, n):
     """Step: on the remaining input x, after n bytes, how many the directive consumes, and how it ends."""
     if isinstance(d, Space):
         return skip(x), PASSES
-    if isinstance(d, Byte):
-        return byte_step(d.byte, x)
-    if isinstance(d, Percent):
-        j, end = byte_step(ord("%"), x[skip(x) :])
-        return skip(x) + j, end
+    if isinstance(d, Opens):  # OpenerStep: where such a literal fails, it is missed, and may be
+        k, end = literal_step(d.literal, x)
+        return k, MISSES if end[0] == "Fails" else end
+    if not isinstance(d, Conversion):
+        return literal_step(d, x)
     if d.shape == "Count":
         return 0, PASSES if d.slot is None else stores(d, value_of(d.kind, False, n))
     return column_step(d, x) if d.column else item_step(d, x)
@@ -232,15 +229,20 @@ Ran = namedtuple("Ran", "directive at bytes end")
 Report = namedtuple("Report", "status at assigned converted used met values")
 
 
+def over(d, end):
+    """over: how many directives after it are missing with it: where it is missing, the rest of the group that it opens."""
+    return (more_of(d) or 0) if end == MISSES else 0
+
+
 def steps(directives, x, n=0):
-    """Steps: the directives that run, after n bytes of x, up to the first that fails, each on what those before it left."""
-    ran = []
+    """Steps, StepsPast: the directives that run, after n bytes of x, up to the first that fails, each on what those before it left."""
+    ran, m = [], 0
     for d in directives:
-        k, end = step(d, x[n:], n)
+        k, end = (0, MISSES) if m else step(d, x[n:], n)  # left_out: it is missing with the first of its group
         ran.append(Ran(d, n, k, end))
         if end[0] == "Fails":
             break
-        n += k
+        n, m = n + k, m - 1 if m else over(d, end)
     return ran
 
 
@@ -262,8 +264,7 @@ def is_open(directives, x, ran):
 
 def report_of(ran, met):
     status, at = (ran[-1].end[1], len(ran)) if ran and ran[-1].end[0] == "Fails" else ("Done", 0)
-    counts = counted(ran, "Stores"), counted(ran, "Stores", "Passes"), used(ran)
-    return Report(status, at, *counts, met, [it.end[1:] for it in ran if it.end[0] == "Stores"])
+    return Report(status, at, counted(ran, "Stores"), counted(ran, "Stores", "Passes"), used(ran), met, [it.end[1:] for it in ran if it.end[0] == "Stores"])
 
 
 def run(directives, x, limit=2**31 - 1, ending="End"):

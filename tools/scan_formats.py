@@ -13,11 +13,13 @@ import sys
 from collections import namedtuple
 
 # The directives (C11 7.21.6.2p3). A conversion without a slot is suppressed. `lead` is what may stand before its item: Any is what C allows, white
-# space, either sign and a prefix; Minus and Nothing are those of `!`; None is that of a letter that never has any of these.
+# space, either sign and a prefix; Minus and Nothing are those of `!`; None is that of a letter that never has any of these. The first directive of a
+# group says how many of the group come after it: a literal is one that Opens it, and a conversion has them in `opens`, which else is None.
 Space = namedtuple("Space", "")
 Byte = namedtuple("Byte", "byte")
 Percent = namedtuple("Percent", "")
-Conversion = namedtuple("Conversion", "letter shape base members kind width slot optional column lead")
+Opens = namedtuple("Opens", "literal more")
+Conversion = namedtuple("Conversion", "letter shape base members kind width slot optional column lead opens", defaults=[None])
 
 MOST_BYTES, MOST_WIDTH, MOST_SLOTS = 4096, 65535, 32
 WHITE = frozenset(b"\t\n\v\f\r ")
@@ -125,13 +127,30 @@ def conversion(text, at, profile, earlier):
     return Conversion(letter, SHAPES[letter], base, members, kind_of(letter, size), bytes_, slot, *marks), end, number
 
 
+def can_open(it):
+    """Whether a group may begin with the directive: with one that takes bytes of its own, and hasn't a `?`."""
+    return isinstance(it, (Byte, Percent)) or isinstance(it, Conversion) and it.shape != "Count" and not it.optional
+
+
+def opener(it, more):
+    """The directive as the first of a group, which has so many after it."""
+    return it._replace(optional=True, opens=more) if isinstance(it, Conversion) else Opens(it, more)
+
+
 def directives_of(text, profile=1):
-    """The directives of a format. Raises Fault with the first fault."""
+    """The directives of a format. Raises Fault with the first fault. `group` is the place of a group that is open; `first`, how many directives stand before it."""
     refuse((len(text) > MOST_BYTES, "F15 FormatTooLong", MOST_BYTES))
-    found, numbers, places, at = [], [], [], 0
+    found, numbers, places, at, group, first = [], [], [], 0, None, None
     while at < len(text):
         refuse((text[at] == 0, "F14 Nul", at))
-        if text[at] in WHITE:
+        if profile == 3 and text[at : at + 3] == b"%?(":
+            refuse((group is not None, "F21 BadGroup", at))
+            group, first, at = at, len(found), at + 3
+        elif profile == 3 and text[at : at + 2] == b"%)":
+            refuse((group is None, "F21 BadGroup", at), (first == len(found), "F21 BadGroup", group))
+            found[first] = opener(found[first], len(found) - first - 1)
+            group, at = None, at + 2
+        elif text[at] in WHITE:
             while at < len(text) and text[at] in WHITE:
                 at += 1
             found.append(Space())
@@ -148,6 +167,8 @@ def directives_of(text, profile=1):
         else:
             found.append(Byte(text[at]))
             at += 1
+        refuse((group is not None and first == len(found) - 1 and not can_open(found[first]), "F21 BadGroup", group))
+    refuse((group is not None, "F21 BadGroup", group))
     if any(number is not None for number in numbers):
         slots = [slot for slot, _ in places]
         refuse(*((slot in slots[:turn], "F12 NumberTwice", place) for turn, (slot, place) in enumerate(places)))
@@ -165,18 +186,33 @@ def destinations_of(directives):
     return [it for it in directives if isinstance(it, Conversion) and it.slot is not None]
 
 
+def more_of(it):
+    """How many directives of its group come after the one that opens it; None of one that opens none."""
+    return it.more if isinstance(it, Opens) else it.opens if isinstance(it, Conversion) else None
+
+
+def groups_of(directives):
+    """The number of the group of each directive, counted from 1, and 0 of one that is in none."""
+    group = left = 0
+    for it in directives:
+        more = more_of(it)
+        group, left = (group, max(left - 1, 0)) if more is None else (group + 1, more + 1)
+        yield group if left else 0
+
+
 def shown(directives):
     """The lines of `sf show`."""
-    for number, it in enumerate(directives, 1):
+    for number, (it, group) in enumerate(zip(directives, groups_of(directives)), 1):
         if isinstance(it, Conversion):
             width, slot = ("-" if one is None else one for one in (it.width, it.slot))
             members = f" members {len(it.members)}" if it.shape == "Set" else ""
-            marks = " optional" * it.optional + " column" * it.column + " strict" * (it.lead in ("Minus", "Nothing"))
+            marks = " optional" * (it.optional and it.opens is None) + " column" * it.column + " strict" * (it.lead in ("Minus", "Nothing"))
             letter = "f" if it.shape == "Float" else it.letter.lower()
-            yield f"{number} {letter} {it.kind} width {width} slot {slot}{members}{marks}"
+            said = f"{letter} {it.kind} width {width} slot {slot}{members}{marks}"
         else:
+            it = it.literal if isinstance(it, Opens) else it
             said = f"byte {quoted(bytes([it.byte]))}" if isinstance(it, Byte) else type(it).__name__.lower()
-            yield f"{number} {said}"
+        yield f"{number} {said}" + f" group {group}" * (group > 0)
     held = [it.width for it in destinations_of(directives) if it.shape not in ("Int", "Count")]
     yield f"destinations {len(destinations_of(directives))}, width sum {'-' if None in held else sum(held)}"
 

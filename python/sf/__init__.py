@@ -24,6 +24,7 @@ Formats are those of C's fscanf and fprintf:
     %lf %f            a float; %f is rounded to 32 bits
     %s %[a-z] %5c     a word, a text of these letters, five bytes
     %?d               an int, or None where none stands there
+    %d%?(,%d%)        an int, and after a comma another one; None for that where no comma stands there
     %=8lf %=10s       the float, the text, in a column of eight, of ten bytes, whatever they are
     %!d               an int, with nothing but a minus before its digits
     %*d               an int that is dropped; it has no bounds

@@ -1,7 +1,7 @@
 """What is raised."""
 import re
 
-# Why a format is refused (F1 to F20), and why two are no pair (Q1 to Q14): docs/FORMATS.md has each rule.
+# Why a format is refused (F1 to F21), and why two are no pair (Q1 to Q14): docs/FORMATS.md has each rule.
 _FORMATS = {
     1: ("Truncated", "the format ends inside a conversion; %% stands for a percent sign"),
     2: ("ZeroWidth", "a conversion of width 0 takes nothing"),
@@ -22,6 +22,8 @@ _FORMATS = {
     17: ("BadFlag", "this letter has no such flag or precision"),
     18: ("PrecisionTooLarge", "a precision is at most 255"),
     20: ("BadMark", "a = has a width after it, and %c and %n have no =; %c, %[ and %n have no !"),
+    21: ("BadGroup", "a group is %?( and %) around conversions or bytes, none within another; first in it is no white space, "
+                     "no %n and no conversion with a ?"),
 }
 _PAIRS = {
     1: ("NotAligned", "what stands here is not what the other format has in its place"),
@@ -35,18 +37,23 @@ _PAIRS = {
     9: ("NotWritten", "nothing is written for %n"),
     10: ("BadFlagHere", "what this flag, width or precision writes is not read back"),
     11: ("NoValues", "a pair has at least one value"),
-    13: ("MayBeMissing", "what may be missing is not written: leave out the ?"),
+    13: ("MayBeMissing", "what may be missing is not written: leave out the ?, or the %?( and %)"),
     14: ("BadMark", "the two widths differ at a conversion with =, or what this flag, width or letter writes is not read by one with !"),
 }
-# One directive of a scan format (C11 7.21.6.2p3): white space, a byte, or a conversion.
-_DIRECTIVE = re.compile(rb"[\t-\r ]+|%%|%(?:[0-9]+\$)?\*?\??=?!?[0-9]*(?:hh|h|ll|l|j|z|t)?(?:\[\^?.[^]]*\]|[^\[])|.", re.DOTALL)
+# One part of a scan format (C11 7.21.6.2p3): white space, a byte, a conversion, or a mark of a group.
+_PART = re.compile(rb"[\t-\r ]+|%%|%(?:[0-9]+\$)?\*?\??=?!?[0-9]*(?:hh|h|ll|l|j|z|t)?(?:\[\^?.[^]]*\]|[^\[])|.", re.DOTALL)
 # How many bytes of an input a message shows.
 _SHOWN = 24
 
 
+def may_miss(format):
+    """Whether a value of a scan format may be missing: it has a conversion with a `?`, or a group."""
+    return any(it.startswith(b"%") and b"?" in it.partition(b"[")[0] for it in _PART.findall(format))
+
+
 def directives_of(format):
-    """The directives of a scan format, as they stand in it."""
-    return _DIRECTIVE.findall(format)
+    """The directives of a scan format, as they stand in it; the marks of its groups are none."""
+    return [it for it in _PART.findall(format) if it not in (b"%?(", b"%)")]
 
 
 class FormatError(ValueError):
@@ -61,7 +68,7 @@ class FormatError(ValueError):
     ('scan format', 'F8', 'BackwardRange', 2)
 
     - `which`: "scan format", "print format" or "pair".
-    - `fault`: its code, from F1 to F20, of a pair from Q1 to Q14, and `name` the word for that.
+    - `fault`: its code, from F1 to F21, of a pair from Q1 to Q14, and `name` the word for that.
     - `at`: the byte of the format at which it was found, counted from 0; of a pair the directive of
       the scan format, counted from 1.
     - `format`: the format's text, as a str; of a pair that of the scan format.

@@ -7,7 +7,7 @@ import re
 from typing import IO, Any, Callable, Iterable, Optional, Tuple, Union
 
 from . import _library as library
-from ._errors import ScanError, directives_of
+from ._errors import ScanError, directives_of, may_miss
 from ._failures import error_of
 from ._loops import lines, records
 from ._rows import Block, Rows, Texts, row_of
@@ -47,8 +47,8 @@ class Format:
     - `whole`: whether a text or a line has failed of which the format leaves something.
     - `encoding`: makes a str of each text. Without it texts are bytes, but of a str, and of a file
       object that gives str, they are str.
-    - `profile`: 1 has C's conversions but those of floats, 2 base 2 beside, 3 floats and the marks
-      `?`, `=` and `!` beside.
+    - `profile`: 1 has C's conversions but those of floats, 2 base 2 beside, 3 floats, the marks `?`,
+      `=` and `!`, and groups beside.
     - `limit`: the most bytes that a line may have, and that a record or a text may take.
 
     Threads may use a format at once. Its attributes say what it was made of; `slots` is how many
@@ -64,7 +64,7 @@ class Format:
         self._kinds = library.kinds_of(profile, False, self._bytes)
         self.slots: int = len(self._kinds)
         self.kinds: Tuple[str, ...] = tuple(library.KINDS[it] for it in self._kinds)
-        self._may_miss = any(it.startswith(b"%") and b"?" in it.partition(b"[")[0] for it in directives_of(self._bytes))
+        self._may_miss = may_miss(self._bytes)
         # (rows of numbers alone, none of which may be missing, are taken at once)
         is_plain = self._kinds and not self._may_miss and library.TEXT not in self._kinds
         self._numbers = library.row_of_numbers(self._kinds) if is_plain else None

@@ -1,5 +1,5 @@
-"""Random pairs of formats of profile 3, with columns and strict conversions, beside a reading of the pair check in docs/FORMATS.md, and values printed and
-read back.
+"""Random pairs of formats of profile 3, with columns, strict conversions and groups, beside a reading of the pair check in docs/FORMATS.md, and values
+printed and read back.
 
 The reading makes lists of bytes where the program walks, and takes the texts of floats from the C library.
 """
@@ -165,8 +165,21 @@ def drawn(rng):
     return prints, scans
 
 
-def written(formats):
-    return "".join(it.text() if not isinstance(it, (int, type(None))) else " " if it is None else chr(it).replace("\n", "\\n") for it in formats)
+def opens(it):
+    """Whether a group may begin with it."""
+    return it is not None and not (isinstance(it, Scan) and (it.optional or it.letter == "n"))
+
+
+def group_in(rng, scans):
+    """Which of the directives are in a group: mostly none."""
+    firsts = [at for at, it in enumerate(scans) if opens(it)] if rng.random() < 0.06 else []
+    first = rng.choice(firsts) if firsts else 0
+    return range(first, rng.randint(first + 1, len(scans))) if firsts else range(0)
+
+
+def written(formats, group=range(0)):
+    shown = [it.text() if not isinstance(it, (int, type(None))) else " " if it is None else chr(it).replace("\n", "\\n") for it in formats]
+    return "".join("%?(" * (at == group.start and bool(group)) + it + "%)" * (at == group.stop - 1 and bool(group)) for at, it in enumerate(shown))
 
 
 def least_text(unit):
@@ -233,15 +246,15 @@ def conversion_fault(unit, it, rest, after):
     return 6 if first & stop_set(unit, it) else 0
 
 
-def verdict(prints, scans):
-    """What `sf check` must say."""
+def verdict(prints, scans, group):
+    """What `sf check` must say, where so many of the directives are a group."""
     left, assigned = list(prints), False
     for at, it in enumerate(scans, 1):
         after = scans[at] if at < len(scans) else None
         fault = 0
         if isinstance(it, Scan) and it.letter == "n":
             fault = 9
-        elif isinstance(it, Scan) and it.optional:
+        elif isinstance(it, Scan) and it.optional or at - 1 in group:
             fault = 13
         elif isinstance(it, int):
             fault = 0 if left and left[0] == it else 1
@@ -336,8 +349,9 @@ def checked(seed):
         rng = random.Random(f"pairs {seed}")
         for _ in range(PAIRS):
             prints, scans = drawn(rng)
-            due = verdict(prints, scans)
-            words = ("check", "--profile", "3", "--", written(prints), written(scans))
+            group = group_in(rng, scans)
+            due = verdict(prints, scans, group)
+            words = ("check", "--profile", "3", "--", written(prints), written(scans, group))
             fault = difference(program.run(*words), (0 if due == "accepted\n" else 1, due.encode(), b""))
             if fault:
                 return f"{words[4:]}: {fault}"

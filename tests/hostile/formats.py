@@ -148,7 +148,7 @@ def columns():
                          ("%=" + "0" * 4000 + "c", "F2 ZeroWidth at 2"), ("%=" + "9" * 4000 + "c", "F3 TooWide at 2"), ("%=3lc", "F5 LeftOut at 4"), ("%=hh[a]", "F6 BadLength at 4"), ("%=3hf", "F6 BadLength at 4"),
                          ("%=[z-a]", "F20 BadMark at 2"), ("%=3[z-a]", "F8 BackwardRange at 4"), ("%=!3[z-a]", "F20 BadMark at 4"), ("%=!3c", "F20 BadMark at 4"), ("%*=n", "F9 BadCount at 3"), ("%?=n", "F9 BadCount at 3"),
                          ("%=3[=]", "1 [ text width 3 slot 1 members 1 column\n" + last(1, 3)), ("%d%2$=3d", "F10 MixedNumbering at 2"), ("%1$*=3d", "F11 BadNumber at 3"),
-                         ("%=" * 2048, "F4 UnknownLetter at 2"), ("%" + "=" * 4095, "F4 UnknownLetter at 2"), ("%?(%=3d%)", "F4 UnknownLetter at 2"), ("%=(%=3d%)", "F4 UnknownLetter at 2"),
+                         ("%=" * 2048, "F4 UnknownLetter at 2"), ("%" + "=" * 4095, "F4 UnknownLetter at 2"), ("%?(%=3d%)", "1 d i32 width 3 slot 1 column group 1\n" + last(1, 0)), ("%=(%=3d%)", "F4 UnknownLetter at 2"),
                          ("%=65535s" * 32, "".join(f"{it} s text width 65535 slot {it} column\n" for it in range(1, 33)) + last(32, 2097120)), ("%*=3d" * 819, "".join(f"{it} d i32 width 3 slot - column\n" for it in range(1, 820)) + last(0, 0))]:
         yield f"{text[:20]} scans", judged("show", "scan", text, answer, "--profile", "3")
 
@@ -165,6 +165,55 @@ def marks():
                          ("%!" * 2048, "F4 UnknownLetter at 2"), ("%" + "!" * 4095, "F4 UnknownLetter at 2")]:
         yield f"{text[:20]} scans", judged("show", "scan", text, answer, "--profile", "3")
     yield "%*?!5d scans", judged("show", "scan", "%*?!5d", "1 d i32 width 5 slot - optional strict\n" + last(0, 0), "--profile", "3")
+
+
+def first_byte(code):
+    """What `sf show --profile 3` answers of a group of this byte alone."""
+    if chr(code) in "\t\n\v\f\r ":
+        return "F21 BadGroup at 0"
+    if code == ord("%"):  # (so that the second one of `%?(%%)` is no mark)
+        return "F21 BadGroup at 0"
+    shown = {'"': '\\"', "\\": "\\\\"}.get(chr(code)) or (chr(code) if 32 <= code < 127 else f"\\x{code:02x}")
+    return f'1 byte "{shown}" group 1\n' + last(0, 0) if code else "F14 Nul at 3"
+
+
+def optional_letter(letter):
+    """What `sf show --profile 3` answers of `%?` and this letter."""
+    if letter == "(":
+        return "F21 BadGroup at 0"
+    if letter == "[":
+        return "F7 OpenSet at 2"
+    if letter == "n":
+        return "F9 BadCount at 2"
+    if letter in "=!":
+        return "F1 Truncated at 3"
+    if letter == "c":
+        return "1 c text width 1 slot 1 optional\n" + last(1, 1)
+    return strict_letter(letter).replace(" strict", " optional")
+
+
+def groups():
+    """Each byte as all of a group, and after the `%?` with which one begins; and what is wrong with groups."""
+    three = ("--profile", "3")
+    for code in range(256):
+        byte = bytes([code])
+        yield f"a group of {byte}", judged("show", "scan", escaped(b"%?(" + byte + b"%)"), first_byte(code), *three)
+        yield f"%?{chr(code)!r} scans", judged("show", "scan", escaped(b"%?" + byte), optional_letter(chr(code)), *three)
+        yield f"a group of {byte} in no such profile", judged("show", "scan", escaped(b"%?(" + byte + b"%)"), "F4 UnknownLetter at 1", "--profile", str(1 + code % 2))
+    most = 'destinations 0, width sum 0\n'
+    for text, answer in [("%)", "F21 BadGroup at 0"), ("%?(", "F21 BadGroup at 0"), ("%?(%)", "F21 BadGroup at 0"), ("a%)", "F21 BadGroup at 1"), ("%?(a%)%)", "F21 BadGroup at 6"), ("%?(a%?(b%)%)", "F21 BadGroup at 4"),
+                         ("%?(%?(a%)%)", "F21 BadGroup at 3"), ("%?(%?(", "F21 BadGroup at 3"), ("%?(%n%)", "F21 BadGroup at 0"), ("%?(%?d%)", "F21 BadGroup at 0"), ("%?(%?n%)", "F9 BadCount at 5"), ("%?(%*?d", "F21 BadGroup at 0"),
+                         ("%?(%?d%q", "F21 BadGroup at 0"), ("%?(%q%?d", "F4 UnknownLetter at 4"), ("%?( %q", "F21 BadGroup at 0"), ("%?(a%q", "F4 UnknownLetter at 5"), ("%?(a%", "F1 Truncated at 5"), ("%?", "F1 Truncated at 2"),
+                         ("%?(%?[z-a]%)", "F8 BackwardRange at 6"), ("%?(%?=d%)", "F20 BadMark at 6"), ("%?(%[%)", "F7 OpenSet at 4"), ("%?(%[%)]%)", "1 [ text width - slot 1 members 2 group 1\n" + last(1, "-")),
+                         ("%*?(a%)", "F4 UnknownLetter at 3"), ("%?=(a%)", "F4 UnknownLetter at 3"), ("%?!(a%)", "F4 UnknownLetter at 3"), ("%?5(a%)", "F4 UnknownLetter at 3"), ("%1$?(a%)", "F4 UnknownLetter at 4"), ("%?l(", "F4 UnknownLetter at 3"),
+                         ("%*)", "F4 UnknownLetter at 2"), ("%?)", "F4 UnknownLetter at 2"), ("%5)", "F4 UnknownLetter at 2"), ("%(", "F4 UnknownLetter at 1"), ("%33$?(", "F11 BadNumber at 1"), ("%?0(", "F2 ZeroWidth at 2"),
+                         ("%2$d%?(a", "F21 BadGroup at 4"), ("%1$d%?(,%1$d%)", "F12 NumberTwice at 8"), ("%1$d%?(,%d%)", "F10 MixedNumbering at 8"), ("%1$d%?(%?d%)", "F10 MixedNumbering at 7"), ("%d" * 32 + "%?(%?d%)", "F16 TooManyDestinations at 67"),
+                         ("%d" * 32 + "%?(%*?d%)", "F21 BadGroup at 64"), ("%?(" + "%d" * 32 + "%)", "".join(f"{it} d i32 width - slot {it} group 1\n" for it in range(1, 33)) + last(32, 0)),
+                         ("%?(a%)" * 682, "".join(f'{it} byte "a" group {it}\n' for it in range(1, 683)) + most), ("%?(" + "a" * 4091 + "%)", "".join(f'{it} byte "a" group 1\n' for it in range(1, 4092)) + most),
+                         ("%?(" + "a" * 4093, "F21 BadGroup at 0"), ("%?(" + "a" * 4092 + "%)", "F15 FormatTooLong at 4096"), ("a" * 4093 + "%?(", "F21 BadGroup at 4093"), ("a" * 4094 + "%)", "F21 BadGroup at 4094"),
+                         ("a" * 4095 + "%?(", "F15 FormatTooLong at 4096"), ("%?(" * 1365, "F21 BadGroup at 3"), ("%)" * 2048, "F21 BadGroup at 0"), ("%?(%%" * 800, "F21 BadGroup at 5"), ("%" + "?" * 4095, "F4 UnknownLetter at 2"),
+                         ("%?(%)" * 800, "F21 BadGroup at 0"), ("%?(%%%)%%%)", "F21 BadGroup at 9"), ("%%?(", "".join(f"{at} {it}\n" for at, it in enumerate(("percent", 'byte "?"', 'byte "("'), 1)) + most)]:
+        yield f"{text[:20]} scans", judged("show", "scan", text, answer, *three)
 
 
 def told(text, answer):
@@ -269,5 +318,5 @@ def escapes():
 
 
 def checks():
-    for group in (letters, marks, columns, numbers, lengths, many, escapes):
+    for group in (letters, marks, columns, groups, numbers, lengths, many, escapes):
         yield from group()

@@ -47,6 +47,11 @@ def for_ever():
         ("cat /dev/zero", ["scan", "--profile", "3", "%=65535s%=65535s%=5d"], record(1, "matching failure", 3, 131075, 2)),
         ("yes 1 | tr -d '\\n'", ["scan", "--profile", "3", "%=65535d"], record(1, "out of range", 1, 65535)),
         ("cat /dev/zero", ["scan", "--profile", "3", "--lines", "%=5d"], LONG),
+        ("yes ''", ["scan", "--profile", "3", "--limit", "1000", "%?(%d;%)"], record(1, "too long", 1, 1000)),
+        ("yes ''", ["scan", "--profile", "3", "%?(%%%)"], record(1, "too long", 1, 1048576)),
+        ("cat /dev/zero", ["scan", "--profile", "3", "%?(%*65535c;%)"], record(1, "matching failure", 2, 65535)),
+        ("cat /dev/zero", ["scan", "--profile", "3", "%?(a%n%)"], "record 1: stalled"),
+        ("yes 1", ["scan", "--profile", "3", "--limit", "1000", "%?(1%s %)x"], record(1, "matching failure", 4, 4, 1)),
     ]
     for feed, words, err in cases:
         yield f"{feed} | sf {' '.join(words)[:60]}", piped(feed, words, err, 1)
@@ -122,6 +127,23 @@ def columns():
         yield f"byte {code} after a number", answers(*wide, "%=3d", stdin=b"12" + byte, **want)
 
 
+def groups():
+    """Groups as many as a format can have, a long one, and a million that are missing."""
+    three = ("scan", "--profile", "3")
+    yield "682 groups", answers(*three, "%?(a%)" * 682, stdin=b"a" * 682 + b"b", out=b"\n", err="record 2: stalled", status=1)
+    yield "682 groups, one of them there", answers(*three, "%?(b%)" * 681 + "%?(a%)%*c", stdin=b"ac" * 2, out=b"\n\n")
+    yield "a group of 4,091 bytes", answers(*three, "%?(" + "a" * 4091 + "%)", stdin=b"a" * 4091 * 2, out=b"\n\n")
+    yield "a group of 4,091 bytes, cut", answers(*three, "%?(" + "a" * 4091 + "%)", stdin=b"a" * 4090 + b"b", err=record(1, "matching failure", 4091, 4090), status=1)
+    yield "a group of 4,088 bytes that is missing", answers(*three, "%?(" + "a" * 4088 + "%)%*c", stdin=b"b" * 3, out=b"\n" * 3)
+    yield "what follows such a group", answers(*three, "%?(" + "a" * 4088 + "%)%*d", stdin=b"x", err=record(1, "matching failure", 4089, 0), status=1)
+    yield "32 values in groups", answers(*three, "%?(%d;%)" * 32, stdin=b"7;" * 31, out=b"7 " * 31 + b"-\n")
+    yield "32 values in one group", answers(*three, "%?(" + "%d;" * 32 + "%)%*c", stdin=b"x" + b"7;" * 32 + b"x", out=b"- " * 31 + b"-\n" + b"7 " * 31 + b"7\n")
+    yield "1,000,000 blanks before a group", answers(*three, "%?(%d;%)%n", stdin=SPACE * 150000 + b"x", out=b"- 900000\n", err="record 2: stalled", status=1)
+    yield "1,000,000 blanks before a percent sign", answers(*three, "%?(%%%d%)%n", stdin=SPACE * 150000 + b"%7", out=b"7 900002\n")
+    yield "1,000,000 groups that are missing", answers(*three, "%?(a%d%)%*c", stdin=b"b" * 1000000, out=b"-\n" * 1000000)
+    yield "500,000 groups", answers(*three, "%?(a%?d%)%*c", stdin=b"a;" * 500000, out=b"-\n" * 500000)
+
+
 def directives():
     """Formats of thousands of directives, and the place of the last one."""
     numbers = b" ".join([b"1"] * 1365)
@@ -177,5 +199,5 @@ def fronts():
 
 
 def checks():
-    for group in (for_ever, long_ones, columns, directives, every_byte, fronts):
+    for group in (for_ever, long_ones, columns, groups, directives, every_byte, fronts):
         yield from group()

@@ -24,6 +24,7 @@ CALLS = [
     ("scan, texts of any length", ["scan", "%s"], b" ".join(b"b" * (1 << size) for size in range(20))),
     ("scan, 32 texts of 65,535 bytes", ["scan", "%65535s" * 32], b"c d e f " * 8),
     ("scan, 32 columns of 65,535 bytes", ["scan", "--profile", "3", "--limit", "2147483647", "%=65535s" * 32], (b"c d" + b" " * 65532) * 32),
+    ("scan, groups of texts", ["scan", "--profile", "3", "%?(a%s%) %?(b%65535s%) %?(%[c]%) "], b"a" * 70000 + b"\nb" + b"b" * 60000 + b" ccc\nba\n"),
     ("scan, 4096 directives", ["scan", "%*d" * 1365], b"1 " * 2730),
     ("lines", ["scan", "--lines", "%d"], b"1\n22\n333\n"),
     ("lines, texts of any length", ["scan", "--lines", "%s"], b"\n".join(b"b" * (1 << size) for size in range(20))),

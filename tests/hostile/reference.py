@@ -138,7 +138,7 @@ def said_of(report):
 
 def records(directives, text, limit):
     """What `sf scan` writes of records, and what it says at the end."""
-    is_optional = any(isinstance(it, scan_formats.Conversion) and it.optional for it in directives)
+    is_optional = any(isinstance(it, scan_formats.Opens) or isinstance(it, scan_formats.Conversion) and it.optional for it in directives)
     written, at, number = [], 0, 0
     while True:
         number += 1
@@ -344,13 +344,31 @@ def conversion_of(chance, profile):
     return f"%{star}{mark}{width}{size}{letter}" + (chance.choice(SETS) + "]") * (letter == "[")
 
 
+# What no group begins with: white space, a count, and what may be missing by itself.
+NO_OPENER = re.compile(r"\s|%(?:[0-9]+\$)?(?:\*?\?|.*n$)")
+
+
+def grouped(chance, parts):
+    """The parts with marks of groups between them, each before a part with which a group may begin."""
+    found, left = [], 0
+    for part in parts:
+        left -= 1
+        if left == 0:
+            found.append("%)")
+        if left <= 0 and chance.random() < 0.25 and not NO_OPENER.match(part):
+            found.append("%?(")
+            left = chance.choice((1, 2, 2, 3, 4))
+        found.append(part)
+    return found + ["%)"] * (left > 0)
+
+
 def format_of(chance, profile):
     parts = [conversion_of(chance, profile) if chance.random() < 0.65 else chance.choice(LITERALS) for _ in range(chance.randint(1, 6))]
     assigned = [at for at, part in enumerate(parts) if len(part) > 1 and part[0] == "%" and part[1] not in "*%"]
     if chance.random() < 0.1:
         for number, at in enumerate(chance.sample(assigned, len(assigned)), 1):
             parts[at] = f"%{number}${parts[at][1:]}"
-    return "".join(parts).encode("latin-1")
+    return "".join(grouped(chance, parts) if profile == 3 else parts).encode("latin-1")
 
 
 def column_of(chance, text, width):
@@ -360,9 +378,15 @@ def column_of(chance, text, width):
 
 
 def input_of(chance, directives):
-    """An input that the directives may take, and that may be none for them."""
-    parts = []
+    """An input that the directives may take, and that may be none for them; some groups are left out."""
+    parts, over = [], 0
     for it in directives:
+        more, over = scan_formats.more_of(it), over - 1
+        if more is not None and chance.random() < 0.4:
+            over = more + 1
+        if over > 0:
+            continue
+        it = it.literal if isinstance(it, scan_formats.Opens) else it
         shape = getattr(it, "shape", type(it).__name__)
         if shape == "Byte":
             parts.append(chr(it.byte))
@@ -452,6 +476,8 @@ ENDS = (*"diuoxXbscnfae%m", "[a]", "[", "[^]", "[z-a]", "", "\0")
 
 
 def specification_of(chance):
+    if chance.random() < 0.3:
+        return chance.choice(("%?(", "%?(", "%)", "%)", "a", "%%", " ", "%?("))
     parts = [chance.choice(them) * (chance.random() < 0.3) for them in NONE_OR]
     if chance.random() < 0.1:
         chance.shuffle(parts)
@@ -463,7 +489,7 @@ def spelled(seed):
     def check():
         chance = random.Random(f"spelled {seed}")
         for _ in range(3 * FORMATS):
-            text = "".join(specification_of(chance) for _ in range(chance.choice((1, 1, 2, 3))))
+            text = "".join(specification_of(chance) for _ in range(chance.choice((1, 1, 2, 3, 5))))
             words = [b"show", b"--profile", b"%d" % chance.choice((1, 2, 3, 3, 3)), b"--", word_of(text.encode())]
             found = difference(program.run(*words), answered(words, b""))
             if found:

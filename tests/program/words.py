@@ -88,7 +88,7 @@ class Words(unittest.TestCase):
             r"  n +nothing: it counts the bytes",
             r"  N\$ +the place of the value",
             r"  \* +drops what it takes",
-            r"  \? +what may be missing: '%d,%\?d' +3$",
+            r"  \? +what may be missing: '%d,%\?d' +3 +%\?\(,%d%\): as one$",
             r"  WIDTH +the most bytes",
         ):
             self.assertRegex(text, rf"(?m)^{said}")

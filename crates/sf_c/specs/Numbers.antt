@@ -76,6 +76,7 @@ format_number format.BadFlag = 17
 format_number format.PrecisionTooLarge = 18
 format_number format.NoMemory = 19
 format_number format.BadMark = 20
+format_number format.BadGroup = 21
 
 -- the number of a pair's fault, as the 6 of Q6
 abbrev pub pair_number : PairWhy → ℕ

@@ -82,6 +82,7 @@ pub(crate) fn format_number(why: FormatWhy) -> u8
         FormatWhy::PrecisionTooLarge => 18,
         FormatWhy::NoMemory => 19,
         FormatWhy::BadMark => 20,
+        FormatWhy::BadGroup => 21,
     }
 }
 

@@ -5,7 +5,7 @@ use sf_read::{Lookahead, ReadStep, ScriptSource, SliceSource};
 use std::test::Fail;
 
 /// Words of commands that need no input, of formats and calls that are refused, and of help; and the status.
-static UNREAD: [(&str, u8); 59] = [
+static UNREAD: [(&str, u8); 63] = [
     ("show/a %d", 0),
     ("show/\x01\"\\\\\x7f", 0),
     ("show/", 0),
@@ -56,6 +56,10 @@ static UNREAD: [(&str, u8); 59] = [
     ("scan/--strict/%!d", 2),
     ("scan/-Sp3/%!n", 2),
     ("show/-p3/%*?!5lf%n", 0),
+    ("show/-p3/%d%?(,%d%)%?([%%%*s]%)", 0),
+    ("show/-p3/%d%?(%?d%)", 2),
+    ("show/--explain/-p2/%d%?(,%d%)", 2),
+    ("check/-p3/%d,%d;/%3d%?(,%3d%);", 1),
     ("show/-S/%d", 2),
     ("", 2),
     ("show", 2),
@@ -91,7 +95,7 @@ type Reading = (
     u8,
 );
 
-static READINGS: [Reading; 10] = [
+static READINGS: [Reading; 11] = [
     (
         "scan/--explain/%d",
         ["1\n", "2\n\n", " x"],
@@ -135,6 +139,15 @@ static READINGS: [Reading; 10] = [
         "1;",
         "sf: record 2: matching failure at 2, used 2, assigned 1\n  directive 2: \";\", byte \";\"\n  at line 1, \
          column 5 of the input\n  there stood \":\"\n",
+        1,
+    ),
+    (
+        "scan/--explain/-p3/%d%?(,%d%)",
+        ["1\n", "2,3\n4,", "x"],
+        false,
+        "1 -\n2 3\n",
+        "sf: record 3: matching failure at 3, used 3, assigned 1\n  directive 3: \"%d\", d i32 width - slot 2 group \
+         1\n  at line 3, column 3 of the input\n  there stood \"x\"\n",
         1,
     ),
     (

@@ -1,5 +1,5 @@
 -- What holds of the directives of each spelled scan format, and of the units of each print format.
-use Rattle.std.proofs.Common.{◌≡◌, ◌≢◌, ℕ, ◌<◌, Bool, true, false, List, [], ◌∷◌, None, refl, lit<, arith, Some, ◌≤◌, sym, ◌∙◌}
+use Rattle.std.proofs.Common.{◌≡◌, ◌≢◌, ℕ, ◌<◌, Bool, true, false, List, [], ◌∷◌, Option, None, refl, lit<, arith, Some, ◌≤◌, sym, ◌∙◌}
 use Rattle.std.proofs.lemmas.Bool.Decides.{nat_tests}
 use Rattle.std.specs.Prelude.{IsSome}
 use Rattle.std.specs.List.{AllByRecursion}
@@ -8,16 +8,19 @@ use Rattle.sf_base.specs.declared.values.Kind.{Kind}
 use Rattle.sf_format.specs.declared.directive.Profile.{Profile}
 use Rattle.sf_format.specs.declared.directive.Shape.{Shape}
 use Rattle.sf_format.specs.declared.directive.Directive.{Directive}
+use Rattle.sf_format.specs.declared.directive.Literal.{Literal}
+use Rattle.sf_format.specs.declared.directive.Literal.TheVariants as literal
 use Rattle.sf_format.specs.Language.{Scan, Print}
 use Rattle.sf_format.specs.declared.letter.Letter.{Letter}
 use Rattle.sf_format.specs.declared.letter.Letter.TheVariants.{Signed, Unsigned, Chars, Text, Set, Count, Float}
 use Rattle.sf_format.specs.declared.letter.Length.{Length}
 use Rattle.sf_format.specs.Letters.{kind_of}
 use Rattle.sf_format.specs.Digits.{IsOptionalNumber, optional_number}
-use Rattle.sf_format.specs.Pieces.{Opening, Piece, Ordinary, Plain, Bracket, Percents}
-use Rattle.sf_format.specs.Grammar.{IsScanPiece, SuitsColumn, shape_of, width_of, Means, Spells, SpellsPrint}
-use Rattle.sf_format.specs.Proper.{HasItsKind, IsKinded, HasItsWidth, IsSized, IsProperShape, IsProperWidth, IsProper, AreProper, AreSized}
-use Rattle.sf_format.specs.Proper.{AreKinded, TakesColumn, IsColumned, AreColumned, IsAccepted}
+use Rattle.sf_format.specs.Pieces.{Opening, Piece, WhiteSpace, Ordinary, Plain, Bracket, Percents}
+use Rattle.sf_format.specs.Grammar.{IsScanPiece, SuitsColumn, shape_of, width_of, literal_that, Means, Spells}
+use Rattle.sf_format.specs.Grammar.{SpellsPrint}
+use Rattle.sf_format.specs.Proper.{HasItsKind, IsKinded, HasItsWidth, IsSized, IsProperShape, IsProperWidth, IsProperLiteral, IsProper}
+use Rattle.sf_format.specs.Proper.{AreProper, AreSized, AreKinded, TakesColumn, IsColumned, AreColumned, IsAccepted}
 use Rattle.sf_format.proofs.Suits.{text_kinded, float_kinded}
 use Rattle.sf_format.proofs.Meanings.{scan_slots, mean_each, print_slots}
 use Rattle.sf_format.proofs.PartSlots.{all_short, format_few, slots_good, slots_count}
@@ -26,7 +29,7 @@ use Rattle.sf_format.specs.declared.unit.PrintLetter.{PrintLetter}
 use Rattle.sf_format.specs.declared.unit.PrintConv.{PrintConv}
 use Rattle.sf_format.specs.declared.unit.Unit.{Unit as PrintUnit}
 use Rattle.sf_format.specs.Units.{has_flag, IsProperConv, IsProperUnit, AreAccepted}
-use Rattle.sf_format.specs.PrintGrammar.{SuitsPrint, IsPrintPiece, is_set_flag, IsPrintConv, Prints}
+use Rattle.sf_format.specs.PrintGrammar.{SuitsPrint, IsPrintPiece, is_set_flag, IsPrintConv, Prints, PrintsApart}
 
 -- the first member is listed
 first_listed : (n : ℕ) (first : ℕ) (others : List ℕ) → backward_range n (first ∷ others) ≡ None → is_listed (first ∷ others) first ≡ true
@@ -73,16 +76,23 @@ column_good Set o s suits takes e = absurd takes
 abbrev IsGoodDirective : Directive → Type 0
 IsGoodDirective d = IsProper d × IsSized d × IsKinded d × IsColumned d
 
-good_one : (profile : Profile) (place : ℕ) (piece : Piece) (d : Directive) → IsScanPiece profile piece → Means profile place piece d
-    → IsGoodDirective d
-good_one profile place (Ordinary b) d is h = rw h (is.0, tt, tt, tt)
-good_one profile place (Plain o b) d is h =
+good_literal : (opens : Option ℕ) (l : Literal) → IsProperLiteral l → IsGoodDirective (literal_that opens l)
+good_literal None (literal.Byte b) is = (is, tt, tt, tt)
+good_literal None literal.Percent is = (tt, tt, tt, tt)
+good_literal (Some more) l is = (is, tt, tt, tt)
+
+good_one : (profile : Profile) (opens : Option ℕ) (place : ℕ) (piece : Piece) (d : Directive) → IsScanPiece profile piece
+    → Means profile opens place piece d → IsGoodDirective d
+good_one profile opens place (WhiteSpace bs) d is h = rw h (tt, tt, tt, tt)
+good_one profile opens place (Ordinary b) d is h = rw h (good_literal opens (literal.Byte b) is.0)
+good_one profile opens place Percents d is h = rw h (good_literal opens literal.Percent tt)
+good_one profile opens place (Plain o b) d is h =
     let same : is.1.0 ≡ h.0 = let e = sym is.1.1 ∙ h.2 in cc in
     let placed = rw same at is.1.2.placed in
     let good = plain_good h.0 o.strict h.1.shape o.width o.size h.1.kind h.4 h.3.kind is.1.2.width in
     rw (h.5, h.3.width)
     ((good.0, good.1), good.2, good.3, λ e. column_good h.0 o h.1.shape placed h.4 (sym h.3.column ∙ e))
-good_one profile place (Bracket o list) d is h =
+good_one profile opens place (Bracket o list) d is h =
     let m = some_member list is.1 is.1.bytes.0 in
     rw (h.5, h.2.width, h.4) (
       ((m.0, m.1, rw (h.3.1 m.0 m.1) m.2), grind (arith, is.0.width)),
@@ -90,7 +100,7 @@ good_one profile place (Bracket o list) d is h =
       text_kinded o.size h.0.kind h.2.kind,
       λ e. (some_number o.width (is.0.placed (sym h.2.column ∙ e)), tt),
     )
-good_one profile place _ d is h = rw h (tt, tt, tt, tt)
+good_one profile opens place _ d is h = absurd h
 
 all_good : (ds : List Directive) → AllByRecursion IsGoodDirective ds → AreProper ds × AreSized ds × AreKinded ds × AreColumned ds
 all_good [] h = (tt, tt, tt, tt)
@@ -98,13 +108,13 @@ all_good (d ∷ ds) h = let rest = all_good ds h.1 in ((h.0.0, rest.0), (h.0.1, 
 
 pub proper : (profile : Profile) (text : List ℕ) (ds : List Directive) → Spells profile text ds → IsAccepted ds
 proper profile text ds (pieces, is, e, means) =
-    let good = all_good ds (mean_each IsGoodDirective (good_one profile) 1 pieces ds is.each means) in
+    let good = all_good ds (mean_each IsGoodDirective (good_one profile) false 1 pieces ds is.each means) in
     record {
       proper = good.0;
       sized = good.1;
       kinded = good.2;
       columns = good.3;
-      short = omega (arith, all_short (Scan profile) (Means profile) 1 pieces ds is.each means, is.short);
+      short = omega (arith, all_short (Scan profile) (Means profile) false 1 pieces ds is.each means, is.short);
       few = omega (arith, slots_count (scan_slots profile) pieces ds means, format_few (Scan profile) pieces is);
       slots = slots_good (scan_slots profile) pieces ds is means;
     }
@@ -148,8 +158,8 @@ proper_unit profile place _ u is h = absurd is
 
 pub print_proper : (profile : Profile) (text : List ℕ) (us : List PrintUnit) → SpellsPrint profile text us → AreAccepted us
 print_proper profile text us (pieces, is, e, means) = record {
-  proper = mean_each IsProperUnit (proper_unit profile) 1 pieces us is.each means;
-  short = omega (arith, all_short (Print profile) (Prints profile) 1 pieces us is.each means, is.short);
+  proper = mean_each IsProperUnit (λ opens. proper_unit profile) false 1 pieces us is.each means;
+  short = omega (arith, all_short (Print profile) (PrintsApart profile) false 1 pieces us is.each means, is.short);
   few = omega (arith, slots_count (print_slots profile) pieces us means, format_few (Print profile) pieces is);
   slots = slots_good (print_slots profile) pieces us is means;
 }

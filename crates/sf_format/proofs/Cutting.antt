@@ -1,6 +1,6 @@
 -- The cut of a conversion specification gives its parts, and joins to its text.
 use Rattle.std.proofs.Common.{◌≡◌, ℕ, ◌+◌, ◌≤◌, Bool, true, false, ◌||◌, nat_eq, List, [], ◌∷◌, ◌++◌, length, drop, refl, ap, ◌∙◌}
-use Rattle.std.proofs.Common.{append_assoc, length-append, arith, Option, Some, None}
+use Rattle.std.proofs.Common.{cond, append_assoc, length-append, arith, Option, Some, None}
 use Rattle.std.proofs.lemmas.Bool.Decides.{nat_tests}
 use Rattle.std.specs.Prelude.{codes, IfSome}
 use Rattle.sf_format.specs.Digits.{is_decimal}
@@ -13,6 +13,7 @@ use Rattle.sf_format.specs.PrintLetters.{is_flag}
 use Rattle.sf_format.specs.Language.{Language, Scan, Print}
 use Rattle.sf_format.specs.Pieces.{Opening, number_text, star_text, optional_text, column_text, strict_text, opening_text, precision_text}
 use Rattle.sf_format.specs.Cut.{number_before, number_at, first_length, length_at, cut, precision_behind, precision_at, mark_of_three}
+use Rattle.sf_format.specs.Cut.{Part, has_groups, short_part}
 use Rattle.sf_format.proofs.Prefixes.{Stops, AllPass, front_behind, front_passes, front_of, behind_of, behind_stops}
 use Rattle.sf_format.proofs.Rules.{all_map, all_append}
 use Rattle.sf_format.specs.PrintGrammar.{StartsAboveZero}
@@ -41,9 +42,9 @@ mark_is text mark false x there none stops = rw none (mark_none mark x stops)
 abbrev pub is_inside : ℕ → Bool
 is_inside b = is_decimal b || is_flag b || is_any_of (codes "*?=!") b
 
--- one that a part before the precision begins with, or %
+-- one that a part before the precision begins with, or one of % ( and )
 abbrev pub is_head : ℕ → Bool
-is_head b = is_inside b || is_any_of (codes "$%") b
+is_head b = is_inside b || is_any_of (codes "$%()") b
 
 -- one before a length
 abbrev pub is_part : ℕ → Bool
@@ -63,7 +64,7 @@ head_stops x stops = stops_less is_head is_part (λ b e. grind arith) x stops
 pub digit_stops : (x : List ℕ) → Stops is_head x → Stops is_decimal x
 digit_stops x stops =
     stops_less is_decimal is_head
-    (λ b e. no_digit (is_decimal b) (is_flag b) (is_any_of (codes "*?=!") b) (is_any_of (codes "$%") b) e) x stops
+    (λ b e. no_digit (is_decimal b) (is_flag b) (is_any_of (codes "*?=!") b) (is_any_of (codes "$%()") b) e) x stops
   where
     no_digit : (digit flag mark other : Bool) → ((digit || flag || mark) || other) ≡ false → digit ≡ false
     no_digit digit flag mark other e = grind arith
@@ -101,13 +102,36 @@ number_of (d ∷ ds) u z digits inside stops =
     ap number_at whole
     ∙ rw (front_of is_decimal (d ∷ ds) (36 ∷ (u ++ z)) digits refl, behind_of is_decimal (d ∷ ds) (36 ∷ (u ++ z)) digits refl)
 
--- what stands after the % of a specification is no %
-pub percent_none : (number u z : List ℕ) → AllPass is_decimal number → AllPass is_inside u → Stops is_head z
-    → begins (37 ∷ []) (number_text number ++ (u ++ z)) ≡ false
-percent_none (d ∷ ds) u z digits inside stops = grind (arith, nat_tests)
-percent_none [] (a ∷ u) z digits inside stops = grind (arith, nat_tests)
-percent_none [] [] [] digits inside stops = refl
-percent_none [] [] (b ∷ z) digits inside stops = grind (arith, nat_tests)
+-- what stands after the % of a specification is no such byte, nor a ? and then such a one
+none_begins : (mark : ℕ) → is_decimal mark ≡ false → is_inside mark ≡ false → is_head mark ≡ true → (number u z : List ℕ)
+    → AllPass is_decimal number → AllPass is_inside u → Stops is_head z
+    → begins (mark ∷ []) (number_text number ++ (u ++ z)) ≡ false
+none_begins mark other out head (d ∷ ds) u z digits inside stops = grind (arith, nat_tests)
+none_begins mark other out head [] (a ∷ u) z digits inside stops = grind (arith, nat_tests)
+none_begins mark other out head [] [] [] digits inside stops = refl
+none_begins mark other out head [] [] (b ∷ z) digits inside stops = grind (arith, nat_tests)
+
+no_group : (number u z : List ℕ) → AllPass is_decimal number → AllPass is_inside u → Stops is_head z
+    → begins (63 ∷ 40 ∷ []) (number_text number ++ (u ++ z)) ≡ false
+no_group (d ∷ ds) u z digits inside stops = grind (arith, nat_tests)
+no_group [] (a ∷ b ∷ u) z digits inside stops = grind (arith, nat_tests)
+no_group [] (a ∷ []) [] digits inside stops = grind (arith, nat_tests)
+no_group [] (a ∷ []) (b ∷ z) digits inside stops = grind (arith, nat_tests)
+no_group [] [] [] digits inside stops = refl
+no_group [] [] (b ∷ z) digits inside stops = grind (arith, nat_tests)
+
+-- so it is no part but a specification
+none_short : (language : Language) (number u z : List ℕ) → AllPass is_decimal number → AllPass is_inside u → Stops is_head z
+    → short_part language (number_text number ++ (u ++ z)) ≡ None
+none_short language number u z digits inside stops =
+    rw (
+      none_begins 37 refl refl refl number u z digits inside stops,
+      none_begins 41 refl refl refl number u z digits inside stops,
+      no_group number u z digits inside stops,
+    ) (none_of (has_groups language))
+  where
+    none_of : (v : Bool) → cond {A = Option Part} v None None ≡ None
+    none_of v = grind arith
 
 -- ---- the length
 
@@ -217,7 +241,12 @@ mark_of profile text mark v x there none has stops = by_profile (has_doubles pro
     by_profile false false e h = rw (e, none) refl
 
 width_stops : (width z : List ℕ) → AllPass is_decimal width → StartsAboveZero width → Stops is_head z → Stops is_flag (width ++ z)
-width_stops [] z digits first stops = stops_less is_flag is_head (λ b e. grind arith) z stops
+width_stops [] z digits first stops =
+    stops_less is_flag is_head
+    (λ b e. no_flag (is_decimal b) (is_flag b) (is_any_of (codes "*?=!") b) (is_any_of (codes "$%()") b) e) z stops
+  where
+    no_flag : (digit flag mark other : Bool) → ((digit || flag || mark) || other) ≡ false → flag ≡ false
+    no_flag digit flag mark other e = grind arith
 width_stops (d ∷ ds) z digits first stops = grind (arith, nat_tests)
 
 precision_stops : (precision : Option (List ℕ)) (z : List ℕ) → Stops is_part z → Stops is_head (precision_text precision ++ z)
@@ -278,9 +307,9 @@ cut_behind (Print profile) o letter x parts is last number =
       length_dropped o.size (letter ∷ x),
     )
 
--- it begins with no %, and is cut where it was joined
+-- it begins no other part, and is cut where it was joined
 pub cut_of : (language : Language) (o : Opening) (letter : ℕ) (x : List ℕ) → HasParts o → IsIn language o → IsLast letter
-    → (begins (37 ∷ []) (inside o (letter ∷ x)) ≡ false) × (cut language (inside o (letter ∷ x))
+    → (short_part language (inside o (letter ∷ x)) ≡ None) × (cut language (inside o (letter ∷ x))
     ≡ record { opening = o; rest = letter ∷ x })
 cut_of language o letter x parts is last =
     let sized = length_text o.size ++ letter ∷ x in
@@ -290,7 +319,7 @@ cut_of language o letter x parts is last =
     let inner = parts_inside o.star o.optional o.column o.strict o.flags o.width parts.flags parts.width in
     let whole : star_text o.star ++ (optional_text o.optional ++ (column_text o.column ++ (strict_text o.strict ++ (o.flags
     ++ (o.width ++ z))))) ≡ u ++ z = simp append_assoc in (
-      rw whole (percent_none o.number u z parts.number inner head),
+      rw whole (none_short language o.number u z parts.number inner head),
       cut_behind language o letter x parts is last (rw whole (number_of o.number u z parts.number inner head)),
     )
 

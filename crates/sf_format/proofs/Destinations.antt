@@ -98,6 +98,11 @@ destinations_push [] piece = refl
 destinations_push (first ∷ done) piece =
     destinations_cons first (done ++ piece ∷ []) ∙ simp (destinations_push done piece, destinations_cons first done, append_assoc)
 
+pub destinations_join : (done pieces : List Piece) → destinations (done ++ pieces) ≡ destinations done ++ destinations pieces
+destinations_join [] pieces = refl
+destinations_join (first ∷ done) pieces =
+    destinations_cons first (done ++ pieces) ∙ simp (destinations_join done pieces, destinations_cons first done, append_assoc)
+
 -- what holds of no destination, and of each that is assigned, holds of those of a part
 pub by_destination : (P : List Opening → Type 0) (piece : Piece) → P [] → ((o : Opening) → o.star ≡ false → P (o ∷ []))
     → P (destinations (piece ∷ []))

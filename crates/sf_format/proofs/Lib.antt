@@ -6,12 +6,14 @@ pub mod Suits
 pub mod Numbers
 pub mod Parts
 pub mod WholeTexts
+pub mod Groupings
 pub mod Meanings
 pub mod Magnitudes
 pub mod Scanlists
 pub mod Destinations
 pub mod SlotLookups
 pub mod Passages
+pub mod Steps
 pub mod Walks
 pub mod Notings
 pub mod PartSlots

@@ -1,16 +1,18 @@
 -- With a ! written, a part of a scan format stands for what it stands for without, made strict.
-use Rattle.std.proofs.Common.{◌≡◌, ℕ, Bool, true, false, ◌||◌, Some, None, ap, sym, refl, subst, arith}
+use Rattle.std.proofs.Common.{◌≡◌, ℕ, Bool, true, false, ◌||◌, Option, Some, None, ap, ◌∙◌, sym, refl, subst, arith}
 use Rattle.sf_base.specs.declared.values.Kind.{Kind}
 use Rattle.sf_format.specs.declared.directive.Profile.{Profile}
 use Rattle.sf_format.specs.declared.directive.Shape.{Shape}
 use Rattle.sf_format.specs.declared.directive.Conversion.{Conversion}
 use Rattle.sf_format.specs.declared.directive.Directive.{Directive}
 use Rattle.sf_format.specs.declared.directive.Directive.TheVariants as directive
+use Rattle.sf_format.specs.declared.directive.Literal.{Literal}
+use Rattle.sf_format.specs.declared.directive.Literal.TheVariants as literal
 use Rattle.sf_format.specs.declared.letter.Length.{Length}
 use Rattle.sf_format.specs.declared.letter.Length.TheVariants.{NoLength, HH, H, LL, L, J, Z, T}
 use Rattle.sf_format.specs.declared.letter.Letter.{Letter}
 use Rattle.sf_format.specs.declared.letter.Letter.TheVariants.{Signed, Unsigned, Chars, Text, Set, Count, Float}
-use Rattle.sf_format.specs.Grammar.{IsConversion, Means, shape_of}
+use Rattle.sf_format.specs.Grammar.{IsConversion, literal_that, Means, shape_of}
 use Rattle.sf_format.specs.Letters.{letter_of, kind_of, signed_kind, unsigned_kind}
 use Rattle.sf_format.specs.Layout.{signed_in}
 use Rattle.sf_format.specs.Pieces.{Opening, WhiteSpace, Ordinary, Percents, Plain, Bracket}
@@ -43,13 +45,14 @@ some_is x y e = grind arith
 
 -- ---- one conversion
 
-conversion_marked : (place : ℕ) (o : Opening) (letter : Letter) (c : Conversion) (s : Shape) → IsConversion place o letter c
-    → IsConversion place (opening_marked letter o) letter (record c { shape = s })
-conversion_marked place o letter c s h = record {
+conversion_marked : (opens : Option ℕ) (place : ℕ) (o : Opening) (letter : Letter) (c : Conversion) (s : Shape)
+    → IsConversion opens place o letter c → IsConversion opens place (opening_marked letter o) letter (record c { shape = s })
+conversion_marked opens place o letter c s h = record {
   kind = h.kind;
   width = h.width;
   slot = h.slot;
   optional = h.optional;
+  opens = h.opens;
   column = h.column;
 }
 
@@ -75,24 +78,30 @@ made_strict : (d : Directive) (c : Conversion) → d ≡ directive.Conv c
     → strictly d ≡ directive.Conv (record c { shape = strict_shape c.kind c.shape })
 made_strict d c told = ap strictly told
 
+literal_strict : (opens : Option ℕ) (l : Literal) → strictly (literal_that opens l) ≡ literal_that opens l
+literal_strict None (literal.Byte b) = refl
+literal_strict None literal.Percent = refl
+literal_strict (Some more) l = refl
+
 pub marks_make_strict : MarksMakeStrict
-marks_make_strict profile place (WhiteSpace bs) d h = ap strictly h
-marks_make_strict profile place (Ordinary b) d h = ap strictly h
-marks_make_strict profile place Percents d h = ap strictly h
-marks_make_strict profile place (Plain o b) d (letter, c, known, is, takes, told) =
-    subst (λ p. Means profile place p (strictly d)) (sym (plain_marked profile o b letter known)) (
+marks_make_strict profile opens place (WhiteSpace bs) d h = ap strictly h
+marks_make_strict profile opens place (Ordinary b) d h = ap strictly h ∙ literal_strict opens (literal.Byte b)
+marks_make_strict profile opens place Percents d h = ap strictly h ∙ literal_strict opens literal.Percent
+marks_make_strict profile opens place (Plain o b) d (letter, c, known, is, takes, told) =
+    subst (λ p. Means profile opens place p (strictly d)) (sym (plain_marked profile o b letter known)) (
       letter,
       (record c { shape = strict_shape c.kind c.shape }),
       known,
-      conversion_marked place o letter c (strict_shape c.kind c.shape) is,
+      conversion_marked opens place o letter c (strict_shape c.kind c.shape) is,
       shape_marked letter o.size o.strict c.kind c.shape is.kind takes,
       made_strict d c told,
     )
-marks_make_strict profile place (Bracket o list) d (c, members, is, set, takes, told) = (
+marks_make_strict profile opens place (Bracket o list) d (c, members, is, set, takes, told) = (
   (record c { shape = strict_shape c.kind c.shape }),
   members,
-  record { kind = is.kind; width = is.width; slot = is.slot; optional = is.optional; column = is.column },
+  record { kind = is.kind; width = is.width; slot = is.slot; optional = is.optional; opens = is.opens; column = is.column },
   set,
   rw takes refl,
   made_strict d c told,
 )
+marks_make_strict profile opens place _ d h = absurd h

@@ -10,7 +10,7 @@ use Rattle.sf_format.specs.Language.{Language}
 use Rattle.sf_format.specs.declared.fault.FormatWhy.{FormatWhy}
 use Rattle.sf_format.specs.declared.fault.FormatWhy.TheVariants.{NumberTwice, NumberGap}
 use Rattle.sf_format.specs.declared.noted.Noted.{Noted}
-use Rattle.sf_format.specs.declared.slots.Slots.{Slots}
+use Rattle.sf_format.specs.declared.grammar.Before.{Before}
 use Rattle.sf_format.specs.Lists.{is_any_of, is_written}
 use Rattle.sf_format.specs.Pieces.{Opening, Piece, piece_text, text_of}
 use Rattle.sf_format.specs.Cut.{part_at}
@@ -18,7 +18,7 @@ use Rattle.sf_format.specs.Grammar.{destinations}
 use Rattle.sf_format.specs.Rules.{Rule, first_of}
 use Rattle.sf_format.specs.Faults.{numbered, repeated, beyond, number_rules}
 use Rattle.sf_format.specs.Reading.{read}
-use Rattle.sf_format.specs.Passing.{with_place, slot_at, first_place, told, Notes, Holds, Walked}
+use Rattle.sf_format.specs.Passing.{with_place, slot_at, first_place, told, Notes, Precedes, Walked}
 use Rattle.sf_format.proofs.Outcomes.{same_test}
 use Rattle.sf_format.proofs.Rules.{all_front, all_back, first_append, or_else}
 use Rattle.sf_format.proofs.Destinations.{destinations_push, by_destination}
@@ -96,14 +96,15 @@ numbered_push p (first ∷ done) piece =
 
 -- ---- the walk
 
-pub record Noting (language : Language) (text : List ℕ) (at : ℕ) (rest : List ℕ) (slots : Slots) (count : ℕ) (noted : Noted) : Type 0 where
-  pub passing : Passing language text at rest slots
+pub record Noting (language : Language) (text : List ℕ) (at : ℕ) (rest : List ℕ) (before : Before) (count : ℕ) (noted : Noted)
+    : Type 0 where
+  pub passing : Passing language text at rest before
   pub ns : List (ℕ × ℕ)
   pub notes : Notes count ns noted
   pub same : AreWritten (destinations passing.done) → ns ≡ numbered 0 passing.done
 
-pub noting_more : {language : Language} {text : List ℕ} {at : ℕ} {rest after : List ℕ} {slots later : Slots} {count : ℕ} {old new : Noted}
-    {slot : Option ℕ} (h : Noting language text at rest slots count old) → PassesFirst h.passing after later
+pub noting_more : {language : Language} {text : List ℕ} {at : ℕ} {rest after : List ℕ} {before later : Before} {count : ℕ}
+    {old new : Noted} {slot : Option ℕ} (h : Noting language text at rest before count old) → PassesFirst h.passing after later
     → slot ≡ slot_at (1 + length (destinations h.passing.done)) (destinations ((part_at language rest).piece ∷ []))
     → Notes count (h.ns ++ with_place slot at) new
     → Noting language text (length text - length after) after later count new
@@ -125,15 +126,15 @@ noting_more {language} {at = at} {rest = rest} {slot = slot} h passes is notes =
     }
 
 -- the rules of the numbers of a whole text
-pub noting_all : {language : Language} {text : List ℕ} {at : ℕ} {rest : List ℕ} {earlier : Slots} {empty : Bool} (slots : Slots)
+pub noting_all : {language : Language} {text : List ℕ} {at : ℕ} {rest : List ℕ} {before : Before} {empty : Bool} (all : Before)
     {noted : Noted}
-    (pieces : List Piece) (h : Noting language text at rest earlier slots.count noted) → empty ≡ (length rest == 0) → empty ≡ true
-    → slots.numbered ≡ true → Walked language text (Ok slots) → read (length text) language [] 0 text ≡ Ok pieces
-    → first_of (repeated [] h.ns ++ beyond slots.count h.ns) ≡ first_of (number_rules pieces)
-noting_all {language} {text} slots {noted} pieces h is_empty none numbers walked e =
+    (pieces : List Piece) (h : Noting language text at rest before all.slots.count noted) → empty ≡ (length rest == 0) → empty ≡ true
+    → all.slots.numbered ≡ true → Walked language text (Ok all) → read (length text) language [] text ≡ Ok pieces
+    → first_of (repeated [] h.ns ++ beyond all.slots.count h.ns) ≡ first_of (number_rules pieces)
+noting_all {language} {text} all {noted} pieces h is_empty none numbers walked e =
     let first : walked.0 ≡ pieces = let both = sym walked.1 ∙ e in cc in
     let last : h.passing.done ≡ pieces = let both = sym (passing_all h.passing is_empty none) ∙ e in cc in
-    let holds = subst (λ ps. Holds slots (destinations ps)) first walked.2 in
+    let holds = (subst (λ ps. Precedes all ps) first walked.2).slots in
     let written = all_numbered (destinations pieces) (subst (λ v. AllByRecursion (λ o. is_written o.number ≡ v) (destinations pieces))
     numbers holds.same) in
     let same = h.same (subst (λ ps. AreWritten (destinations ps)) (sym last) written) ∙ ap (numbered 0) last in
@@ -144,10 +145,10 @@ noting_all {language} {text} slots {noted} pieces h is_empty none numbers walked
     all_numbered (o ∷ os) h = grind (arith, all_numbered os h.1)
 
 -- without numbers there is no fault of numbers
-pub unnumbered_none : (language : Language) (text : List ℕ) (slots : Slots) (pieces : List Piece) → slots.numbered ≡ false
-    → Walked language text (Ok slots) → read (length text) language [] 0 text ≡ Ok pieces → None ≡ first_of (number_rules pieces)
-unnumbered_none language text slots pieces none walked e =
+pub unnumbered_none : (language : Language) (text : List ℕ) (all : Before) (pieces : List Piece) → all.slots.numbered ≡ false
+    → Walked language text (Ok all) → read (length text) language [] text ≡ Ok pieces → None ≡ first_of (number_rules pieces)
+unnumbered_none language text all pieces none walked e =
     let first : walked.0 ≡ pieces = let both = sym walked.1 ∙ e in cc in
-    let holds = subst (λ ps. Holds slots (destinations ps)) first walked.2 in
+    let holds = (subst (λ ps. Precedes all ps) first walked.2).slots in
     sym (unnumbered_rules pieces (subst (λ v. AllByRecursion (λ (o : Opening). is_written o.number ≡ v) (destinations pieces)) none
     holds.same))

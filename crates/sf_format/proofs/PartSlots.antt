@@ -1,6 +1,6 @@
 -- The slots of the destinations of a whole format.
-use Rattle.std.proofs.Common.{◌≡◌, ◌≢◌, ℕ, zero, suc, ◌+◌, ◌<◌, ◌≤◌, inl, inr, List, [], ◌∷◌, ◌++◌, length, map, Option, Some, None, refl}
-use Rattle.std.proofs.Common.{sym, ap, ◌∙◌, arith, length-append}
+use Rattle.std.proofs.Common.{◌≡◌, ◌≢◌, ℕ, zero, suc, ◌+◌, ◌<◌, ◌≤◌, inl, inr, Bool, true, false, List, [], ◌∷◌, ◌++◌, length, map, Option}
+use Rattle.std.proofs.Common.{Some, None, refl, sym, ap, ◌∙◌, arith, length-append}
 use Rattle.std.proofs.lemmas.List.{length-map}
 use Rattle.std.specs.List.{AllByRecursion, cons_option, filter_map}
 use Rattle.std.specs.Option.{option_map}
@@ -8,7 +8,8 @@ use Rattle.sf_base.specs.Bytes.{magnitude}
 use Rattle.sf_format.specs.Language.{Language, Scan, Print}
 use Rattle.sf_format.specs.Digits.{IsOptionalNumber, optional_number}
 use Rattle.sf_format.specs.Slots.{Slotted, slots_from, AreDistinct, AreSlots}
-use Rattle.sf_format.specs.Pieces.{Opening, Piece, Plain, Bracket, piece_text, text_of}
+use Rattle.sf_format.specs.Pieces.{Opening, Piece, Plain, Bracket, GroupStart, GroupEnd, piece_text, text_of}
+use Rattle.sf_format.specs.Groups.{opened_by}
 use Rattle.sf_format.specs.Grammar.{IsPiece, IsFormat, ArePlaced, assigned_opening, destinations, MeanAll}
 use Rattle.sf_format.specs.Passing.{slot_at}
 use Rattle.sf_format.proofs.Numbers.{number_of, numbered_low, AreWritten}
@@ -35,24 +36,31 @@ numbers_cons : (o : Option Slotted) (entries : List Slotted) → numbers (cons_o
     ≡ cons_option (option_map (λ e. e.0) o) (numbers entries)
 numbers_cons o entries = grind arith
 
-slots_all : {D : Type 0} {means : ℕ → Piece → D → Type 0} {slotted : D → Option Slotted} → HasSlots D means slotted
-    → (place : ℕ) (pieces : List Piece) (ds : List D) → MeanAll means place pieces ds
+slots_all : {D : Type 0} {means : Option ℕ → ℕ → Piece → D → Type 0} {slotted : D → Option Slotted} → HasSlots D means slotted
+    → (first : Bool) (place : ℕ) (pieces : List Piece) (ds : List D) → MeanAll means first place pieces ds
     → numbers (filter_map slotted ds) ≡ slots_named place (destinations pieces)
-slots_all m place [] [] h = refl
-slots_all {slotted = slotted} m place (piece ∷ pieces) (d ∷ ds) h =
-    let later = slots_all m (place + length (destinations (piece ∷ []))) pieces ds h.1 in
-    rw (numbers_cons (slotted d) (filter_map slotted ds), m.slot place piece d h.0, later)
+slots_all m first place [] [] h = refl
+slots_all m first place (GroupStart ∷ pieces) ds h = slots_all m true place pieces ds h
+slots_all m first place (GroupEnd ∷ pieces) ds h = slots_all m false place pieces ds h
+slots_all {slotted = slotted} m first place (piece ∷ pieces) (d ∷ ds) h =
+    let later = slots_all m false (place + length (destinations (piece ∷ []))) pieces ds h.1 in
+    rw (numbers_cons (slotted d) (filter_map slotted ds), m.slot (opened_by first pieces) place piece d h.0, later)
     (part_slot place piece (destinations pieces) ∙ ap (slots_named place) (sym (destinations_cons piece pieces)))
-slots_all m place _ _ h = absurd h
+slots_all m first place _ _ h = absurd h
 
--- something for each part, of which none is empty
-pub all_short : {D : Type 0} (language : Language) (means : ℕ → Piece → D → Type 0) (place : ℕ) (pieces : List Piece) (ds : List D)
-    → AllByRecursion (IsPiece language) pieces → MeanAll means place pieces ds → length ds ≤ length (text_of pieces)
-all_short language means place [] [] each h = omega arith
-all_short language means place (piece ∷ pieces) (d ∷ ds) each h =
-    let later = all_short language means (place + length (destinations (piece ∷ []))) pieces ds each.1 h.1 in
+-- something for each part but the marks of groups, of which none is empty
+pub all_short : {D : Type 0} (language : Language) (means : Option ℕ → ℕ → Piece → D → Type 0) (first : Bool) (place : ℕ)
+    (pieces : List Piece) (ds : List D)
+    → AllByRecursion (IsPiece language) pieces → MeanAll means first place pieces ds → length ds ≤ length (text_of pieces)
+all_short language means first place [] [] each h = omega arith
+all_short language means first place (GroupStart ∷ pieces) ds each h =
+    omega (arith, all_short language means true place pieces ds each.1 h, length-append (piece_text GroupStart) (text_of pieces))
+all_short language means first place (GroupEnd ∷ pieces) ds each h =
+    omega (arith, all_short language means false place pieces ds each.1 h, length-append (piece_text GroupEnd) (text_of pieces))
+all_short language means first place (piece ∷ pieces) (d ∷ ds) each h =
+    let later = all_short language means false (place + length (destinations (piece ∷ []))) pieces ds each.1 h.1 in
     omega (arith, empty_text language piece each.0, later, length-append (piece_text piece) (text_of pieces))
-all_short language means place _ _ each h = absurd h
+all_short language means first place _ _ each h = absurd h
 
 -- ---- with numbers
 
@@ -137,21 +145,21 @@ named_good language pieces is =
     ]
 
 -- as many slots as destinations
-pub slots_count : {D : Type 0} {means : ℕ → Piece → D → Type 0} {slotted : D → Option Slotted} → HasSlots D means slotted
-    → (pieces : List Piece) (ds : List D) → MeanAll means 1 pieces ds → length (filter_map slotted ds) ≡ length (destinations pieces)
+pub slots_count : {D : Type 0} {means : Option ℕ → ℕ → Piece → D → Type 0} {slotted : D → Option Slotted} → HasSlots D means slotted
+    → (pieces : List Piece) (ds : List D) → MeanAll means false 1 pieces ds → length (filter_map slotted ds) ≡ length (destinations pieces)
 slots_count {slotted = slotted} m pieces ds h =
-    sym (length-map (filter_map slotted ds) (λ (e : Slotted). e.0)) ∙ ap length (slots_all m 1 pieces ds h)
+    sym (length-map (filter_map slotted ds) (λ (e : Slotted). e.0)) ∙ ap length (slots_all m false 1 pieces ds h)
     ∙ named_length 1 (destinations pieces)
 
-pub slots_good : {D : Type 0} {language : Language} {means : ℕ → Piece → D → Type 0} {slotted : D → Option Slotted}
+pub slots_good : {D : Type 0} {language : Language} {means : Option ℕ → ℕ → Piece → D → Type 0} {slotted : D → Option Slotted}
     → HasSlots D means slotted
-    → (pieces : List Piece) (ds : List D) → IsFormat language pieces → MeanAll means 1 pieces ds → AreSlots (filter_map slotted ds)
+    → (pieces : List Piece) (ds : List D) → IsFormat language pieces → MeanAll means false 1 pieces ds → AreSlots (filter_map slotted ds)
 slots_good {language = language} m pieces ds is h =
-    let good = rw (← slots_all m 1 pieces ds h, ← slots_count m pieces ds h) at (named_good language pieces is) in
+    let good = rw (← slots_all m false 1 pieces ds h, ← slots_count m pieces ds h) at (named_good language pieces is) in
     record { each = good.0; distinct = good.1 }
 
-pub slots_in_order : {D : Type 0} {means : ℕ → Piece → D → Type 0} {slotted : D → Option Slotted} → HasSlots D means slotted
-    → (pieces : List Piece) (ds : List D) → ArePlaced (destinations pieces) → MeanAll means 1 pieces ds
+pub slots_in_order : {D : Type 0} {means : Option ℕ → ℕ → Piece → D → Type 0} {slotted : D → Option Slotted} → HasSlots D means slotted
+    → (pieces : List Piece) (ds : List D) → ArePlaced (destinations pieces) → MeanAll means false 1 pieces ds
     → numbers (filter_map slotted ds) ≡ slots_from 1 (length (filter_map slotted ds))
 slots_in_order m pieces ds placed h =
-    rw (slots_count m pieces ds h) (slots_all m 1 pieces ds h ∙ slots_placed 1 (destinations pieces) placed.0)
+    rw (slots_count m pieces ds h) (slots_all m false 1 pieces ds h ∙ slots_placed 1 (destinations pieces) placed.0)

@@ -1,11 +1,14 @@
 -- The part that a format without a fault there begins with, and the text of a part.
 use Rattle.std.proofs.Common.{is_none, None, Some, Option, ◌≡◌, ◌≢◌, ℕ, Bool, true, false, cond, nat_eq, List, [], ◌∷◌, ◌++◌, refl}
-use Rattle.std.proofs.Common.{append-nil, arith, ◌+◌, ◌<◌, length, sym, ap, ◌∙◌, subst, append_assoc}
+use Rattle.std.proofs.Common.{append-nil, arith, ◌+◌, ◌<◌, length, sym, ap, ◌∙◌, subst, append_assoc, drop}
 use Rattle.std.proofs.lemmas.Bool.Decides.{nat_tests}
 use Rattle.sf_base.specs.Bytes.{is_white, AreBytes}
 use Rattle.sf_format.specs.Language.{Language, Scan, Print}
 use Rattle.sf_format.specs.Pieces.{Opening, Piece, WhiteSpace, piece_text, Ordinary, Percents, Plain, Bracket, opening_text}
+use Rattle.sf_format.specs.Pieces.{GroupStart, GroupEnd}
+use Rattle.sf_format.specs.declared.directive.Profile.{Profile}
 use Rattle.sf_format.specs.Cut.{Part, conversion_at, specification_at, Cut, cut, letter_at, part_at}
+use Rattle.sf_format.specs.Cut.{has_groups, group_mark, short_part}
 use Rattle.sf_format.specs.Grammar.{IsPiece, AreAlike, destinations, assigned_opening}
 use Rattle.sf_format.specs.Faults.{percent_rules, part_rules, conversion_rules, opening_rules, letter_rules, bracket_rules, scanlist_rules}
 use Rattle.sf_format.specs.Faults.{ending_rules, rest_rules}
@@ -15,7 +18,7 @@ use Rattle.sf_format.proofs.Prefixes.{Stops, front_behind, front_passes, behind_
 use Rattle.sf_format.proofs.Cutting.{begins_joined, IsLast, HasParts, inside, cut_of, cut_joined, cut_parts, cut_in, opening_regroup}
 use Rattle.sf_format.proofs.Rules.{Quiet, quiet_join, quiet_split, all_back}
 use Rattle.sf_format.proofs.Outcomes.{same_byte, other_byte, byte_differs}
-use Rattle.sf_format.specs.Letters.{letter_of}
+use Rattle.sf_format.specs.Letters.{has_doubles, letter_of}
 use Rattle.sf_format.specs.Scanlist.{Scanlist, scanlist_text}
 use Rattle.sf_format.specs.Rules.{slot_rules}
 use Rattle.sf_format.specs.declared.letter.Letter.TheVariants.{Set}
@@ -67,15 +70,54 @@ percents_are : (language : Language) → IsPiece language Percents
 percents_are (Scan profile) = tt
 percents_are (Print profile) = tt
 
+-- the text begins with a mark that it begins with
+marked_begins : (earlier : List Opening) (profile : Profile) (x : List ℕ) (part : Part) → has_doubles profile ≡ true
+    → group_mark x ≡ Some part → BeginsWith (Scan profile) earlier (37 ∷ x) part
+marked_begins earlier profile x part has e = by_start (begins (63 ∷ 40 ∷ []) x) refl
+  where
+    by_end : (v : Bool) → begins (41 ∷ []) x ≡ v → cond v (Some (record { piece = GroupEnd; rest = drop 1 x })) None ≡ Some part
+        → BeginsWith (Scan profile) earlier (37 ∷ x) part
+    by_end false f g = absurd (cc)
+    by_end true f g =
+        let same : record { piece = GroupEnd; rest = drop 1 x } ≡ part = cc in
+        subst (BeginsWith (Scan profile) earlier (37 ∷ x)) same
+        (record { text = rw (begins_joined (41 ∷ []) x f); is = has; alike = nothing_more earlier; apart = tt })
+
+    by_start : (v : Bool) → begins (63 ∷ 40 ∷ []) x ≡ v → BeginsWith (Scan profile) earlier (37 ∷ x) part
+    by_start false f = by_end (begins (41 ∷ []) x) refl (rw f at e)
+    by_start true f =
+        let g = rw f at e in
+        let same : record { piece = GroupStart; rest = drop 2 x } ≡ part = cc in
+        subst (BeginsWith (Scan profile) earlier (37 ∷ x)) same
+        (record { text = rw (begins_joined (63 ∷ 40 ∷ []) x f); is = has; alike = nothing_more earlier; apart = tt })
+
+-- the part that is no specification
+short_begins : (language : Language) (earlier : List Opening) (x : List ℕ) (part : Part) → short_part language x ≡ Some part
+    → BeginsWith language earlier (37 ∷ x) part
+short_begins language earlier x part e = by_percent (begins (37 ∷ []) x) refl
+  where
+    by_groups : (language : Language) (v : Bool) → has_groups language ≡ v → cond v (group_mark x) None ≡ Some part
+        → BeginsWith language earlier (37 ∷ x) part
+    by_groups language false f g = absurd (cc)
+    by_groups (Scan profile) true f g = marked_begins earlier profile x part f g
+    by_groups (Print profile) true f g = absurd (cc)
+
+    by_percent : (v : Bool) → begins (37 ∷ []) x ≡ v → BeginsWith language earlier (37 ∷ x) part
+    by_percent false f = by_groups language (has_groups language) refl (rw f at e)
+    by_percent true f =
+        let g = rw f at e in
+        let same : record { piece = Percents; rest = drop 1 x } ≡ part = cc in
+        subst (BeginsWith language earlier (37 ∷ x)) same
+        (record { text = rw (begins_joined (37 ∷ []) x f); is = percents_are language; alike = nothing_more earlier; apart = tt })
+
 specification_begins : (language : Language) (earlier : List Opening) (p : ℕ) (x : List ℕ)
     → (Quiet (conversion_rules language earlier p x) → BeginsWith language earlier (37 ∷ x) (conversion_at language x))
     → Quiet (percent_rules language earlier p x) → BeginsWith language earlier (37 ∷ x) (specification_at language x)
-specification_begins language earlier p x conversion quiet = by_percent (begins (37 ∷ []) x) refl
+specification_begins language earlier p x conversion quiet = by_short (short_part language x) refl
   where
-    by_percent : (v : Bool) → begins (37 ∷ []) x ≡ v → BeginsWith language earlier (37 ∷ x) (specification_at language x)
-    by_percent true e =
-        rw e (record { text = rw (begins_joined (37 ∷ []) x e); is = percents_are language; alike = nothing_more earlier; apart = tt })
-    by_percent false e = rw e (conversion (rw e at quiet))
+    by_short : (found : Option Part) → short_part language x ≡ found → BeginsWith language earlier (37 ∷ x) (specification_at language x)
+    by_short None e = rw e (conversion (rw e at quiet))
+    by_short (Some part) e = rw e (short_begins language earlier x part e)
 
 -- a byte that begins no run of white space
 pub byte_begins : (language : Language) (earlier : List Opening) (p b : ℕ) (x : List ℕ) → (b ≢ 0 → b ≢ 37 → IsPiece language (Ordinary b))
@@ -92,11 +134,11 @@ byte_begins language earlier p b x ordinary conversion quiet = by_percent (nat_e
         rw e (record { text = refl; is = ordinary (other_byte b 0 quiet.0) (other_byte b 37 e); alike = nothing_more earlier; apart = tt })
 
 -- a specification whose rules refuse nothing
-pub percent_quiet : (language : Language) (earlier : List Opening) (p : ℕ) (x : List ℕ) → begins (37 ∷ []) x ≡ false
+pub percent_quiet : (language : Language) (earlier : List Opening) (p : ℕ) (x : List ℕ) → short_part language x ≡ None
     → Quiet (conversion_rules language earlier p x) → Quiet (part_rules language earlier p (37 ∷ x))
 percent_quiet language earlier p x other quiet = rw other (refl, quiet)
 
-pub percent_part : (language : Language) (x : List ℕ) → begins (37 ∷ []) x ≡ false → part_at language (37 ∷ x) ≡ conversion_at language x
+pub percent_part : (language : Language) (x : List ℕ) → short_part language x ≡ None → part_at language (37 ∷ x) ≡ conversion_at language x
 percent_part (Scan profile) x other = rw other
 percent_part (Print profile) x other = rw other
 
@@ -247,6 +289,10 @@ part_of (Scan profile) earlier p (Bracket o list) rest is stops alike =
     (rw (marked list rest is.1) (quiet_list q _ list rest is.1))) alike in
     subst (IsPartOf (Scan profile) earlier p (Bracket o list) rest) (sym (bracket_text o list rest))
     (all.0, all.1 ∙ bracket_of o list rest is.1)
+part_of (Scan profile) earlier p GroupStart rest is stops alike =
+    (rw is (refl, tt), rw is refl)
+part_of (Scan profile) earlier p GroupEnd rest is stops alike =
+    (rw is (refl, tt), rw is refl)
 part_of (Print profile) earlier p (Ordinary b) rest is stops alike =
     let byte = byte_differs b 37 is.2 in
     (byte_quiet (Print profile) earlier p b rest (byte_differs b 0 is.1) byte, rw byte)

@@ -21,12 +21,14 @@ use Rattle.sf_format.specs.Letters.{letter_of, kind_of}
 use Rattle.sf_format.specs.Lists.{is_written, mark_at, begins}
 use Rattle.sf_format.specs.Pieces.{Opening, Piece, opening_text}
 use Rattle.sf_format.specs.Cut.{Part, cut, letter_at, conversion_at}
+use Rattle.sf_format.specs.Groups.{role_by, role_of}
 use Rattle.sf_format.specs.Slots.{slot_of}
 use Rattle.sf_format.specs.Grammar.{destinations, assigned_opening, IsConversion, Means}
 use Rattle.sf_format.specs.Rules.{Rule, first_of, slot_rules}
 use Rattle.sf_format.specs.Faults.{letter_rules, bracket_rules, scanlist_rules, ending_rules, rest_rules, opening_rules, conversion_rules}
 use Rattle.sf_format.specs.Passing.{rest_behind, is_set, IsListed, ShapeBy, IsMade, PassesBy, precision_of}
 use Rattle.sf_format.specs.Language.{Language, Scan, Print}
+use Rattle.sf_format.proofs.Outcomes.{within}
 use Rattle.sf_format.proofs.Rules.{quiet_is, or_else, first_append}
 use Rattle.sf_format.proofs.Scanlists.{list_forward, list_set}
 use Rattle.sf_format.proofs.Suits.{bracket_is}
@@ -57,6 +59,19 @@ pub letter_destination : (o : Opening) (letter : ℕ) (x : List ℕ)
     → destinations ((letter_at o (letter ∷ x)).piece ∷ []) ≡ assigned_opening o []
 letter_destination o letter x = grind arith
 
+or_none : (v : Bool) → (v || false) ≡ v
+or_none v = grind arith
+
+pub letter_role : (o : Opening) (letter : ℕ) (x : List ℕ)
+    → role_by (o.optional || nat_eq letter 110) ≡ role_of (letter_at o (letter ∷ x)).piece
+letter_role o letter x = by_bracket (nat_eq letter 91) refl
+  where
+    by_bracket : (v : Bool) → nat_eq letter 91 ≡ v → role_by (o.optional || nat_eq letter 110) ≡ role_of (letter_at o (letter ∷ x)).piece
+    by_bracket false e = rw e refl
+    by_bracket true e =
+        let other : nat_eq letter 110 ≡ false = grind (arith, nat_tests) in
+        rw (e, other) (ap role_by (or_none o.optional))
+
 -- ---- the conversion by a letter
 
 only_set : (letter : Letter) → is_set letter ≡ true → letter ≡ Set
@@ -70,8 +85,8 @@ listed_forward false q x listed e none is = absurd (cc)
 -- a conversion by a letter that is a bracket or isn't, and by the scanlist that was read after it
 made_by : (v : Bool) (profile : Profile) (place q b : ℕ) (x : List ℕ) (o : Opening) (letter : Letter) (listed : Listed) (c : Conversion)
     → is_set letter ≡ v → nat_eq b 91 ≡ v → letter_of profile b ≡ Some letter → first_of (bracket_rules v q x) ≡ None → IsListed v x listed
-    → IsConversion place o letter c → ShapeBy v letter o.strict listed c.shape
-    → Means profile place (letter_at o (b ∷ x)).piece (directive.Conv c)
+    → IsConversion None place o letter c → ShapeBy v letter o.strict listed c.shape
+    → Means profile None place (letter_at o (b ∷ x)).piece (directive.Conv c)
 made_by true profile place q b x o letter listed c set same found none is conversion (members, by, shape) =
     let chosen = list_set q _ (mark_at 94 x).0 (mark_at 94 x).1 listed.members.now members is.1 none (rw is.0 at by) in
     rw same (c, members, rw (only_set letter set) at conversion, chosen, shape, refl)
@@ -82,16 +97,27 @@ pub match_map : {A : Type 0} (N : Type 0) (P Q : A → Type 0) → ((a : A) → 
     → MatchOption o N Q
 match_map N P Q f o h = grind arith
 
+pub match_none : {A : Type 0} {N M : Type 0} (P : A → Type 0) (o : Option A) → (N → M) → MatchOption o N P → MatchOption o M P
+match_none P None f h = f h
+match_none P (Some a) f h = h
+
 -- the conversion that was made is what the part stands for
 pub made_means : (profile : Profile) (place q b : ℕ) (x : List ℕ) (o : Opening) (letter : Letter) (kind : Kind) (slot : Option ℕ)
     (listed : Listed)
     (d : Directive) → letter_of profile b ≡ Some letter → kind_of letter o.size ≡ Some kind
     → first_of (bracket_rules (is_set letter) q x) ≡ None
     → IsListed (is_set letter) x listed → slot ≡ slot_of place o → IsMade letter kind o slot listed d
-    → Means profile place (letter_at o (b ∷ x)).piece d
+    → Means profile None place (letter_at o (b ∷ x)).piece d
 made_means profile place q b x o letter kind slot listed (directive.Conv c) found known none is placed h =
     made_by (is_set letter) profile place q b x o letter listed c refl (sym (bracket_is profile b letter found)) found none is
-    (record { kind = known ∙ ap Some (sym h.0); width = h.1; slot = h.2 ∙ placed; optional = h.3; column = h.4 }) h.5
+    (record {
+      kind = known ∙ ap Some (sym h.0);
+      width = h.1;
+      slot = h.2 ∙ placed;
+      optional = h.3 ∙ sym (or_none o.optional);
+      opens = h.4;
+      column = h.5;
+    }) h.6
 made_means profile place q b x o letter kind slot listed _ found known none is placed h = absurd h
 
 pub number_low : (ds : List ℕ) → (is_written ds && (nat_eq (magnitude 10 ds) 0 || nat_lt 32 (magnitude 10 ds))) ≡ false
@@ -104,6 +130,10 @@ pub number_bound : (language : Language) (p : ℕ) (o : Opening) → first_of (o
 number_bound (Scan profile) p o none = number_low o.number (quiet_is (opening_rules (Scan profile) p o) none).0
 number_bound (Print profile) p o none = number_low o.number (quiet_is (opening_rules (Print profile) p o) none).0
 
+pub width_bound : (profile : Profile) (p : ℕ) (o : Opening) → first_of (opening_rules (Scan profile) p o) ≡ None
+    → magnitude 10 o.width ≤ 65535
+width_bound profile p o none = within 65535 (magnitude 10 o.width) (quiet_is (opening_rules (Scan profile) p o) none).1.1.1.0
+
 -- ---- after a %, in both languages
 
 pub begins_mark : (x : List ℕ) → begins (37 ∷ []) x ≡ (mark_at 37 x).0
@@ -115,11 +145,12 @@ behind_mark [] found = absurd (cc)
 behind_mark (b ∷ x) found = grind arith
 
 -- after an opening without a fault
-pub passes_behind : {D : Type 0} (wanted : Bool) (means : ℕ → Piece → D → Type 0) (opening rest : List Rule) (earlier : List Opening)
-    (part : Part)
+pub passes_behind : {D : Type 0} (wanted : Bool) (means : Option ℕ → ℕ → Piece → D → Type 0) (opening rest : List Rule)
+    (earlier : List Opening) (part : Part)
     (r : Result (Passed D) FormatFault) → first_of opening ≡ None → PassesBy wanted means rest earlier part r
     → PassesBy wanted means (opening ++ rest) earlier part r
-passes_behind wanted means opening rest earlier part (Ok passed) quiet h = (rw (first_append opening rest, quiet) h.0, h.1, h.2, h.3, h.4)
+passes_behind wanted means opening rest earlier part (Ok passed) quiet h =
+    (rw (first_append opening rest, quiet) h.0, h.1, h.2, h.3, h.4, h.5)
 passes_behind wanted means opening rest earlier part (Err fault) quiet h = rw (first_append opening rest, quiet) h
 
 -- the first byte and those that follow it
@@ -135,9 +166,10 @@ cut_fault language earlier p x o f same first =
     (rest_rules language earlier p (cut language x).opening (p + length (opening_text (cut language x).opening)) (cut language x).rest) f
     (subst (λ a. first_of (opening_rules language p a) ≡ Some f) same first)
 
-pub cut_passes : {D : Type 0} (wanted : Bool) (means : ℕ → Piece → D → Type 0) (language : Language) (earlier : List Opening) (p q : ℕ)
-    (x rest : List ℕ) (o : Opening) (r : Result (Passed D) FormatFault) → o ≡ (cut language x).opening → rest ≡ (cut language x).rest
-    → q ≡ p + length (opening_text o) → first_of (opening_rules language p o) ≡ None
+pub cut_passes : {D : Type 0} (wanted : Bool) (means : Option ℕ → ℕ → Piece → D → Type 0) (language : Language)
+    (earlier : List Opening) (p q : ℕ) (x rest : List ℕ) (o : Opening) (r : Result (Passed D) FormatFault)
+    → o ≡ (cut language x).opening → rest ≡ (cut language x).rest → q ≡ p + length (opening_text o)
+    → first_of (opening_rules language p o) ≡ None
     → PassesBy wanted means (rest_rules language earlier p o q rest) earlier (letter_at o rest) r
     → PassesBy wanted means (conversion_rules language earlier p x) earlier (conversion_at language x) r
 cut_passes wanted means language earlier p q x rest o r same behind place quiet passes =

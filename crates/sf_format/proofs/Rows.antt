@@ -223,6 +223,7 @@ integer = record {
   width = None;
   slot = Some 1;
   optional = false;
+  opens = None;
   column = false;
 }
 
@@ -257,9 +258,21 @@ spelled = (
     );
     apart = tt;
     slots = inl ((refl, tt), lit≤ tt);
+    grouped = (refl, tt);
+    closed = refl;
   },
   refl,
-  ((Signed Dec, integer, refl, record { kind = refl; width = refl; slot = refl; optional = refl; column = refl }, refl, refl), tt),
+  (
+    (
+      Signed Dec,
+      integer,
+      refl,
+      record { kind = refl; width = refl; slot = refl; optional = refl; opens = refl; column = refl },
+      refl,
+      refl,
+    ),
+    tt,
+  ),
 )
   where
     differs : ◌≢◌ {A = ℕ} 100 91
@@ -272,7 +285,7 @@ unknown =
       inl (
         WhiteSpace (32 ∷ []) ∷ [],
         codes "%k",
-        record { each = ((lit< tt, (refl, tt)), tt); apart = tt; alike = inl (tt, lit≤ tt) },
+        record { each = ((lit< tt, (refl, tt)), tt); apart = tt; alike = inl (tt, lit≤ tt); grouped = (refl, tt) },
         refl,
         refl,
       ),

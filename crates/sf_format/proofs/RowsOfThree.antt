@@ -15,15 +15,19 @@ use Rattle.sf_format.specs.declared.directive.Shape.{Shape}
 use Rattle.sf_format.specs.declared.directive.Shape.TheVariants.{Int, Text, Float}
 use Rattle.sf_format.specs.declared.directive.Conversion.{Conversion}
 use Rattle.sf_format.specs.declared.directive.Directive.{Directive}
-use Rattle.sf_format.specs.declared.directive.Directive.TheVariants.{Conv}
+use Rattle.sf_format.specs.declared.directive.Directive.TheVariants.{Conv, Opens, Percent}
+use Rattle.sf_format.specs.declared.directive.Literal.TheVariants as literal
 use Rattle.sf_format.specs.declared.letter.Letter.{Letter}
 use Rattle.sf_format.specs.declared.letter.Letter.TheVariants as letter
 use Rattle.sf_format.specs.declared.letter.Length.{Length}
 use Rattle.sf_format.specs.declared.letter.Length.TheVariants.{NoLength, L}
 use Rattle.sf_format.specs.declared.fault.FormatWhy.TheVariants.{Truncated, ZeroWidth, TooWide, UnknownLetter, LeftOut, BadLength}
-use Rattle.sf_format.specs.declared.fault.FormatWhy.TheVariants.{BackwardRange, BadCount, BadNumber, NumberTwice, BadMark}
+use Rattle.sf_format.specs.declared.fault.FormatWhy.TheVariants.{BackwardRange, BadCount, BadNumber, NumberTwice, BadMark, BadGroup}
+use Rattle.sf_format.specs.declared.fault.FormatWhy.TheVariants.{MixedNumbering, NumberGap}
+use Rattle.sf_format.specs.declared.groups.Stage.TheVariants.{Outside}
+use Rattle.sf_format.specs.Groups.{role_by, may_stand, next_stage}
 use Rattle.sf_format.specs.Letters.{letter_of, kind_of}
-use Rattle.sf_format.specs.Pieces.{Opening, Ordinary, Plain, Bracket, text_of}
+use Rattle.sf_format.specs.Pieces.{Opening, WhiteSpace, Ordinary, Percents, Plain, Bracket, GroupStart, GroupEnd, text_of}
 use Rattle.sf_format.specs.Grammar.{ArePlaced, Suits, SuitsCount, SuitsColumn, SuitsMark, IsConversion, shape_of, destinations, Spells}
 use Rattle.sf_format.specs.Proper.{has_optional, may_miss}
 use Rattle.sf_format.specs.Widths.{width_sum}
@@ -101,10 +105,38 @@ faults : AreJudged (Scan Three) (
     ∷ (codes "%*?=!0d", at ZeroWidth 5)
     ∷ (codes "%1$?=!70000d", at TooWide 6)
     ∷ (codes "%=5hs", at BadLength 4)
+    ∷ (codes "%?(", at BadGroup 0)
+    ∷ (codes "%)", at BadGroup 0)
+    ∷ (codes "%)%k", at BadGroup 0)
+    ∷ (codes "a%?(", at BadGroup 1)
+    ∷ (codes "%?(%)", at BadGroup 0)
+    ∷ (codes "%?(%)%k", at BadGroup 0)
+    ∷ (codes "a%?( %d%)", at BadGroup 1)
+    ∷ (codes " %?( %d%)", at BadGroup 1)
+    ∷ (codes "%?(%n%)", at BadGroup 0)
+    ∷ (codes "%?(%?d%)", at BadGroup 0)
+    ∷ (codes "%?(%?[a]%)", at BadGroup 0)
+    ∷ (codes "%?(%?n%)", at BadCount 5)
+    ∷ (codes "%?(%k%)", at UnknownLetter 4)
+    ∷ (codes "%?(a%?(b%)%)", at BadGroup 4)
+    ∷ (codes "%?(%?(a%)%)", at BadGroup 3)
+    ∷ (codes "%?(a%)%)", at BadGroup 6)
+    ∷ (codes "%?(a%)%?(b", at BadGroup 6)
+    ∷ (codes "%?(%d", at BadGroup 0)
+    ∷ (codes "%?(%d%k", at UnknownLetter 6)
+    ∷ (codes "%1$d%?(%3$d", at BadGroup 4)
+    ∷ (codes "%1$d%?(%3$d%)", at NumberGap 7)
+    ∷ (codes "%d%?(%1$d%)", at MixedNumbering 5)
+    ∷ (codes "%*?(", at UnknownLetter 3)
+    ∷ (codes "%?=(", at UnknownLetter 3)
+    ∷ (codes "%1$?(", at UnknownLetter 4)
+    ∷ (codes "%*)", at UnknownLetter 2)
+    ∷ (codes "%?)", at UnknownLetter 2)
+    ∷ (codes "%(", at UnknownLetter 1)
     ∷ [])
 faults = refl
 
--- below profile 3 floats are left out, and ?, = and ! are no letters
+-- below profile 3 floats are left out, and ?, =, ! and ) are no letters
 of_two : AreJudged (Scan Two) (
     (codes "%f", at LeftOut 1)
     ∷ (codes "%hf", at LeftOut 2)
@@ -116,6 +148,8 @@ of_two : AreJudged (Scan Two) (
     ∷ (codes "%*!c", at UnknownLetter 2)
     ∷ (codes "%=5d", at UnknownLetter 1)
     ∷ (codes "%*=5d", at UnknownLetter 2)
+    ∷ (codes "%?(%d%)", at UnknownLetter 1)
+    ∷ (codes "%)", at UnknownLetter 1)
     ∷ [])
 of_two = refl
 
@@ -124,14 +158,18 @@ of_one : AreJudged (Scan One) (
     ∷ (codes "%?d", at UnknownLetter 1)
     ∷ (codes "%=5d", at UnknownLetter 1)
     ∷ (codes "%!d", at UnknownLetter 1)
+    ∷ (codes "%?(%d%)", at UnknownLetter 1)
+    ∷ (codes "%)", at UnknownLetter 1)
     ∷ [])
 of_one = refl
 
--- print formats have no ?, no = and no !
+-- print formats have no ?, no =, no ! and no groups
 printed : AreJudged (Print Three) (
     (codes "%?d", at UnknownLetter 1)
     ∷ (codes "%=5d", at UnknownLetter 1)
     ∷ (codes "%!d", at UnknownLetter 1)
+    ∷ (codes "%?(%d%)", at UnknownLetter 1)
+    ∷ (codes "%)", at UnknownLetter 1)
     ∷ [])
 printed = refl
 
@@ -164,18 +202,46 @@ formats : AreJudged (Scan Three) (
     ∷ (codes "%=3s", parts (Plain (column (sized (codes "3") NoLength)) 115 ∷ []))
     ∷ (codes "%=2[ab]", parts (Bracket (column (sized (codes "2") NoLength)) (listed false 97 (codes "b")) ∷ []))
     ∷ (codes "%1$!i", parts (Plain (strict (opened (codes "1") [] [] None NoLength)) 105 ∷ []))
+    ∷ (codes "%d%?(,%d%)", parts (Plain plain 100 ∷ GroupStart ∷ Ordinary 44 ∷ Plain plain 100 ∷ GroupEnd ∷ []))
+    ∷ (codes "%?(%d%)", parts (GroupStart ∷ Plain plain 100 ∷ GroupEnd ∷ []))
+    ∷ (
+      codes "%?([%d]%) %s",
+      parts (GroupStart ∷ Ordinary 91 ∷ Plain plain 100 ∷ Ordinary 93 ∷ GroupEnd ∷ WhiteSpace (codes " ") ∷ Plain plain 115 ∷ []),
+    )
+    ∷ (codes "%?(%%%d%)", parts (GroupStart ∷ Percents ∷ Plain plain 100 ∷ GroupEnd ∷ []))
+    ∷ (
+      codes "%?(%d %) %?(a%?d%n%)",
+      parts (GroupStart ∷ Plain plain 100 ∷ WhiteSpace (codes " ") ∷ GroupEnd ∷ WhiteSpace (codes " ") ∷ GroupStart ∷ Ordinary 97
+          ∷ Plain (missing plain) 100 ∷ Plain plain 110 ∷ GroupEnd ∷ []),
+    )
     ∷ [])
 formats = refl
 
 -- ---- by the definitions themselves
 
+-- outside a group a conversion stands alone
+stands : (v : Bool) → may_stand Outside (role_by v) ≡ true
+stands true = refl
+stands false = refl
+
+stays : (v : Bool) → next_stage Outside (role_by v) ≡ Outside
+stays true = refl
+stays false = refl
+
 -- one conversion, and what it stands for
 spelled : (o : Opening) (b : ℕ) (letter : Letter) (c : Conversion) → b ≢ 91 → letter_of Three b ≡ Some letter → Suits Three letter o
-    → length (text_of (Plain o b ∷ [])) ≤ 4096 → ArePlaced (destinations (Plain o b ∷ [])) → IsConversion 1 o letter c
+    → length (text_of (Plain o b ∷ [])) ≤ 4096 → ArePlaced (destinations (Plain o b ∷ [])) → IsConversion None 1 o letter c
     → shape_of letter o.strict c.shape → Spells Three (text_of (Plain o b ∷ [])) (Conv c ∷ [])
 spelled o b letter c plain found suits short placed is takes = (
   Plain o b ∷ [],
-  record { short = short; each = ((plain, (letter, found, suits)), tt); apart = tt; slots = inl placed },
+  record {
+    short = short;
+    each = ((plain, (letter, found, suits)), tt);
+    apart = tt;
+    slots = inl placed;
+    grouped = (stands _, tt);
+    closed = stays _;
+  },
   refl,
   ((letter, c, found, is, takes, refl), tt),
 )
@@ -187,6 +253,7 @@ conversion shape kind width slot optional = record {
   width = width;
   slot = slot;
   optional = optional;
+  opens = None;
   column = false;
 }
 
@@ -231,19 +298,19 @@ float : Spells Three (codes "%f") (Conv (conversion (Float Any) F32 None (Some 1
 float =
     spelled (unnumbered false false false [] NoLength) 102 letter.Float _ (no_bracket 102 (lit≤ tt)) refl
     (suits false false false letter.Float [] NoLength tt refl tt no_column tt) (lit≤ tt) ((refl, tt), lit≤ tt)
-    (record { kind = refl; width = refl; slot = refl; optional = refl; column = refl }) refl
+    (record { kind = refl; width = refl; slot = refl; optional = refl; opens = refl; column = refl }) refl
 
 long_float : Spells Three (codes "%lf") (Conv (conversion (Float Any) F64 None (Some 1) false) ∷ [])
 long_float =
     spelled (unnumbered false false false [] L) 102 letter.Float _ (no_bracket 102 (lit≤ tt)) refl
     (suits false false false letter.Float [] L tt refl tt no_column tt) (lit≤ tt) ((refl, tt), lit≤ tt)
-    (record { kind = refl; width = refl; slot = refl; optional = refl; column = refl }) refl
+    (record { kind = refl; width = refl; slot = refl; optional = refl; opens = refl; column = refl }) refl
 
 missing_integer : Spells Three (codes "%?d") (Conv (conversion (integer Any) I32 None (Some 1) true) ∷ [])
 missing_integer =
     spelled (unnumbered true false false [] NoLength) 100 (letter.Signed Dec) _ (no_bracket 100 (lit≤ tt)) refl
     (suits true false false (letter.Signed Dec) [] NoLength tt refl tt no_column tt) (lit≤ tt) ((refl, tt), lit≤ tt)
-    (record { kind = refl; width = refl; slot = refl; optional = refl; column = refl }) refl
+    (record { kind = refl; width = refl; slot = refl; optional = refl; opens = refl; column = refl }) refl
 
 missing_suppressed : Spells Three (codes "%*?d") (Conv (conversion (integer Any) I32 None None true) ∷ [])
 missing_suppressed =
@@ -261,13 +328,13 @@ missing_suppressed =
       count = tt;
       placed = λ e. absurd (cc);
       mark = tt;
-    }) (lit≤ tt) (tt, lit≤ tt) (record { kind = refl; width = refl; slot = refl; optional = refl; column = refl }) refl
+    }) (lit≤ tt) (tt, lit≤ tt) (record { kind = refl; width = refl; slot = refl; optional = refl; opens = refl; column = refl }) refl
 
 missing_float : Spells Three (codes "%?5lf") (Conv (conversion (Float Any) F64 (Some 5) (Some 1) true) ∷ [])
 missing_float =
     spelled (unnumbered true false false (codes "5") L) 102 letter.Float _ (no_bracket 102 (lit≤ tt)) refl
     (suits true false false letter.Float (codes "5") L ((refl, tt), lit< tt, lit≤ tt) refl tt no_column tt) (lit≤ tt) ((refl, tt), lit≤ tt)
-    (record { kind = refl; width = refl; slot = refl; optional = refl; column = refl }) refl
+    (record { kind = refl; width = refl; slot = refl; optional = refl; opens = refl; column = refl }) refl
 
 -- ---- with !
 
@@ -275,13 +342,13 @@ strict_integer : Spells Three (codes "%!d") (Conv (conversion (integer Minus) I3
 strict_integer =
     spelled (unnumbered false false true [] NoLength) 100 (letter.Signed Dec) _ (no_bracket 100 (lit≤ tt)) refl
     (suits false false true (letter.Signed Dec) [] NoLength tt refl tt no_column tt) (lit≤ tt) ((refl, tt), lit≤ tt)
-    (record { kind = refl; width = refl; slot = refl; optional = refl; column = refl }) refl
+    (record { kind = refl; width = refl; slot = refl; optional = refl; opens = refl; column = refl }) refl
 
 strict_unsigned : Spells Three (codes "%!u") (Conv (conversion (integer Nothing) U32 None (Some 1) false) ∷ [])
 strict_unsigned =
     spelled (unnumbered false false true [] NoLength) 117 (letter.Unsigned Dec) _ (no_bracket 117 (lit≤ tt)) refl
     (suits false false true (letter.Unsigned Dec) [] NoLength tt refl tt no_column tt) (lit≤ tt) ((refl, tt), lit≤ tt)
-    (record { kind = refl; width = refl; slot = refl; optional = refl; column = refl }) refl
+    (record { kind = refl; width = refl; slot = refl; optional = refl; opens = refl; column = refl }) refl
 
 strict_suppressed :
     Spells Three (codes "%*!x") (Conv (conversion (Int (record { base = Hex; lead = Nothing })) U32 None None false) ∷ [])
@@ -300,19 +367,19 @@ strict_suppressed =
       count = tt;
       placed = λ e. absurd (cc);
       mark = tt;
-    }) (lit≤ tt) (tt, lit≤ tt) (record { kind = refl; width = refl; slot = refl; optional = refl; column = refl }) refl
+    }) (lit≤ tt) (tt, lit≤ tt) (record { kind = refl; width = refl; slot = refl; optional = refl; opens = refl; column = refl }) refl
 
 strict_float : Spells Three (codes "%?!5lf") (Conv (conversion (Float Minus) F64 (Some 5) (Some 1) true) ∷ [])
 strict_float =
     spelled (unnumbered true false true (codes "5") L) 102 letter.Float _ (no_bracket 102 (lit≤ tt)) refl
     (suits true false true letter.Float (codes "5") L ((refl, tt), lit< tt, lit≤ tt) refl tt no_column tt) (lit≤ tt) ((refl, tt), lit≤ tt)
-    (record { kind = refl; width = refl; slot = refl; optional = refl; column = refl }) refl
+    (record { kind = refl; width = refl; slot = refl; optional = refl; opens = refl; column = refl }) refl
 
 strict_text : Spells Three (codes "%!s") (Conv (conversion (Text Nothing) kind.Text None (Some 1) false) ∷ [])
 strict_text =
     spelled (unnumbered false false true [] NoLength) 115 letter.Text _ (no_bracket 115 (lit≤ tt)) refl
     (suits false false true letter.Text [] NoLength tt refl tt no_column tt) (lit≤ tt) ((refl, tt), lit≤ tt)
-    (record { kind = refl; width = refl; slot = refl; optional = refl; column = refl }) refl
+    (record { kind = refl; width = refl; slot = refl; optional = refl; opens = refl; column = refl }) refl
 
 -- ---- with =
 
@@ -320,14 +387,68 @@ column_float : Spells Three (codes "%=8lf") (Conv (record (conversion (Float Any
 column_float =
     spelled (unnumbered false true false (codes "8") L) 102 letter.Float _ (no_bracket 102 (lit≤ tt)) refl
     (suits false true false letter.Float (codes "8") L ((refl, tt), lit< tt, lit≤ tt) refl tt has_room tt) (lit≤ tt)
-    ((refl, tt), lit≤ tt) (record { kind = refl; width = refl; slot = refl; optional = refl; column = refl }) refl
+    ((refl, tt), lit≤ tt) (record { kind = refl; width = refl; slot = refl; optional = refl; opens = refl; column = refl }) refl
 
 column_text : Spells Three (codes "%?=!3s") (Conv (record (conversion (Text Nothing) kind.Text (Some 3) (Some 1) true)
     { column = true }) ∷ [])
 column_text =
     spelled (unnumbered true true true (codes "3") NoLength) 115 letter.Text _ (no_bracket 115 (lit≤ tt)) refl
     (suits true true true letter.Text (codes "3") NoLength ((refl, tt), lit< tt, lit≤ tt) refl tt has_room tt) (lit≤ tt)
-    ((refl, tt), lit≤ tt) (record { kind = refl; width = refl; slot = refl; optional = refl; column = refl }) refl
+    ((refl, tt), lit≤ tt) (record { kind = refl; width = refl; slot = refl; optional = refl; opens = refl; column = refl }) refl
+
+-- ---- in groups
+
+-- the first directive of a group, and how many follow it there
+one_group : Spells Three (codes "%?(%d%)") (Conv (record (conversion (integer Any) I32 None (Some 1) true) { opens = Some 0 }) ∷ [])
+one_group = (
+  GroupStart ∷ Plain plain 100 ∷ GroupEnd ∷ [],
+  record {
+    short = lit≤ tt;
+    each = (
+      refl,
+      (
+        (
+          no_bracket 100 (lit≤ tt),
+          (letter.Signed Dec, refl, suits false false false (letter.Signed Dec) [] NoLength tt refl tt no_column tt),
+        ),
+        (refl, tt),
+      ),
+    );
+    apart = tt;
+    slots = inl ((refl, tt), lit≤ tt);
+    grouped = (refl, (refl, (refl, tt)));
+    closed = refl;
+  },
+  refl,
+  (
+    (
+      letter.Signed Dec,
+      _,
+      refl,
+      record { kind = refl; width = refl; slot = refl; optional = refl; opens = refl; column = refl },
+      refl,
+      refl,
+    ),
+    tt,
+  ),
+)
+
+-- literals that open one and follow there
+of_literals : Spells Three (codes "%?(,%%%)")
+    (Opens (record { literal = literal.Byte 44; more = 1 }) ∷ Percent ∷ [])
+of_literals = (
+  GroupStart ∷ Ordinary 44 ∷ Percents ∷ GroupEnd ∷ [],
+  record {
+    short = lit≤ tt;
+    each = (refl, ((lit< tt, (λ e. absurd (cc)), (λ e. absurd (cc)), refl), (tt, (refl, tt))));
+    apart = tt;
+    slots = inl (tt, lit≤ tt);
+    grouped = (refl, (refl, (refl, (refl, tt))));
+    closed = refl;
+  },
+  refl,
+  (refl, (refl, tt)),
+)
 
 -- ---- what they store
 
@@ -348,3 +469,12 @@ marked = refl
 
 which : map (λ slot. may_miss slot some_floats) (1 ∷ 2 ∷ 3 ∷ []) ≡ true ∷ false ∷ false ∷ []
 which = refl
+
+-- `%d%?(,%d%)`: the second integer may be missing with the comma
+abbrev some_group : List Directive
+some_group =
+    Conv (conversion (integer Any) I32 None (Some 1) false) ∷ Opens (record { literal = literal.Byte 44; more = 1 })
+    ∷ Conv (conversion (integer Any) I32 None (Some 2) false) ∷ []
+
+in_group : map (λ slot. may_miss slot some_group) (1 ∷ 2 ∷ 3 ∷ []) ≡ false ∷ true ∷ false ∷ []
+in_group = refl

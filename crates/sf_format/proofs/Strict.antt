@@ -5,7 +5,7 @@ use Rattle.std.specs.List.{AllByRecursion, fold}
 use Rattle.sf_format.specs.declared.directive.Shape.{Shape}
 use Rattle.sf_format.specs.declared.directive.Shape.TheVariants.{Int, Text, Set, Chars, Float, Count}
 use Rattle.sf_format.specs.declared.directive.Directive.{Directive}
-use Rattle.sf_format.specs.declared.directive.Directive.TheVariants.{Space, Byte, Percent, Conv}
+use Rattle.sf_format.specs.declared.directive.Directive.TheVariants.{Space, Byte, Percent, Conv, Opens}
 use Rattle.sf_base.specs.declared.values.Kind.{Kind}
 use Rattle.sf_format.specs.Layout.{is_item, items_assigned, items_taken, takes_item, assigns_item}
 use Rattle.sf_format.specs.Proper.{IsAccepted, destination_of, destinations_of, has_optional, is_optional}
@@ -74,42 +74,49 @@ proper_one : (d : Directive) → IsProper d → IsProper (strictly d)
 proper_one Space h = h
 proper_one (Byte b) h = h
 proper_one Percent h = h
+proper_one (Opens o) h = h
 proper_one (Conv c) h = (proper_shape c.kind c.shape h.0, h.1)
 
 sized_one : (d : Directive) → IsSized d → IsSized (strictly d)
 sized_one Space h = h
 sized_one (Byte b) h = h
 sized_one Percent h = h
+sized_one (Opens o) h = h
 sized_one (Conv c) h = has_width c.kind c.shape c.width h
 
 kinded_one : (d : Directive) → IsKinded d → IsKinded (strictly d)
 kinded_one Space h = h
 kinded_one (Byte b) h = h
 kinded_one Percent h = h
+kinded_one (Opens o) h = h
 kinded_one (Conv c) h = has_kind c.kind c.shape h
 
 columned_one : (d : Directive) → IsColumned d → IsColumned (strictly d)
 columned_one Space h = h
 columned_one (Byte b) h = h
 columned_one Percent h = h
+columned_one (Opens o) h = h
 columned_one (Conv c) h = λ e. let has = h e in (has.0, has_column c.kind c.shape has.1)
 
 destination_stays : (d : Directive) → destination_of (strictly d) ≡ destination_of d
 destination_stays Space = refl
 destination_stays (Byte b) = refl
 destination_stays Percent = refl
+destination_stays (Opens o) = refl
 destination_stays (Conv c) = refl
 
 optional_stays : (d : Directive) → is_optional (strictly d) ≡ is_optional d
 optional_stays Space = refl
 optional_stays (Byte b) = refl
 optional_stays Percent = refl
+optional_stays (Opens o) = refl
 optional_stays (Conv c) = refl
 
 stored_stays : (d : Directive) → stored_width (strictly d) ≡ stored_width d
 stored_stays Space = refl
 stored_stays (Byte b) = refl
 stored_stays Percent = refl
+stored_stays (Opens o) = refl
 stored_stays (Conv c) = by c.slot refl
   where
     by : (slot : Option ℕ) → c.slot ≡ slot → stored_width (strictly (Conv c)) ≡ stored_width (Conv c)
@@ -120,12 +127,14 @@ takes_stays : (d : Directive) → takes_item (strictly d) ≡ takes_item d
 takes_stays Space = refl
 takes_stays (Byte b) = refl
 takes_stays Percent = refl
+takes_stays (Opens o) = refl
 takes_stays (Conv c) = item_stays c.kind c.shape
 
 assigns_stays : (d : Directive) → assigns_item (strictly d) ≡ assigns_item d
 assigns_stays Space = refl
 assigns_stays (Byte b) = refl
 assigns_stays Percent = refl
+assigns_stays (Opens o) = refl
 assigns_stays (Conv c) = rw (item_stays c.kind c.shape) refl
 
 -- ---- a list

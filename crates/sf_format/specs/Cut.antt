@@ -1,5 +1,6 @@
 -- How a text is cut where a part of a format begins.
-use Rattle.std.specs.Prelude.{ℕ, Bool, false, List, [], ◌∷◌, length, drop, nat_eq, if◌then◌else◌, Option, Some, None, codes}
+use Rattle.std.specs.Prelude.{ℕ, Bool, false, List, [], ◌∷◌, length, drop, nat_eq, if◌then◌else◌, Option, Some, None, unwrap_or}
+use Rattle.std.specs.Prelude.{codes}
 use Prim.Native.Char.{code}
 use Rattle.sf_base.specs.Bytes.{is_white}
 use Rattle.sf_format.specs.Digits.{is_decimal}
@@ -11,7 +12,7 @@ use Rattle.sf_format.specs.declared.directive.Profile.{Profile}
 use Rattle.sf_format.specs.Scanlist.{Scanlist, is_inner}
 use Rattle.sf_format.specs.Language.{Language, Scan, Print}
 use Rattle.sf_format.specs.PrintLetters.{is_flag}
-use Rattle.sf_format.specs.Pieces.{Opening, Piece, WhiteSpace, Ordinary, Percents, Plain, Bracket}
+use Rattle.sf_format.specs.Pieces.{Opening, Piece, WhiteSpace, Ordinary, Percents, Plain, Bracket, GroupStart, GroupEnd}
 
 -- ---- a conversion specification up to its letter
 
@@ -124,10 +125,28 @@ letter_at o (letter ∷ x) =
 abbrev pub conversion_at : Language → List ℕ → Part
 conversion_at language x = letter_at (cut language x).opening (cut language x).rest
 
+-- the formats that have groups
+abbrev pub has_groups : Language → Bool
+has_groups (Scan profile) = has_doubles profile
+has_groups (Print profile) = false
+
+-- the mark of a group after its %, if one stands there
+abbrev pub group_mark : List ℕ → Option Part
+group_mark x =
+    if begins (codes "?(") x then Some (record { piece = GroupStart; rest = drop 2 x })
+    else if begins (codes ")") x then Some (record { piece = GroupEnd; rest = drop 1 x })
+    else None
+
+-- the part after its % that is no conversion specification, if one stands there: %%, or the mark of a group
+abbrev pub short_part : Language → List ℕ → Option Part
+short_part language x =
+    if begins (codes "%") x then Some (record { piece = Percents; rest = drop 1 x })
+    else if has_groups language then group_mark x
+    else None
+
 -- after a %
 abbrev pub specification_at : Language → List ℕ → Part
-specification_at language x =
-    if begins (codes "%") x then record { piece = Percents; rest = drop 1 x } else conversion_at language x
+specification_at language x = unwrap_or (short_part language x) (conversion_at language x)
 
 -- white space runs together in scan formats alone
 abbrev pub joins_run : Language → ℕ → Bool

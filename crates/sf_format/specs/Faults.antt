@@ -1,24 +1,26 @@
 -- The first fault of a text that is no format. C11 7.21.6.1p9 and 7.21.6.2p13 leave such a text undefined; here it is refused.
-use Rattle.std.specs.Prelude.{◌≡◌, ℕ, ◌+◌, ◌<◌, ◌≤◌, ◌⊎◌, Bool, true, not, ◌&&◌, ◌||◌, List, [], ◌∷◌, ◌++◌, length, map, Some, Result, Err}
-use Rattle.std.specs.Prelude.{MatchResult, is_some, is_none, nat_eq, nat_lt, if◌then◌else◌, codes}
+use Rattle.std.specs.Prelude.{◌≡◌, ℕ, ◌+◌, ◌<◌, ◌≤◌, ◌⊎◌, Bool, true, not, ◌&&◌, ◌||◌, List, [], ◌∷◌, ◌++◌, length, map}
+use Rattle.std.specs.Prelude.{Option, Some, Result, Err, MatchResult, is_some, is_none, nat_eq, nat_lt, if◌then◌else◌, codes}
 use Prim.Native.Char.{code}
 use Rattle.std.specs.List.{AllByRecursion, list_all}
 use Rattle.sf_base.specs.Bytes.{magnitude}
+use Rattle.sf_format.specs.PrintGrammar.{PrintsApart}
 use Rattle.sf_format.specs.declared.directive.Profile.{Profile}
 use Rattle.sf_format.specs.Language.{Language, Scan, Print}
 use Rattle.sf_format.specs.declared.fault.FormatFault.{FormatFault}
 use Rattle.sf_format.specs.declared.fault.FormatWhy.{FormatWhy}
 use Rattle.sf_format.specs.declared.fault.FormatWhy.TheVariants.{Truncated, ZeroWidth, TooWide, UnknownLetter, LeftOut, BadLength, OpenSet}
 use Rattle.sf_format.specs.declared.fault.FormatWhy.TheVariants.{BackwardRange, BadCount, BadNumber, NumberTwice, NumberGap, Nul}
-use Rattle.sf_format.specs.declared.fault.FormatWhy.TheVariants.{FormatTooLong, NoMemory, BadMark}
+use Rattle.sf_format.specs.declared.fault.FormatWhy.TheVariants.{FormatTooLong, NoMemory, BadMark, BadGroup}
 use Rattle.sf_format.specs.Letters.{has_doubles, letter_of}
 use Rattle.sf_format.specs.PrintLetters.{print_letter_of}
 use Rattle.sf_format.specs.Scanlist.{backward_range, caret_text}
-use Rattle.sf_format.specs.Lists.{is_any_of, begins, mark_at, is_written}
-use Rattle.sf_format.specs.Cut.{cut, members_at, close_at}
+use Rattle.sf_format.specs.Lists.{is_any_of, mark_at, is_written}
+use Rattle.sf_format.specs.Cut.{cut, short_part, part_at, members_at, close_at}
 use Rattle.sf_format.specs.Pieces.{Opening, Piece, number_text, star_text, optional_text, column_text, strict_text, opening_text}
 use Rattle.sf_format.specs.Pieces.{piece_text, text_of}
-use Rattle.sf_format.specs.PrintGrammar.{Prints}
+use Rattle.sf_format.specs.declared.groups.Stage.TheVariants.{Outside}
+use Rattle.sf_format.specs.Groups.{role_of, may_stand, stage_after, AreGrouped, last_start, place_told, is_open}
 use Rattle.sf_format.specs.Grammar.{IsPiece, RunsApart, AreAlike, destinations, Means, SpellsAs}
 use Rattle.sf_format.specs.Rules.{Rule, first_of, takes_text, takes_double, has_length, is_l, place_of, or_zero, slot_rules}
 use Rattle.sf_format.specs.PrintRules.{print_opening_rules, print_letter_rules, flag_rules, is_other_length}
@@ -104,16 +106,32 @@ conversion_rules language earlier p x =
 
 -- what follows a %
 abbrev pub percent_rules : Language → List Opening → ℕ → List ℕ → List Rule
-percent_rules language earlier p x = if not (begins (codes "%") x) then conversion_rules language earlier p x else []
+percent_rules language earlier p x = if is_none (short_part language x) then conversion_rules language earlier p x else []
 
 -- ---- the faults of a text
 
--- where the next part begins, at p, with these bytes
+-- the next part itself, which begins at p with these bytes
 abbrev pub part_rules : Language → List Opening → ℕ → List ℕ → List Rule
 part_rules language earlier p [] = []
 part_rules language earlier p (b ∷ x) =
     record { why = Nul; applies = nat_eq b 0; at = p }
     ∷ (if nat_eq b (code "%") then percent_rules language earlier p x else [])
+
+-- where a part stands after others, outside a group or in one
+abbrev pub group_rules : List Piece → Piece → List Rule
+group_rules done piece =
+    let stage = stage_after Outside done in
+    let role = role_of piece in
+    record {
+      why = BadGroup;
+      applies = not (may_stand stage role);
+      at = place_told stage role (last_start 0 0 done) (length (text_of done));
+    } ∷ []
+
+-- the next part, which begins with these bytes, after others: it itself, and then where it stands
+abbrev pub next_rules : Language → List Piece → List ℕ → List Rule
+next_rules language done x =
+    part_rules language (destinations done) (length (text_of done)) x ++ group_rules done (part_at language x).piece
 
 -- the numbers of the destinations, each with the place of its %
 abbrev pub numbered : ℕ → List Piece → List (ℕ × ℕ)
@@ -138,28 +156,37 @@ number_rules pieces =
     repeated [] (numbered 0 pieces) ++ beyond (length (destinations pieces)) (numbered 0 pieces)
     else []
 
+-- a group that is open at the end
+abbrev pub open_rules : List Piece → List Rule
+open_rules pieces = record { why = BadGroup; applies = is_open (stage_after Outside pieces); at = last_start 0 0 pieces } ∷ []
+
+-- the whole format
+abbrev pub whole_rules : List Piece → List Rule
+whole_rules pieces = open_rules pieces ++ number_rules pieces
+
 -- whole parts, none of which has a fault so far
 pub record AreFaultless (language : Language) (done : List Piece) : Type 0 where
   pub each : AllByRecursion (IsPiece language) done
   pub apart : RunsApart done
   pub alike : AreAlike (destinations done)
+  pub grouped : AreGrouped Outside done
 
 -- after whole parts without a fault, the first fault of what follows
 abbrev pub PartFault : Language → List ℕ → FormatWhy × ℕ → Type 0
 PartFault language text fault =
     (done : List Piece) × (rest : List ℕ) × AreFaultless language done × (text ≡ text_of done ++ rest)
-    × (first_of (part_rules language (destinations done) (length (text_of done)) rest) ≡ Some fault)
+    × (first_of (next_rules language done rest) ≡ Some fault)
 
--- the whole text has no such fault, and its numbers have one
-abbrev pub NumberFault : Language → List ℕ → FormatWhy × ℕ → Type 0
-NumberFault language text fault =
-    (done : List Piece) × AreFaultless language done × (text ≡ text_of done) × (first_of (number_rules done) ≡ Some fault)
+-- the parts of the whole text have no such fault, and it has one itself
+abbrev pub WholeFault : Language → List ℕ → FormatWhy × ℕ → Type 0
+WholeFault language text fault =
+    (done : List Piece) × AreFaultless language done × (text ≡ text_of done) × (first_of (whole_rules done) ≡ Some fault)
 
 -- the first fault of the text, and its place
 abbrev pub FaultIn : Language → List ℕ → ℕ → FormatWhy → Type 0
 FaultIn language text at why =
     (4096 < length text) × (at ≡ 4096) × (why ≡ FormatTooLong)
-    ⊎ (length text ≤ 4096) × (PartFault language text (why, at) ⊎ NumberFault language text (why, at))
+    ⊎ (length text ≤ 4096) × (PartFault language text (why, at) ⊎ WholeFault language text (why, at))
 
 -- of a scan format
 abbrev pub Fault : Profile → List ℕ → ℕ → FormatWhy → Type 0
@@ -175,7 +202,7 @@ abbrev pub no_memory : FormatFault
 no_memory = record { at = 0; why = NoMemory }
 
 -- the first fault of the text, or memory where the text has none
-abbrev pub IsRefusedAs : {D : Type 0} → Language → (ℕ → Piece → D → Type 0) → List ℕ → FormatFault → Type 0
+abbrev pub IsRefusedAs : {D : Type 0} → Language → (Option ℕ → ℕ → Piece → D → Type 0) → List ℕ → FormatFault → Type 0
 IsRefusedAs {D} language means text fault =
     FaultIn language text fault.at fault.why ⊎ (fault ≡ no_memory) × ((ds : List D) × SpellsAs language means text ds)
 
@@ -183,7 +210,7 @@ abbrev pub IsRefused : Profile → List ℕ → FormatFault → Type 0
 IsRefused profile text fault = IsRefusedAs (Scan profile) (Means profile) text fault
 
 abbrev pub IsPrintRefused : Profile → List ℕ → FormatFault → Type 0
-IsPrintRefused profile text fault = IsRefusedAs (Print profile) (Prints profile) text fault
+IsPrintRefused profile text fault = IsRefusedAs (Print profile) (PrintsApart profile) text fault
 
 -- a text with a fault is refused for it
 abbrev pub TellsFault : {A : Type 0} → (ℕ → FormatWhy → Type 0) → Result A FormatFault → Type 0

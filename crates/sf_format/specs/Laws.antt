@@ -1,6 +1,7 @@
 -- Laws of formats.
-use Rattle.std.specs.Prelude.{◌≡◌, ℕ, ◌≤◌, ◌⊎◌, ◌↔◌, List, length, IsSome}
+use Rattle.std.specs.Prelude.{◌≡◌, ℕ, ◌≤◌, ◌⊎◌, ◌↔◌, false, List, length, IsSome}
 use Rattle.sf_base.specs.Bytes.{AreBytes}
+use Rattle.sf_format.specs.PrintGrammar.{PrintsApart}
 use Rattle.sf_format.specs.declared.directive.Profile.{Profile}
 use Rattle.sf_format.specs.declared.directive.Profile.TheVariants.{One, Two, Three}
 use Rattle.sf_format.specs.declared.directive.Directive.{Directive}
@@ -8,7 +9,6 @@ use Rattle.sf_format.specs.Language.{Scan, Print}
 use Rattle.sf_format.specs.declared.unit.Unit.{Unit as PrintUnit}
 use Rattle.sf_format.specs.declared.fault.FormatWhy.{FormatWhy}
 use Rattle.sf_format.specs.Pieces.{Piece}
-use Rattle.sf_format.specs.PrintGrammar.{Prints}
 use Rattle.sf_format.specs.Grammar.{Spells, SpellsPrint, IsFormat, ArePlaced, destinations, Means, MeanAll}
 use Rattle.sf_format.specs.Proper.{IsAccepted, AreInOrder}
 use Rattle.sf_format.specs.Units.{AreAccepted, ArePrintedInOrder}
@@ -47,7 +47,7 @@ EachIsProper = (profile : Profile) (text : List ℕ) (ds : List Directive) → S
 abbrev pub EachUnnumberedIsInOrder : Type 0
 EachUnnumberedIsInOrder =
     (profile : Profile) (pieces : List Piece) (ds : List Directive) → IsFormat (Scan profile) pieces → ArePlaced (destinations pieces)
-    → MeanAll (Means profile) 1 pieces ds → AreInOrder ds
+    → MeanAll (Means profile) false 1 pieces ds → AreInOrder ds
 
 -- ---- print formats
 
@@ -57,7 +57,7 @@ EachPrintIsProper = (profile : Profile) (text : List ℕ) (us : List PrintUnit) 
 abbrev pub EachUnnumberedPrintIsInOrder : Type 0
 EachUnnumberedPrintIsInOrder =
     (profile : Profile) (pieces : List Piece) (us : List PrintUnit) → IsFormat (Print profile) pieces → ArePlaced (destinations pieces)
-    → MeanAll (Prints profile) 1 pieces us → ArePrintedInOrder us
+    → MeanAll (PrintsApart profile) false 1 pieces us → ArePrintedInOrder us
 
 -- ---- slots
 
@@ -87,7 +87,7 @@ TwoPrintsOne = (text : List ℕ) (us : List PrintUnit) → SpellsPrint One text 
 abbrev pub OnePrintsTwo : Type 0
 OnePrintsTwo = (text : List ℕ) (us : List PrintUnit) → SpellsPrint Two text us → AreNotBinary us → SpellsPrint One text us
 
--- profile 3 spells the scan formats of profile 2, and others with a float, a ?, a = or a ! alone
+-- profile 3 spells the scan formats of profile 2, and others with a float, a ?, a =, a ! or a group alone
 abbrev pub ThreeSpellsTwo : Type 0
 ThreeSpellsTwo = (text : List ℕ) (ds : List Directive) → Spells Two text ds → Spells Three text ds × AreOfTwo ds
 

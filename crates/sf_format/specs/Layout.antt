@@ -14,7 +14,7 @@ use Rattle.sf_format.specs.declared.directive.Numeral.{Numeral}
 use Rattle.sf_format.specs.declared.directive.Shape.{Shape}
 use Rattle.sf_format.specs.declared.directive.Shape.TheVariants.{Int, Text, Set, Chars, Float, Count}
 use Rattle.sf_format.specs.declared.directive.Directive.{Directive}
-use Rattle.sf_format.specs.declared.directive.Directive.TheVariants.{Space, Byte, Percent, Conv}
+use Rattle.sf_format.specs.declared.directive.Directive.TheVariants.{Space, Byte, Percent, Conv, Opens}
 use Rattle.sf_format.specs.Leads.{is_strict_lead}
 use Rattle.sf_format.specs.declared.layout.Row.{Row}
 use Rattle.sf_format.specs.declared.layout.Way.{Way}
@@ -80,6 +80,7 @@ abbrev pub row_of : Directive → Row
 row_of Space = plain_row ways.Space 0
 row_of (Byte due) = plain_row ways.Byte due
 row_of Percent = plain_row ways.Another 0
+row_of (Opens o) = plain_row ways.Another 0
 row_of (Conv c) = record {
   way = way_placed c.column c.shape (is_some (bounds_of c.kind));
   due = stop_of c.shape;

@@ -20,7 +20,7 @@ auto_base One = Auto
 auto_base Two = AutoBin
 auto_base Three = AutoBin
 
--- the letters of floats, ?, = and !, of profile 3
+-- the letters of floats, ?, =, ! and groups, of profile 3
 abbrev pub has_doubles : Profile → Bool
 has_doubles Three = true
 has_doubles _ = false

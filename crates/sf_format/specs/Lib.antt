@@ -6,6 +6,7 @@ pub mod Letters
 pub mod PrintLetters
 pub mod Scanlist
 pub mod Pieces
+pub mod Groups
 pub mod Slots
 pub mod Proper
 pub mod Units

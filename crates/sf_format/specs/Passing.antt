@@ -1,6 +1,7 @@
 -- What the parser's values stand for.
 use Rattle.std.specs.Prelude.{◌≡◌, ℕ, ◌+◌, Bool, true, false, List, [], ◌∷◌, ◌++◌, ◌<◌, length, map, drop, ◌⊎◌, Result, Ok, Err, Option}
-use Rattle.std.specs.Prelude.{Some, None, MatchOption}
+use Rattle.std.specs.Prelude.{Some, None, MatchOption, suc}
+use Rattle.std.specs.Borrow.{Bor}
 use Prim.Native.Char.{code}
 use Rattle.std.specs.List.{AllByRecursion}
 use Rattle.sf_base.specs.declared.values.Kind.{Kind}
@@ -12,7 +13,7 @@ use Rattle.sf_format.specs.declared.directive.Directive.{Directive}
 use Rattle.sf_format.specs.declared.directive.Directive.TheVariants as directive
 use Rattle.sf_format.specs.declared.fault.FormatFault.{FormatFault}
 use Rattle.sf_format.specs.declared.fault.FormatWhy.{FormatWhy}
-use Rattle.sf_format.specs.declared.fault.FormatWhy.TheVariants.{NumberTwice, NumberGap}
+use Rattle.sf_format.specs.declared.fault.FormatWhy.TheVariants.{NumberTwice, NumberGap, BadGroup}
 use Rattle.sf_format.specs.declared.letter.Letter.{Letter}
 use Rattle.sf_format.specs.declared.letter.Letter.TheVariants.{Set}
 use Rattle.sf_format.specs.declared.opening.Written.{Written}
@@ -22,17 +23,24 @@ use Rattle.sf_format.specs.Language.{Language, Scan, Print}
 use Rattle.sf_format.specs.Letters.{has_doubles}
 use Rattle.sf_format.specs.PrintGrammar.{StartsAboveZero}
 use Rattle.sf_format.specs.declared.grammar.Passed.{Passed}
-use Rattle.sf_format.specs.declared.grammar.Literal.{Literal}
-use Rattle.sf_format.specs.declared.grammar.Literal.TheVariants as literal
+use Rattle.sf_format.specs.declared.grammar.Before.{Before}
+use Rattle.sf_format.specs.declared.grammar.Step.{Step}
+use Rattle.sf_format.specs.declared.groups.Group.{Group}
+use Rattle.sf_format.specs.declared.groups.Role.{Role}
+use Rattle.sf_format.specs.declared.groups.Role.TheVariants.{Start, End}
+use Rattle.sf_format.specs.declared.groups.Stage.TheVariants.{Outside}
+use Rattle.sf_format.specs.Groups.{role_of, may_stand, next_stage, stage_after, last_start, place_told}
+use Rattle.sf_format.specs.declared.directive.Literal.{Literal}
+use Rattle.sf_format.specs.declared.directive.Literal.TheVariants as literal
 use Rattle.sf_format.specs.declared.noted.Noted.{Noted}
 use Rattle.sf_format.specs.Lists.{is_any_of, is_written, mark_at}
 use Rattle.sf_format.specs.Scanlist.{IsSetBy}
-use Rattle.sf_format.specs.Pieces.{Opening, Piece, Ordinary, Percents}
-use Rattle.sf_format.specs.Cut.{Part, members_at, close_at}
+use Rattle.sf_format.specs.Pieces.{Opening, Piece, Ordinary, Percents, is_mark}
+use Rattle.sf_format.specs.Cut.{Part, part_at, members_at, close_at}
 use Rattle.sf_format.specs.Slots.{slot_of}
 use Rattle.sf_format.specs.Grammar.{assigned_opening, destinations, width_of, shape_of, MeanAll}
 use Rattle.sf_format.specs.Rules.{Rule, first_of, slot_rules}
-use Rattle.sf_format.specs.Faults.{bracket_rules, repeated, beyond, no_memory}
+use Rattle.sf_format.specs.Faults.{bracket_rules, next_rules, repeated, beyond, no_memory}
 use Rattle.sf_format.specs.Reading.{read, judged}
 
 abbrev pub precision_of : Bool → List ℕ → Option (List ℕ)
@@ -107,7 +115,8 @@ ShapeBy false letter strict listed s = shape_of letter strict s
 -- the conversion of a letter with this kind, this opening and this slot
 abbrev pub IsMade : Letter → Kind → Opening → Option ℕ → Listed → Directive → Type 0
 IsMade letter kind o slot listed (directive.Conv c) =
-    (c.kind ≡ kind) × (c.width ≡ width_of letter o.width) × (c.slot ≡ slot) × (c.optional ≡ o.optional) × (c.column ≡ o.column)
+    (c.kind ≡ kind) × (c.width ≡ width_of letter o.width) × (c.slot ≡ slot) × (c.optional ≡ o.optional) × (c.opens ≡ None)
+    × (c.column ≡ o.column)
     × ShapeBy (is_set letter) letter o.strict listed c.shape
 IsMade letter kind o slot listed _ = ⊥
 
@@ -133,24 +142,90 @@ abbrev pub literal_piece : Literal → Piece
 literal_piece (literal.Byte b) = Ordinary b
 literal_piece literal.Percent = Percents
 
--- no fault by the rules, and what the part stands for, which was made if it is wanted, its slot, what follows it, and the destinations
--- with it; or the first fault by the rules
-abbrev pub PassesBy : {D : Type 0} → Bool → (ℕ → Piece → D → Type 0) → List Rule → List Opening → Part → Result (Passed D) FormatFault
-    → Type 0
+-- no directive was made: none is wanted, or the part is the mark of a group
+abbrev pub IsUnmade : Bool → Piece → Type 0
+IsUnmade wanted piece = (wanted ≡ false) ⊎ (is_mark piece ≡ true)
+
+-- no fault by the rules, and what the part is to groups, what it stands for, which was made if it is wanted and the part is no mark of
+-- a group, its slot, what follows it, and the destinations with it; or the first fault by the rules
+abbrev pub PassesBy : {D : Type 0} → Bool → (Option ℕ → ℕ → Piece → D → Type 0) → List Rule → List Opening → Part
+    → Result (Passed D) FormatFault → Type 0
 PassesBy wanted means rules earlier part (Ok passed) =
     (first_of rules ≡ None) × (passed.rest.now ≡ part.rest)
-    × MatchOption passed.part (wanted ≡ false) (λ made. means (1 + length earlier) part.piece made)
+    × MatchOption passed.part (IsUnmade wanted part.piece) (λ made. means None (1 + length earlier) part.piece made)
     × Holds passed.slots (earlier ++ destinations (part.piece ∷ []))
-    × (passed.slot ≡ slot_at (1 + length earlier) (destinations (part.piece ∷ [])))
+    × (passed.slot ≡ slot_at (1 + length earlier) (destinations (part.piece ∷ []))) × (passed.role ≡ role_of part.piece)
 PassesBy wanted means rules earlier part (Err fault) = first_of rules ≡ Some (fault_of fault)
+
+-- ---- parts in groups
+
+-- the part is no directive
+abbrev pub is_marking : Role → Bool
+is_marking Start = true
+is_marking End = true
+is_marking role = false
+
+-- it closes a group
+abbrev pub ends_group : Role → Bool
+ends_group End = true
+ends_group role = false
+
+-- the part that is the mark of a group, if one was found, with what follows it
+abbrev pub IsMark : Role → Bor (List ℕ) → Option Part → Type 0
+IsMark role rest None = ⊥
+IsMark role rest (Some part) = (is_mark part.piece ≡ true) × (role ≡ role_of part.piece) × (rest.now ≡ part.rest)
+
+-- the place of the last mark that opens a group, with a part at the place
+abbrev pub started : Role → ℕ → ℕ → ℕ
+started Start at before = at
+started role at before = before
+
+-- what stands before what follows the part, if that may stand there; or the fault
+abbrev pub IsJoined : Group → Role → ℕ → Result Group FormatFault → Type 0
+IsJoined group role at (Ok joined) =
+    (may_stand group.stage role ≡ true) × (joined.stage ≡ next_stage group.stage role) × (joined.start ≡ started role at group.start)
+IsJoined group role at (Err fault) =
+    (may_stand group.stage role ≡ false) × (fault ≡ record { at = place_told group.stage role group.start at; why = BadGroup })
+
+-- what was passed are these parts
+pub record Precedes (before : Before) (done : List Piece) : Type 0 where
+  pub slots : Holds before.slots (destinations done)
+  pub stage : before.group.stage ≡ stage_after Outside done
+  pub start : before.group.start ≡ last_start 0 0 done
+
+-- no fault by the rules, and what the next part stands for, its slot, what follows it, and what is passed with it; or the first fault
+abbrev pub StepsBy : {D : Type 0} → Bool → (Option ℕ → ℕ → Piece → D → Type 0) → Language → List Piece → List ℕ
+    → Result (Step D) FormatFault → Type 0
+StepsBy wanted means language done x (Ok step) =
+    let part = part_at language x in
+    let place = 1 + length (destinations done) in
+    (first_of (next_rules language done x) ≡ None) × (step.passed.rest.now ≡ part.rest)
+    × MatchOption step.passed.part (IsUnmade wanted part.piece) (λ made. means None place part.piece made)
+    × Precedes step.before (done ++ part.piece ∷ [])
+    × (step.passed.slot ≡ slot_at place (destinations (part.piece ∷ []))) × (step.passed.role ≡ role_of part.piece)
+StepsBy wanted means language done x (Err fault) = first_of (next_rules language done x) ≡ Some (fault_of fault)
+
+-- the first of so many at the end of a list opens a group with the others, if the list is there
+abbrev pub IsOpened : {D : Type 0} → (Option ℕ → ℕ → Piece → D → Type 0) → ℕ → Option (List D) → Option (List D) → Type 0
+IsOpened means count list None = Unit {0}
+IsOpened means count None (Some new) = ⊥
+IsOpened {D} means count (Some ds) (Some new) =
+    (front : List D) × (d : D) × (e : D) × (back : List D) × (ds ≡ front ++ d ∷ back) × (new ≡ front ++ e ∷ back)
+    × (suc (length back) ≡ count)
+    × ((place : ℕ) (piece : Piece) → means None place piece d → means (Some (length back)) place piece e)
+
+-- how many directives stand after the last mark that opens a group, with one more part
+abbrev pub counted : ℕ → Role → ℕ
+counted count Start = 0
+counted count End = count
+counted count role = count + 1
 
 -- ---- whole texts
 
--- the destinations of the text's parts, or the first fault of a part
-abbrev pub Walked : Language → List ℕ → Result Slots FormatFault → Type 0
-Walked language text (Ok slots) =
-    (pieces : List Piece) × (read (length text) language [] 0 text ≡ Ok pieces) × Holds slots (destinations pieces)
-Walked language text (Err fault) = read (length text) language [] 0 text ≡ Err (fault_of fault)
+-- what was passed of the text's parts, or the first fault of a part
+abbrev pub Walked : Language → List ℕ → Result Before FormatFault → Type 0
+Walked language text (Ok all) = (pieces : List Piece) × (read (length text) language [] text ≡ Ok pieces) × Precedes all pieces
+Walked language text (Err fault) = read (length text) language [] text ≡ Err (fault_of fault)
 
 -- a slot with a place
 abbrev pub with_place : Option ℕ → ℕ → List (ℕ × ℕ)
@@ -180,10 +255,11 @@ Judged language text (Ok assigned) = (pieces : List Piece) × (judged language t
 Judged language text (Err fault) = judged language text ≡ Err (fault_of fault)
 
 -- what the text's parts stand for
-pub record Gathers {D : Type 0} (language : Language) (means : ℕ → Piece → D → Type 0) (text : List ℕ) (ds : List D) : Type 0 where
+pub record Gathers {D : Type 0} (language : Language) (means : Option ℕ → ℕ → Piece → D → Type 0) (text : List ℕ) (ds : List D)
+    : Type 0 where
   pub pieces : List Piece
-  pub parts : read (length text) language [] 0 text ≡ Ok pieces
-  pub meaning : MeanAll means 1 pieces ds
+  pub parts : read (length text) language [] text ≡ Ok pieces
+  pub meaning : MeanAll means false 1 pieces ds
 
 -- a list with one more at its end, if both are there; or none
 abbrev pub IsKept : {D : Type 0} → Option (List D) → Option D → Option (List D) → Type 0
@@ -191,6 +267,12 @@ IsKept list part None = Unit {0}
 IsKept (Some ds) (Some d) (Some kept) = kept ≡ ds ++ d ∷ []
 IsKept _ _ (Some kept) = ⊥
 
+-- a list with what a part stands for, where so many directives stand after the last mark that opens a group; or none
+abbrev pub IsTaken : {D : Type 0} → (Option ℕ → ℕ → Piece → D → Type 0) → ℕ → Role → Option (List D) → Option D → Option (List D) → Type 0
+IsTaken means count Start list part taken = taken ≡ list
+IsTaken means count End list part taken = IsOpened means count list taken
+IsTaken means count role list part taken = IsKept list part taken
+
 -- the fault of a part of the text, or no memory
 abbrev pub IsHindered : Language → List ℕ → FormatFault → Type 0
-IsHindered language text fault = (read (length text) language [] 0 text ≡ Err (fault_of fault)) ⊎ (fault ≡ no_memory)
+IsHindered language text fault = (read (length text) language [] text ≡ Err (fault_of fault)) ⊎ (fault ≡ no_memory)

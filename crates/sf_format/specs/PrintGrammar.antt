@@ -1,5 +1,5 @@
 -- The grammar of print formats (C11 7.21.6.1p3 to p8, POSIX fprintf for the numbers).
-use Rattle.std.specs.Prelude.{◌≡◌, ◌≢◌, ℕ, ◌<◌, ◌≤◌, Bool, true, false, List, [], ◌∷◌, Some, IsSome, IfSome, nat_eq}
+use Rattle.std.specs.Prelude.{◌≡◌, ◌≢◌, ℕ, ◌<◌, ◌≤◌, Bool, true, false, List, [], ◌∷◌, Option, Some, IsSome, IfSome, nat_eq}
 use Prim.Native.Char.{code}
 use Rattle.std.specs.List.{AllByRecursion, list_any}
 use Rattle.std.specs.Option.{option_map}
@@ -13,7 +13,7 @@ use Rattle.sf_format.specs.Digits.{is_decimal, IsOptionalNumber}
 use Rattle.sf_format.specs.Slots.{slot_of}
 use Rattle.sf_format.specs.PrintLetters.{print_letter_of, print_kind_of, is_flag}
 use Rattle.sf_format.specs.Units.{has_flag, HasPrecision}
-use Rattle.sf_format.specs.Pieces.{Opening, Piece, WhiteSpace, Ordinary, Percents, Plain, Bracket}
+use Rattle.sf_format.specs.Pieces.{Opening, Piece, Ordinary, Percents, Plain}
 
 -- the digits after a point; none stand for 0
 abbrev pub IsPrecision : List ℕ → Type 0
@@ -42,11 +42,10 @@ pub record SuitsPrint (letter : PrintLetter) (o : Opening) : Type 0 where
 
 -- a part of a print format, seen alone
 abbrev pub IsPrintPiece : Profile → Piece → Type 0
-IsPrintPiece profile (WhiteSpace bs) = ⊥
 IsPrintPiece profile (Ordinary b) = (b < 256) × (b ≢ 0) × (b ≢ code "%")
 IsPrintPiece profile Percents = Unit {0}
 IsPrintPiece profile (Plain o b) = (letter : PrintLetter) × (print_letter_of profile b ≡ Some letter) × SuitsPrint letter o
-IsPrintPiece profile (Bracket o list) = ⊥
+IsPrintPiece profile _ = ⊥
 
 abbrev pub is_set_flag : ℕ → List ℕ → Bool
 is_set_flag flag flags = list_any (λ a. nat_eq a flag) flags
@@ -66,9 +65,12 @@ pub record IsPrintConv (place : ℕ) (o : Opening) (letter : PrintLetter) (c : P
 
 -- the unit that a part stands for; %% stands for the byte %
 abbrev pub Prints : Profile → ℕ → Piece → PrintUnit → Type 0
-Prints profile place (WhiteSpace bs) u = ⊥
 Prints profile place (Ordinary b) u = u ≡ unit.Byte b
 Prints profile place Percents u = u ≡ unit.Byte (code "%")
 Prints profile place (Plain o b) u =
     (letter : PrintLetter) × (c : PrintConv) × (print_letter_of profile b ≡ Some letter) × IsPrintConv place o letter c × (u ≡ unit.Conv c)
-Prints profile place (Bracket o list) u = ⊥
+Prints profile place _ u = ⊥
+
+-- the same, where parts could open groups, which those of print formats never do
+abbrev pub PrintsApart : Profile → Option ℕ → ℕ → Piece → PrintUnit → Type 0
+PrintsApart profile opens place piece u = Prints profile place piece u

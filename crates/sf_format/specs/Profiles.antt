@@ -6,7 +6,7 @@ use Rattle.sf_format.specs.declared.directive.Base.TheVariants.{Bin, Auto, AutoB
 use Rattle.sf_format.specs.declared.directive.Shape.{Shape}
 use Rattle.sf_format.specs.declared.directive.Shape.TheVariants.{Int, Float}
 use Rattle.sf_format.specs.declared.directive.Directive.{Directive}
-use Rattle.sf_format.specs.declared.directive.Directive.TheVariants.{Conv}
+use Rattle.sf_format.specs.declared.directive.Directive.TheVariants.{Conv, Opens}
 use Rattle.sf_format.specs.Leads.{is_strict}
 use Rattle.sf_format.specs.declared.unit.PrintLetter.{PrintLetter}
 use Rattle.sf_format.specs.declared.unit.PrintLetter.TheVariants as letter
@@ -49,13 +49,14 @@ DirectiveHas P d = Unit {0}
 
 -- ---- what is of profile 3 alone
 
--- no float, never missing, no column, and not strict
+-- no float, never missing, no column, not strict, and no group
 abbrev pub IsNoFloat : Shape → Type 0
 IsNoFloat (Float lead) = ⊥
 IsNoFloat shape = Unit {0}
 
 abbrev pub IsOfTwo : Directive → Type 0
 IsOfTwo (Conv c) = IsNoFloat c.shape × (c.optional ≡ false) × (c.column ≡ false) × (is_strict c.shape ≡ false)
+IsOfTwo (Opens o) = ⊥
 IsOfTwo d = Unit {0}
 
 abbrev pub AreOfTwo : List Directive → Type 0

@@ -1,5 +1,6 @@
 -- What holds of the directives of each accepted scan format.
-use Rattle.std.specs.Prelude.{◌≡◌, ◌⊎◌, ℕ, ◌<◌, ◌≤◌, ◌&&◌, Bool, true, false, nat_eq, List, length, map, Option, Some, None, IsSome, IfSome}
+use Rattle.std.specs.Prelude.{◌≡◌, ◌⊎◌, ℕ, ◌-◌, ◌<◌, ◌≤◌, ◌&&◌, ◌||◌, Bool, true, false, nat_eq, nat_lt, max, List, [], ◌∷◌, length, map}
+use Rattle.std.specs.Prelude.{Option, Some, None, IsSome, IfSome, is_some, unwrap_or, if◌then◌else◌}
 use Rattle.std.specs.List.{AllByRecursion, filter_map, list_any}
 use Rattle.sf_base.specs.declared.values.Kind.{Kind}
 use Rattle.sf_base.specs.declared.values.Kind.TheVariants as kinds
@@ -9,7 +10,9 @@ use Rattle.sf_format.specs.declared.directive.Shape.{Shape}
 use Rattle.sf_format.specs.declared.directive.Shape.TheVariants.{Int, Text, Set, Chars, Float, Count}
 use Rattle.sf_format.specs.declared.directive.Conversion.{Conversion}
 use Rattle.sf_format.specs.declared.directive.Directive.{Directive}
-use Rattle.sf_format.specs.declared.directive.Directive.TheVariants.{Space, Byte, Percent, Conv}
+use Rattle.sf_format.specs.declared.directive.Directive.TheVariants.{Space, Byte, Percent, Conv, Opens}
+use Rattle.sf_format.specs.declared.directive.Literal.{Literal}
+use Rattle.sf_format.specs.declared.directive.Literal.TheVariants as literal
 
 -- a set has a member
 abbrev pub IsProperShape : Shape → Type 0
@@ -69,11 +72,17 @@ IsColumned _ = Unit {0}
 abbrev pub AreColumned : List Directive → Type 0
 AreColumned ds = AllByRecursion IsColumned ds
 
+-- a byte is one
+abbrev pub IsProperLiteral : Literal → Type 0
+IsProperLiteral (literal.Byte b) = b < 256
+IsProperLiteral literal.Percent = Unit {0}
+
 abbrev pub IsProper : Directive → Type 0
 IsProper Space = Unit {0}
 IsProper (Byte b) = b < 256
 IsProper Percent = Unit {0}
 IsProper (Conv c) = IsProperShape c.shape × IsProperWidth c.width
+IsProper (Opens o) = IsProperLiteral o.literal
 
 abbrev pub AreProper : List Directive → Type 0
 AreProper ds = AllByRecursion IsProper ds
@@ -107,23 +116,53 @@ abbrev pub has_slot : ℕ → Option ℕ → Bool
 has_slot slot None = false
 has_slot slot (Some n) = nat_eq n slot
 
--- a conversion with a ?
+-- a conversion with a ?, or the first directive of a group
 abbrev pub is_optional : Directive → Bool
 is_optional (Conv c) = c.optional
+is_optional (Opens o) = true
 is_optional _ = false
 
--- one that assigns the slot
-abbrev pub is_optional_for : ℕ → Directive → Bool
-is_optional_for slot (Conv c) = c.optional && has_slot slot c.slot
-is_optional_for slot _ = false
-
--- some conversion has a ?
+-- some directive may be missing
 abbrev pub has_optional : List Directive → Bool
 has_optional ds = list_any is_optional ds
 
+-- the directive opens a group
+abbrev pub is_opener : Directive → Bool
+is_opener (Conv c) = is_some c.opens
+is_opener (Opens o) = true
+is_opener _ = false
+
+-- some directive opens a group
+abbrev pub has_group : List Directive → Bool
+has_group ds = list_any is_opener ds
+
+-- how many directives after it are missing where it is
+abbrev pub more_of : Directive → ℕ
+more_of (Conv c) = if c.optional then unwrap_or c.opens 0 else 0
+more_of (Opens o) = o.more
+more_of _ = 0
+
+-- the directive assigns the slot
+abbrev pub assigns : ℕ → Directive → Bool
+assigns slot (Conv c) = has_slot slot c.slot
+assigns slot _ = false
+
+-- after a directive: how many of those that follow may be missing with one before them, where it was so many at it
+abbrev pub left_over : Directive → ℕ → ℕ
+left_over d k = max (k - 1) (more_of d)
+
+-- the directive may be missing, where so many may be with one before them
+abbrev pub may_be_missing : Directive → ℕ → Bool
+may_be_missing d k = is_optional d || nat_lt 0 k
+
+-- the slot may be left without a value, where so many directives may be missing with one before them
+abbrev pub may_miss_from : ℕ → ℕ → List Directive → Bool
+may_miss_from slot k [] = false
+may_miss_from slot k (d ∷ ds) = assigns slot d && may_be_missing d k || may_miss_from slot (left_over d k) ds
+
 -- the slot may be left without a value
 abbrev pub may_miss : ℕ → List Directive → Bool
-may_miss slot ds = list_any (is_optional_for slot) ds
+may_miss slot ds = may_miss_from slot 0 ds
 
 -- ---- what each accepted format has
 

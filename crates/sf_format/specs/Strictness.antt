@@ -1,5 +1,5 @@
 -- A format as if each conversion that can have ! had it.
-use Rattle.std.specs.Prelude.{ℕ, Bool, true, false, ◌||◌, Some, None}
+use Rattle.std.specs.Prelude.{ℕ, Bool, true, false, ◌||◌, Option, Some, None}
 use Rattle.sf_base.specs.declared.values.Kind.{Kind}
 use Rattle.sf_format.specs.declared.directive.Profile.{Profile}
 use Rattle.sf_format.specs.declared.directive.Lead.{Lead}
@@ -49,5 +49,5 @@ marked profile piece = piece
 
 -- with the mark written a part stands for what it stands for without, made strict
 abbrev pub MarksMakeStrict : Type 0
-MarksMakeStrict = (profile : Profile) (place : ℕ) (piece : Piece) (d : Directive) → Means profile place piece d
-    → Means profile place (marked profile piece) (strictly d)
+MarksMakeStrict = (profile : Profile) (opens : Option ℕ) (place : ℕ) (piece : Piece) (d : Directive) → Means profile opens place piece d
+    → Means profile opens place (marked profile piece) (strictly d)

@@ -27,6 +27,7 @@ why_text why.BadFlag = codes "F17 BadFlag"
 why_text why.PrecisionTooLarge = codes "F18 PrecisionTooLarge"
 why_text why.NoMemory = codes "F19 NoMemory"
 why_text why.BadMark = codes "F20 BadMark"
+why_text why.BadGroup = codes "F21 BadGroup"
 
 -- and the place, in decimal digits
 abbrev pub fault_text : FormatFault → List ℕ

@@ -5,6 +5,7 @@ use Rattle.sf_format.specs.declared.directive.Shape.TheVariants.{Int, Text, Set,
 use Rattle.sf_format.specs.declared.directive.Conversion.{Conversion}
 use Rattle.sf_format.specs.declared.directive.Directive.{Directive}
 use Rattle.sf_format.specs.declared.directive.Directive.TheVariants.{Conv}
+use Rattle.sf_format.specs.Proper.{has_group}
 
 -- an item of the shape, if no width bounds it, can go on after any of its bytes; that of a float can't after `infinity`
 abbrev pub GoesOn : Shape → Type 0
@@ -15,7 +16,7 @@ GoesOn Chars = ⊥
 GoesOn (Float lead) = ⊥
 GoesOn Count = ⊥
 
--- the last directive is such a conversion, without a width, without a ? and without a =
+-- the last directive is such a conversion, without a width, without a ? and without a =; and no directive opens a group
 pub record EndsUnbounded (ds : List Directive) : Type 0 where
   pub conversion : Conversion
   pub last : slice_get ds (length ds - 1) ≡ Some (Conv conversion)
@@ -23,3 +24,4 @@ pub record EndsUnbounded (ds : List Directive) : Type 0 where
   pub no_width : conversion.width ≡ None
   pub needed : conversion.optional ≡ false
   pub no_column : conversion.column ≡ false
+  pub no_group : has_group ds ≡ false

@@ -1,5 +1,6 @@
 //! The directives of a scan format.
 ghost use Rattle.std.specs.Prelude.{◌≡◌};
+ghost use Rattle.sf_format.specs.Proper.{more_of};
 ghost use Rattle.sf_format.specs.Leads.{has_minus, has_plus, has_prefix, is_strict, is_strict_lead};
 
 use sf_base::{ByteSet, Kind};
@@ -12,7 +13,7 @@ pub enum Profile {
     /// Those, the letter `b` of unsigned binary numbers, and `0b` under `i`.
     Two,
     /// Those, and the letters of floats, `a A e E f F g G`. Scan formats also have `?`, for what may be missing, `=`,
-    /// for a column, and `!`, for a number and nothing else.
+    /// for a column, `!`, for a number and nothing else, and groups between `%?(` and `%)`, which may be missing.
     Three,
 }
 
@@ -112,11 +113,32 @@ pub struct Conversion {
     pub kind: Kind,
     pub width: Option<u16>,
     pub slot: Option<u8>,
-    /// Whether it has a `?`: where its item is missing it passes, and its slot has no value. Of profile 3.
+    /// Whether it has a `?` or opens a group: where its item is missing it passes, and its slot has no value. Of
+    /// profile 3.
     pub optional: bool,
+    /// Where it opens a group, how many directives the group has after it: where its item is missing, so are they. Of
+    /// profile 3.
+    pub opens: Option<u16>,
     /// Whether it has a `=`: it takes a column, which is the next `width` bytes, and reads the text in it. Of
     /// profile 3.
     pub column: bool,
+}
+
+/// A directive that takes bytes that the format names.
+#[derive(Clone, Copy, Debug, PartialEq, Eq)]
+pub enum Literal {
+    /// One ordinary byte.
+    Byte(u8),
+    /// `%%`.
+    Percent,
+}
+
+/// A literal that opens a group: where its byte doesn't stand next, the group is missing. Of profile 3.
+#[derive(Clone, Copy, Debug, PartialEq, Eq)]
+pub struct Opener {
+    pub literal: Literal,
+    /// How many directives the group has after it.
+    pub more: u16,
 }
 
 /// A directive of a scan format (C11 7.21.6.2p3).
@@ -129,4 +151,19 @@ pub enum Directive {
     /// `%%`.
     Percent,
     Conv(Conversion),
+    /// The first directive of a group that may be missing, where that is a literal.
+    Opens(Opener),
+}
+
+impl Directive {
+    /// How many directives after it are missing where it is: those of the group that it opens.
+    pub fn more(&self) -> u16
+        ensures { result ≡ more_of self.now }
+    {
+        match self {
+            Directive::Conv(conversion) if conversion.optional => conversion.opens.unwrap_or(0),
+            Directive::Opens(opener) => opener.more,
+            _ => 0,
+        }
+    }
 }

@@ -46,6 +46,9 @@ pub enum FormatWhy {
     NoMemory,
     /// F20: `!` with `c`, `[` or `n`, or `=` with `c`, `n` or without a width, in scan formats of profile 3.
     BadMark,
+    /// F21: a group that is empty, open or in another, or begins with white space, `n` or a conversion with `?`; or a
+    /// `%)` without a group. In scan formats of profile 3.
+    BadGroup,
 }
 
 /// Why a format is refused, and the byte at which that was found, counted from 0.
@@ -114,6 +117,7 @@ impl FormatWhy {
             FormatWhy::PrecisionTooLarge => "F18 PrecisionTooLarge",
             FormatWhy::NoMemory => "F19 NoMemory",
             FormatWhy::BadMark => "F20 BadMark",
+            FormatWhy::BadGroup => "F21 BadGroup",
         }
     }
 }

@@ -1,41 +1,56 @@
 //! What the grammars of scan formats and of print formats have in common.
-ghost use Rattle.std.specs.Prelude.{◌≡◌, ◌≤◌, ◌<◌, ◌+◌, true, false, ℕ, List, ◌∷◌, None, length, Ok, Err, IfOk, IfErr};
-ghost use Rattle.std.specs.Prelude.{IfSome, MatchOption};
+ghost use Rattle.std.specs.Prelude.{◌≡◌, ◌≤◌, ◌<◌, ◌+◌, true, false, ℕ, List, ◌∷◌, Option, Some, None, length, Ok, Err};
+ghost use Rattle.std.specs.Prelude.{IfOk, IfErr, IfSome, MatchOption};
 ghost use Rattle.std.specs.List.{AllByRecursion};
 ghost use Rattle.std.specs.Option.{option_map};
 ghost use Rattle.std.specs.Vec.{vec_items};
 ghost use Rattle.sf_format.specs.Digits.{is_decimal};
 ghost use Rattle.sf_format.specs.Language.{Language};
-ghost use Rattle.sf_format.specs.Pieces.{Opening, Piece, WhiteSpace, opening_text};
+ghost use Rattle.sf_format.specs.Pieces.{Opening, Piece, WhiteSpace, opening_text, text_of};
 ghost use Rattle.sf_format.specs.Cut.{cut, letter_at, joins_run, conversion_at, specification_at, part_at};
+ghost use Rattle.sf_format.specs.Cut.{group_mark, has_groups};
 ghost use Rattle.sf_format.specs.Rules.{first_of};
 ghost use Rattle.sf_format.specs.Faults.{opening_rules, rest_rules, conversion_rules, percent_rules, part_rules};
 ghost use Rattle.sf_format.specs.Passing.{opening_of, fault_in, IsIn, literal_piece, Holds, PassesBy, Walked, Gathers};
-ghost use Rattle.sf_format.specs.Passing.{IsKept};
+ghost use Rattle.sf_format.specs.Passing.{IsKept, IsMark, IsOpened, IsTaken, Precedes, StepsBy, counted, ends_group};
 
+use crate::directive::Literal;
 use crate::fault::{FormatFault, FormatWhy};
 use crate::fronts::{Class, mark, split_front};
+use crate::groups::{Group, NO_GROUP, Role};
 use crate::opening::Written;
 use crate::slots::{NO_SLOTS, Slots};
 use std::alloc::Global;
 
-/// A part that was passed: what it stands for, where that is wanted, its slot, if it has one, what follows the part,
-/// and the destinations or values with it.
+/// A part that was passed: what it is to groups, what it stands for, where that is wanted and it is no mark of a group,
+/// its slot, if it has one, what follows the part, and the destinations or values with it.
 #[derive(Drop)]
 pub struct Passed<'a, P> {
+    pub role: Role,
     pub part: Option<P>,
     pub slot: Option<u8>,
     pub rest: &'a [u8],
     pub slots: Slots,
 }
 
-/// A part that is one byte of the text that it stands for.
+/// What was passed before a part: the destinations or values, and the groups.
 #[derive(Clone, Copy)]
-pub enum Literal {
-    /// An ordinary byte.
-    Byte(u8),
-    /// `%%`.
-    Percent,
+pub struct Before {
+    pub slots: Slots,
+    pub group: Group,
+}
+
+/// Before the first part.
+pub const NOTHING: Before = Before {
+    slots: NO_SLOTS,
+    group: NO_GROUP,
+};
+
+/// A part that was passed, and what stands before the next one.
+#[derive(Drop)]
+pub struct Step<'a, P> {
+    pub passed: Passed<'a, P>,
+    pub before: Before,
 }
 
 /// A grammar of formats: what its parts stand for.
@@ -44,17 +59,26 @@ pub trait Grammar: Copy {
 
     ghost language: { Self → Language };
 
-    ghost means: { Self → ℕ → Piece → Self.Part → Type 0 };
+    ghost means: { Self → Option ℕ → ℕ → Piece → Self.Part → Type 0 };
+
+    /// Whether its formats have groups.
+    fn has_groups(self) -> bool
+        ensures { result ≡ has_groups (language self) };
 
     /// What a run of white space stands for that begins with the byte, where such a run is one part.
     fn run(self, first: u8) -> Option<Self::Part>
         ensures { MatchOption result (joins_run (language self) first ≡ false)
             (λ part. (joins_run (language self) first ≡ true)
-            × ((place : ℕ) (bs : List ℕ) → means self place (WhiteSpace bs) part)) };
+            × ((place : ℕ) (bs : List ℕ) → means self None place (WhiteSpace bs) part)) };
 
     /// What an ordinary byte or `%%` stands for.
     fn literal(self, literal: Literal) -> Self::Part
-        ensures { (place : ℕ) → means self place (literal_piece literal) result };
+        ensures { (place : ℕ) → means self None place (literal_piece literal) result };
+
+    /// Makes what a part stands for open a group with so many directives after it.
+    fn open_group(self, part: &mut Self::Part, more: u16)
+        ensures { (place : ℕ) (piece : Piece) → means self None place piece part.old
+            → means self (Some more) place piece part.new };
 
     /// What follows a `%`, up to where the letter is due, and the rest.
     fn cut_opening(self, text: &[u8]) -> (Written, &[u8])
@@ -148,6 +172,17 @@ fn pass_conversion<'a, G: Grammar>(
     }
 }
 
+/// What the mark of a group is, after its `%`, and what follows it, if one stands there.
+fn group_mark(text: &[u8]) -> Option<(Role, &[u8])>
+    ensures { MatchOption result (group_mark text.now ≡ None) (λ found. IsMark found.0 found.1 (group_mark text.now)) }
+{
+    match text {
+        [b'?', b'(', rest @ ..] => Some((Role::Start, rest)),
+        [b')', rest @ ..] => Some((Role::End, rest)),
+        _ => None,
+    }
+}
+
 /// Passes what follows the `%` at the place.
 fn pass_specification<'a, G: Grammar>(
     grammar: G,
@@ -165,18 +200,30 @@ fn pass_specification<'a, G: Grammar>(
     let (found, rest) = mark(b'%', text);
     if found {
         return Ok(Passed {
+            role: Role::Leads,
             part: Some(grammar.literal(Literal::Percent)),
             slot: None,
             rest,
             slots,
         });
     }
+    if grammar.has_groups() {
+        if let Some((role, rest)) = group_mark(text) {
+            return Ok(Passed {
+                role,
+                part: None,
+                slot: None,
+                rest,
+                slots,
+            });
+        }
+    }
     pass_conversion(grammar, text, at, slots, wanted)
 }
 
 /// Passes the part that begins with the byte at the place, after these destinations or values.
 #[inline(always)]
-pub fn pass<'a, G: Grammar>(
+fn pass_part<'a, G: Grammar>(
     grammar: G,
     text: &'a [u8],
     at: u16,
@@ -200,6 +247,7 @@ pub fn pass<'a, G: Grammar>(
     if let Some(part) = grammar.run(first) {
         let (_run, rest) = split_front(text, Class::White);
         return Ok(Passed {
+            role: Role::Follows,
             part: Some(part),
             slot: None,
             rest,
@@ -211,11 +259,36 @@ pub fn pass<'a, G: Grammar>(
         return pass_specification(grammar, rest, at, slots, wanted);
     }
     Ok(Passed {
+        role: Role::Leads,
         part: Some(grammar.literal(Literal::Byte(first))),
         slot: None,
         rest,
         slots,
     })
+}
+
+/// Passes the part that begins with the byte at the place, after what was passed before.
+#[inline(always)]
+pub fn pass<'a, G: Grammar>(
+    grammar: G,
+    text: &'a [u8],
+    at: u16,
+    before: Before,
+    wanted: bool,
+) -> Result<Step<'a, G::Part>, FormatFault>
+    requires some { 0 < length text.now }
+    requires place { at + length text.now ≤ 4096 }
+    requires count { before.slots.count ≤ 4096 }
+    ensures { (done : List Piece) → length (text_of done) ≡ at → Precedes before done
+        → StepsBy wanted (G.means grammar) (G.language grammar) done text.now result }
+{
+    let passed = pass_part(grammar, text, at, before.slots, wanted)?;
+    let group = before.group.joined(passed.role, at)?;
+    let before = Before {
+        slots: passed.slots,
+        group,
+    };
+    Ok(Step { passed, before })
 }
 
 /// The list with one more part; None where there is no list, or memory for it is refused.
@@ -229,14 +302,60 @@ fn with_part<P: Drop>(list: Option<Vec<P>>, part: Option<P>) -> Option<Vec<P>>
     }
 }
 
-/// Walks over a text once. The destinations or values of a text without a fault in its parts, or the first such fault;
-/// and what the parts stand for, where memory is given for that. Where it is refused, the walk goes on without: a fault
-/// further on is found all the same.
+/// The list where the first of so many directives at its end opens a group with the others.
+fn with_group<G: Grammar>(
+    grammar: G,
+    list: Option<Vec<G::Part>>,
+    count: u16,
+) -> Option<Vec<G::Part>>
+    requires { IfSome (option_map vec_items list) (λ parts. (1 ≤ count) × (count ≤ length parts)) }
+    ensures { IsOpened (G.means grammar) count (option_map vec_items list) (option_map vec_items result) }
+{
+    let mut parts = list?;
+    let first = parts.len() - count as usize;
+    grammar.open_group(&mut parts[first], count - 1);
+    Some(parts)
+}
+
+/// The list with what the part stands for, where so many directives stand after the last mark that opens a group.
+fn with_passed<G: Grammar>(
+    grammar: G,
+    list: Option<Vec<G::Part>>,
+    count: u16,
+    role: Role,
+    part: Option<G::Part>,
+) -> Option<Vec<G::Part>>
+    requires { IfSome (option_map vec_items list) (λ parts. ends_group role ≡ true
+        → (1 ≤ count) × (count ≤ length parts)) }
+    ensures { IsTaken (G.means grammar) count role (option_map vec_items list) part (option_map vec_items result) }
+{
+    match role {
+        Role::Start => list,
+        Role::End => with_group(grammar, list, count),
+        Role::Leads | Role::Follows => with_part(list, part),
+    }
+}
+
+/// How many directives stand after the last mark that opens a group, with one more part.
+fn count_after(count: u16, role: Role) -> u16
+    requires { count < 65535 }
+    ensures { result ≡ counted count role }
+{
+    match role {
+        Role::Start => 0,
+        Role::End => count,
+        Role::Leads | Role::Follows => count + 1,
+    }
+}
+
+/// Walks over a text once. What was passed of a text without a fault in its parts, or the first such fault; and what
+/// the parts stand for, where memory is given for that. Where it is refused, the walk goes on without: a fault further
+/// on is found all the same.
 pub fn walk<G: Grammar>(
     grammar: G,
     text: &[u8],
     alloc: Option<Global>,
-) -> Result<(Slots, Option<Vec<G::Part>>), FormatFault>
+) -> Result<(Before, Option<Vec<G::Part>>), FormatFault>
     requires { length text.now ≤ 4096 }
     ensures walked { IfOk result (λ walked. Walked (G.language grammar) text.now (Ok walked.0)) }
     ensures gathered { IfOk result (λ walked. IfSome (option_map vec_items walked.1)
@@ -246,13 +365,16 @@ pub fn walk<G: Grammar>(
     let mut parts = alloc.map(|alloc| Vec::new(alloc));
     let mut rest = text;
     let mut at: u16 = 0;
-    let mut slots = NO_SLOTS;
+    let mut before = NOTHING;
+    let mut count: u16 = 0;
     while !rest.is_empty() {
-        let passed = pass(grammar, rest, at, slots, parts.is_some())?;
+        let step = pass(grammar, rest, at, before, parts.is_some())?;
+        let passed = step.passed;
         rest = passed.rest;
         at = (text.len() - rest.len()) as u16;
-        slots = passed.slots;
-        parts = with_part(parts, passed.part);
+        before = step.before;
+        parts = with_passed(grammar, parts, count, passed.role, passed.part);
+        count = count_after(count, passed.role);
     }
-    Ok((slots, parts))
+    Ok((before, parts))
 }

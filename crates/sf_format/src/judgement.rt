@@ -1,15 +1,31 @@
 //! Whether a text is a format, and what it then spells.
-ghost use Rattle.std.specs.Prelude.{◌≡◌, List, Ok, Err, IfOk, IfErr, IfSome, MatchResult};
+ghost use Rattle.std.specs.Prelude.{◌≡◌, ◌≤◌, [], List, length, Ok, Err, IfOk, IfErr, IfSome, MatchResult};
 ghost use Rattle.std.specs.Option.{option_map};
 ghost use Rattle.std.specs.Vec.{vec_items};
 ghost use Rattle.sf_format.specs.Grammar.{IsMeaning, SpellsAs, SpellsCounted};
-ghost use Rattle.sf_format.specs.Faults.{FaultIn, IsRefusedAs, TellsFault, no_memory};
-ghost use Rattle.sf_format.specs.Passing.{Gathers, Judged};
+ghost use Rattle.sf_format.specs.Faults.{FaultIn, IsRefusedAs, TellsFault, no_memory, whole_rules};
+ghost use Rattle.sf_format.specs.Pieces.{Piece};
+ghost use Rattle.sf_format.specs.Rules.{first_of};
+ghost use Rattle.sf_format.specs.Reading.{read};
+ghost use Rattle.sf_format.specs.Passing.{Gathers, Judged, Walked, fault_in};
 
 use crate::fault::{FormatFault, FormatWhy};
-use crate::grammar::{Grammar, walk};
+use crate::grammar::{Before, Grammar, walk};
 use crate::noted::number_fault;
 use std::alloc::{AllocError, Global};
+
+/// The first fault of the whole of a text without a fault in its parts, of which this was passed.
+fn whole_fault<G: Grammar>(grammar: G, text: &[u8], all: Before) -> Option<FormatFault>
+    requires short { length text.now ≤ 4096 }
+    requires walked { Walked (G.language grammar) text.now (Ok all) }
+    ensures { (pieces : List Piece) → read (length text.now) (G.language grammar) [] text.now ≡ Ok pieces
+        → fault_in result ≡ first_of (whole_rules pieces) }
+{
+    if let Some(fault) = all.group.open_fault() {
+        return Some(fault);
+    }
+    number_fault(grammar, text, all)
+}
 
 /// The count of the destinations or values of a text without a fault, or its first fault; and what its parts stand for,
 /// where memory is given for that, and isn't refused.
@@ -29,10 +45,10 @@ pub fn judge<G: Grammar>(
             why: FormatWhy::FormatTooLong,
         });
     }
-    let (slots, parts) = walk(grammar, text, alloc)?;
-    match number_fault(grammar, text, slots) {
+    let (all, parts) = walk(grammar, text, alloc)?;
+    match whole_fault(grammar, text, all) {
         Some(fault) => Err(fault),
-        None => Ok((slots.count as u8, parts)),
+        None => Ok((all.slots.count as u8, parts)),
     }
 }
 

@@ -67,8 +67,8 @@ pub fn marks_make_strict()
     ensures { MarksMakeStrict }
 {}
 
-/// Profile 3 spells the scan formats of profile 2, and of those without a float, a `?`, a `=` and a `!` no others. It
-/// spells the print formats of profile 2, and of those without a float no others.
+/// Profile 3 spells the scan formats of profile 2, and of those without a float, a `?`, a `=`, a `!` and a group no
+/// others. It spells the print formats of profile 2, and of those without a float no others.
 pub fn profile_three()
     ensures scan_three { ThreeSpellsTwo }
     ensures scan_two { TwoSpellsThree }

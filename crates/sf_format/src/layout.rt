@@ -119,7 +119,7 @@ fn row_of(directive: &Directive) -> Row
     let conversion = match directive {
         Directive::Space => return plain_row(Way::Space, 0),
         Directive::Byte(due) => return plain_row(Way::Byte, *due),
-        Directive::Percent => return plain_row(Way::Another, 0),
+        Directive::Percent | Directive::Opens(_) => return plain_row(Way::Another, 0),
         Directive::Conv(conversion) => conversion,
     };
     let bounds = conversion.kind.bounds();
@@ -161,8 +161,8 @@ fn takes_item(directive: &Directive) -> bool
     ensures { result ≡ takes_item directive.now }
 {
     match directive {
-        Directive::Space | Directive::Byte(_) | Directive::Percent => false,
         Directive::Conv(conversion) => !matches!(conversion.shape, Shape::Count),
+        _ => false,
     }
 }
 

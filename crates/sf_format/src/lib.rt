@@ -5,6 +5,7 @@ mod directive;
 mod fault;
 mod fronts;
 mod grammar;
+mod groups;
 mod judgement;
 pub mod laws;
 mod layout;
@@ -19,7 +20,7 @@ mod slots;
 mod spans;
 mod unit;
 
-pub use directive::{Base, Conversion, Directive, Lead, Numeral, Profile, Shape};
+pub use directive::{Base, Conversion, Directive, Lead, Literal, Numeral, Opener, Profile, Shape};
 pub use fault::{FormatFault, FormatWhy};
 pub use layout::{Row, Way};
 pub use part_text::directive_text;

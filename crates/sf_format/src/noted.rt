@@ -7,8 +7,7 @@ ghost use Rattle.sf_format.specs.Faults.{repeated, beyond, number_rules};
 ghost use Rattle.sf_format.specs.Passing.{fault_in, with_place, first_place, Notes, Walked};
 
 use crate::fault::{FormatFault, FormatWhy};
-use crate::grammar::{Grammar, pass};
-use crate::slots::{NO_SLOTS, Slots};
+use crate::grammar::{Before, Grammar, NOTHING, pass};
 use sf_base::ByteSet;
 
 /// What was noted of the numbers so far.
@@ -62,14 +61,14 @@ fn noted_fault(noted: &Noted) -> Option<FormatFault>
     }
 }
 
-/// The first fault of the numbers of a text without a fault in its parts, which has these destinations.
-pub fn number_fault<G: Grammar>(grammar: G, text: &[u8], slots: Slots) -> Option<FormatFault>
+/// The first fault of the numbers of a text without a fault in its parts, of which this was passed.
+pub fn number_fault<G: Grammar>(grammar: G, text: &[u8], all: Before) -> Option<FormatFault>
     requires short { length text.now ≤ 4096 }
-    requires walked { Walked (G.language grammar) text.now (Ok slots) }
-    ensures { (pieces : List Piece) → read (length text.now) (G.language grammar) [] 0 text.now ≡ Ok pieces
+    requires walked { Walked (G.language grammar) text.now (Ok all) }
+    ensures { (pieces : List Piece) → read (length text.now) (G.language grammar) [] text.now ≡ Ok pieces
         → fault_in result ≡ first_of (number_rules pieces) }
 {
-    if !slots.numbered {
+    if !all.slots.numbered {
         return None;
     }
     let mut noted = Noted {
@@ -79,15 +78,15 @@ pub fn number_fault<G: Grammar>(grammar: G, text: &[u8], slots: Slots) -> Option
     };
     let mut rest = text;
     let mut at: u16 = 0;
-    let mut earlier = NO_SLOTS;
+    let mut before = NOTHING;
     while !rest.is_empty() {
-        let Ok(passed) = pass(grammar, rest, at, earlier, false) else {
+        let Ok(step) = pass(grammar, rest, at, before, false) else {
             unreachable!()
         };
-        note(&mut noted, passed.slot, at, slots.count);
-        rest = passed.rest;
+        note(&mut noted, step.passed.slot, at, all.slots.count);
+        rest = step.passed.rest;
         at = (text.len() - rest.len()) as u16;
-        earlier = passed.slots;
+        before = step.before;
     }
     noted_fault(&noted)
 }

@@ -5,7 +5,9 @@ ghost use Rattle.sf_base.specs.Bytes.{magnitude};
 ghost use Rattle.sf_format.specs.Digits.{is_decimal};
 ghost use Rattle.sf_format.specs.Lists.{is_written};
 ghost use Rattle.sf_format.specs.Pieces.{number_text};
+ghost use Rattle.sf_format.specs.Groups.{role_by};
 
+use crate::groups::Role;
 use crate::letter::Length;
 
 /// A conversion specification up to its letter, as it is written.
@@ -22,6 +24,15 @@ pub struct Written<'a> {
     pub point: bool,
     pub precision: &'a [u8],
     pub size: Length,
+}
+
+impl Written<'_> {
+    /// What a conversion by the letter is to groups: `n` and what has a `?` are no first directive of one.
+    pub fn role(&self, letter: u8) -> Role
+        ensures { result ≡ role_by (self.now.optional || nat_eq letter 110) }
+    {
+        Role::of_conversion(self.optional || letter == b'n')
+    }
 }
 
 /// The magnitude of the digits, or the limit where it is above that.

@@ -4,7 +4,7 @@ ghost use Rattle.sf_format.specs.Layout.{items_assigned, items_taken, row_of, si
 ghost use Rattle.sf_format.specs.Strictness.{lead_by_sign, strictly};
 ghost use Rattle.sf_format.specs.Slots.{AreSlots};
 ghost use Rattle.sf_format.specs.Proper.{AreKinded, AreProper, AreSized, IsAccepted, destinations_of, has_optional};
-ghost use Rattle.sf_format.specs.Proper.{is_optional, is_optional_for, kind_at, may_miss};
+ghost use Rattle.sf_format.specs.Proper.{assigns, has_group, is_opener, is_optional, kind_at, may_miss};
 ghost use Rattle.sf_format.specs.Unbounded.{EndsUnbounded};
 ghost use Rattle.sf_format.specs.Widths.{width_sum, stored_width};
 ghost use Rattle.sf_format.specs.Grammar.{Spells};
@@ -78,17 +78,18 @@ fn find_kind(directives: &[Directive], slot: u8) -> Option<Kind>
     None
 }
 
-/// Whether the directive is a conversion with a `?`.
+/// Whether the directive may be missing: it is a conversion with a `?`, or opens a group.
 fn is_optional(directive: &Directive) -> bool
     ensures { result ≡ is_optional directive.now }
 {
     match directive {
         Directive::Conv(conversion) => conversion.optional,
+        Directive::Opens(_) => true,
         _ => false,
     }
 }
 
-/// Whether some conversion has a `?`.
+/// Whether some directive may be missing.
 fn has_optional(directives: &[Directive]) -> bool
     ensures { result ≡ has_optional directives.now }
 {
@@ -100,12 +101,35 @@ fn has_optional(directives: &[Directive]) -> bool
     false
 }
 
-/// Whether the directive assigns the slot and has a `?`.
-fn is_optional_for(directive: &Directive, slot: u8) -> bool
-    ensures { result ≡ is_optional_for slot directive.now }
+/// Whether the directive opens a group.
+fn is_opener(directive: &Directive) -> bool
+    ensures { result ≡ is_opener directive.now }
 {
     match directive {
-        Directive::Conv(conversion) => conversion.optional && conversion.slot == Some(slot),
+        Directive::Conv(conversion) => conversion.opens.is_some(),
+        Directive::Opens(_) => true,
+        _ => false,
+    }
+}
+
+/// Whether some directive opens a group.
+fn has_group(directives: &[Directive]) -> bool
+    ensures { result ≡ has_group directives.now }
+{
+    for directive in directives {
+        if is_opener(directive) {
+            return true;
+        }
+    }
+    false
+}
+
+/// Whether the directive assigns the slot.
+fn assigns(directive: &Directive, slot: u8) -> bool
+    ensures { result ≡ assigns slot directive.now }
+{
+    match directive {
+        Directive::Conv(conversion) => conversion.slot == Some(slot),
         _ => false,
     }
 }
@@ -114,10 +138,12 @@ fn is_optional_for(directive: &Directive, slot: u8) -> bool
 fn may_miss(directives: &[Directive], slot: u8) -> bool
     ensures { result ≡ may_miss slot directives.now }
 {
+    let mut left: u16 = 0;
     for directive in directives {
-        if is_optional_for(directive, slot) {
+        if assigns(directive, slot) && (is_optional(directive) || left > 0) {
             return true;
         }
+        left = left.saturating_sub(1).max(directive.more());
     }
     false
 }
@@ -153,7 +179,8 @@ fn sum_of_widths(directives: &[Directive]) -> Option<u32>
     Some(sum)
 }
 
-/// Whether the last directive is a conversion without a `?` whose item ends only where a byte doesn't match.
+/// Whether the last directive is a conversion without a `?` whose item ends only where a byte doesn't match, in a
+/// format without a group.
 fn ends_unbounded(directives: &[Directive]) -> bool
     ensures { IsTrue result ↔ EndsUnbounded directives.now }
 {
@@ -166,6 +193,7 @@ fn ends_unbounded(directives: &[Directive]) -> bool
                     conversion.shape,
                     Shape::Int(_) | Shape::Text(_) | Shape::Set(_)
                 )
+                && !has_group(directives)
         }
         _ => false,
     }
@@ -301,14 +329,14 @@ impl ScanFormat {
         find_kind(self.directives(), slot)
     }
 
-    /// Whether some conversion has a `?`, so that its item may be missing.
+    /// Whether some directive may be missing: a conversion with a `?`, or a group.
     pub fn has_optional(&self) -> bool
         ensures { result ≡ has_optional self.now }
     {
         self.optional
     }
 
-    /// Whether the destination with the slot has a `?`: a run may leave it without a value.
+    /// Whether a run may leave the destination with the slot without a value: it has a `?`, or is in a group.
     #[inline(always)]
     pub fn may_miss(&self, slot: u8) -> bool
         ensures { result ≡ may_miss slot self.now }
@@ -334,7 +362,8 @@ impl ScanFormat {
         self.reserve
     }
 
-    /// Whether the last directive is a conversion without a `?` whose item ends only where a byte doesn't match.
+    /// Whether the last directive is a conversion without a `?` whose item ends only where a byte doesn't match, in a
+    /// format without a group.
     #[inline(always)]
     pub fn ends_unbounded(&self) -> bool
         ensures { IsTrue result ↔ EndsUnbounded self.now }

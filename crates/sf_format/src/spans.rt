@@ -10,10 +10,9 @@ ghost use Rattle.sf_format.specs.Spans.{AreSpans, span_at, spans_of};
 
 use crate::directive::Profile;
 use crate::fault::FormatFault;
-use crate::grammar::{Grammar, pass};
+use crate::grammar::{Grammar, NOTHING, pass};
 use crate::judgement::judge;
 use crate::scan::grammar::ScanGrammar;
-use crate::slots::NO_SLOTS;
 use std::alloc::Global;
 use std::marker::Model;
 
@@ -40,7 +39,7 @@ impl Model for Spans {
     ghost view = { λ s. s.spans.items };
 }
 
-/// Where each part of a text stands, where none of them has a fault.
+/// Where each directive or unit of a text stands, where no part of it has a fault.
 fn gather_spans<G: Grammar>(
     alloc: Global,
     grammar: G,
@@ -53,14 +52,16 @@ fn gather_spans<G: Grammar>(
     let mut spans = Vec::new(alloc);
     let mut rest = text;
     let mut at: u16 = 0;
-    let mut slots = NO_SLOTS;
+    let mut before = NOTHING;
     while !rest.is_empty() {
-        let passed = pass(grammar, rest, at, slots, false)?;
-        rest = passed.rest;
+        let step = pass(grammar, rest, at, before, false)?;
+        rest = step.passed.rest;
         let end = (text.len() - rest.len()) as u16;
-        spans.push(Span { start: at, end })?;
+        if !step.passed.role.is_mark() {
+            spans.push(Span { start: at, end })?;
+        }
         at = end;
-        slots = passed.slots;
+        before = step.before;
     }
     Ok(spans)
 }

@@ -233,7 +233,7 @@ beyond : (width : Option ℕ) (k : ℕ) → width ≡ Some k → is_within width
 beyond width k is = subst (λ v. is_within v (k + 1) ≡ false) (sym is) (grind (arith, nat_tests))
 
 abbrev a_conversion : Shape → Option ℕ → Conversion
-a_conversion shape width = record { shape = shape; kind = I32; width = width; slot = None; optional = false; column = false }
+a_conversion shape width = record { shape = shape; kind = I32; width = width; slot = None; optional = false; opens = None; column = false }
 
 abbrev magnitude_in : Option (Bool × ℕ) → ℕ
 magnitude_in None = 0

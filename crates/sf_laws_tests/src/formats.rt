@@ -1,5 +1,5 @@
 //! Laws of formats.
-ghost use Rattle.std.specs.Prelude.{◌≡◌, ◌≤◌, ◌⊎◌, ◌↔◌, ℕ, List, length, true, IfSome};
+ghost use Rattle.std.specs.Prelude.{◌≡◌, ◌≤◌, ◌⊎◌, ◌↔◌, ℕ, List, length, true, false, IfSome};
 ghost use Rattle.sf_format.specs.declared.directive.Directive.{Directive};
 ghost use Rattle.sf_format.specs.declared.fault.FormatWhy.{FormatWhy};
 ghost use Rattle.sf_format.specs.declared.fault.FormatWhy.TheVariants as why;
@@ -57,7 +57,7 @@ pub fn print_parsed_twice(
 /// can have one.
 pub fn strict_format(alloc: Global, profile: Profile, text: &[u8]) -> Option<ScanFormat>
     ensures { IfSome result (λ format. (pieces : List Piece) × (text.now ≡ text_of pieces)
-        × MeanAll (λ place piece d. Means profile place (marked profile piece) d) 1 pieces format) }
+        × MeanAll (λ opens place piece d. Means profile opens place (marked profile piece) d) false 1 pieces format) }
 {
     marks_make_strict();
     let Ok(format) = ScanFormat::parse(alloc, profile, text) else {

@@ -45,19 +45,28 @@ is_float_after (b ∷ rest) = if is_digit b then is_float_after rest else is_flo
 abbrev pub is_flag : ℕ → Bool
 is_flag b = nat_eq b 45 || (nat_eq b 43 || (nat_eq b 32 || nat_eq b 35))
 
+-- a ( (40) stands first
+abbrev pub begins_round : List ℕ → Bool
+begins_round [] = false
+begins_round (b ∷ rest) = nat_eq b 40
+
 -- what is written otherwise than with this byte, by the bytes after it: `.` (46) is a precision, which a scan format has before no
--- letter; `?` (63) stands for what may be missing, `!` (33) for what is read strictly, `=` (61) for a column, `*` (42) for what is
--- dropped; b (98) is base 2; D, O and U (68, 79, 85) are long integers of old; `[` (91) is a set; and flags
+-- letter; `?` (63) stands for what may be missing, with a ( (40) and a ) (41) for a part; `!` (33) for what is read strictly, `=` (61) for
+-- a column, `*` (42) for what is dropped; b (98) is base 2; D, O and U (68, 79, 85) are long integers of old; `[` (91) is a set; and flags
 abbrev pub unknown_sentence : ℕ → List ℕ → List ℕ
 unknown_sentence b rest =
     if nat_eq b 46 && is_float_after rest then codes "a scan format has no precision: write %5f, and not %5.2f"
     else if nat_eq b 46 then codes "a precision stands in a print format alone; of two formats the print format comes first"
+    else if nat_eq b 63 && begins_round rest
+    then codes "a part that may be missing stands between %?( and %), in a scan format and by --profile 3"
     else if nat_eq b 63
     then codes "what may be missing has a ? before its width, in a scan format and by --profile 3: write %?5d"
     else if nat_eq b 33
     then codes "what is read strictly has a ! before its width, in a scan format and by --profile 3: write %!5d"
     else if nat_eq b 61
     then codes "what stands in a column has a = before its width, in a scan format and by --profile 3: write %=8d"
+    else if nat_eq b 40 then codes "a part that may be missing begins with %?(, with nothing between these bytes"
+    else if nat_eq b 41 then codes "%) ends a part that may be missing, in a scan format and by --profile 3"
     else if nat_eq b 42 then codes "a star stands before a ?, a =, a ! and a width: write %*?=!5d"
     else if nat_eq b 98 then codes "base 2 is read and printed by --profile 2"
     else if nat_eq b 68 || (nat_eq b 79 || nat_eq b 85) then codes "the length l makes long integers: write %ld, %lo or %lu"
@@ -94,6 +103,8 @@ why_sentence format.BadFlag b rest = codes "this letter has no such flag or prec
 why_sentence format.PrecisionTooLarge b rest = codes "a precision is at most 255"
 why_sentence format.NoMemory b rest = codes "memory was refused"
 why_sentence format.BadMark b rest = codes "a = has a width after it, and %c and %n have no =; %c, %[ and %n have no !"
+why_sentence format.BadGroup b rest =
+    codes "a group is %?( and %) around conversions or bytes, none within another; first in it is no white space, no %n and no conversion with a ?"
 
 -- why a pair is refused
 abbrev pub pair_sentence : PairWhy → List ℕ
@@ -106,7 +117,7 @@ pair_sentence why.RunsOn = codes "what is written next could be read by this dir
 pair_sentence why.OpenEnd = codes "nothing is written after this, so what follows could be read as more of it: end the print format with \\n and the scan format with %*1[\\n]"
 pair_sentence why.LeadingZero = codes "%i reads a leading zero as octal"
 pair_sentence why.NotWritten = codes "nothing is written for %n"
-pair_sentence why.MayBeMissing = codes "what may be missing is not written: leave out the ?"
+pair_sentence why.MayBeMissing = codes "what may be missing is not written: leave out the ?, or the %?( and %)"
 pair_sentence why.BadFlagHere = codes "what this flag, width or precision writes is not read back"
 pair_sentence why.NoValues = codes "a pair has at least one value"
 pair_sentence why.BadMark = codes "the two widths differ at a conversion with =, or what this flag, width or letter writes is not read by one with !"

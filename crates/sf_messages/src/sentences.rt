@@ -7,7 +7,7 @@ ghost use Rattle.sf_messages.specs.Sentences.{byte_mark_sentence, carriage_sente
 ghost use Rattle.sf_messages.specs.Sentences.{printed_by_text, read_by_text, text_front};
 ghost use Rattle.sf_messages.specs.Sentences.{wanted_text, white_first_sentence};
 ghost use Rattle.sf_messages.specs.Sentences.{wide_text_sentence};
-ghost use Rattle.sf_messages.specs.Sentences.{is_digit, is_float_after, is_float_letter, typed_text};
+ghost use Rattle.sf_messages.specs.Sentences.{begins_round, is_digit, is_float_after, is_float_letter, typed_text};
 ghost use Rattle.sf_messages.specs.Sentences.{names_text, one_word_sentence, shell_sentence, stalled_sentence};
 ghost use Rattle.sf_messages.specs.Sentences.{unknown_sentence, why_sentence, width_option_text};
 
@@ -84,6 +84,13 @@ fn is_float_after(rest: &[u8]) -> bool
     false
 }
 
+/// Whether a round bracket stands first.
+fn begins_round(rest: &[u8]) -> bool
+    ensures { result ≡ begins_round rest.now }
+{
+    matches!(rest, [b'(', ..])
+}
+
 /// What has this byte in the other format, by the bytes after it.
 fn unknown_sentence(b: u8, rest: &[u8]) -> &'static str
     ensures { result.now ≡ unknown_sentence b rest.now }
@@ -92,6 +99,9 @@ fn unknown_sentence(b: u8, rest: &[u8]) -> &'static str
         b'.' if is_float_after(rest) => "a scan format has no precision: write %5f, and not %5.2f",
         b'.' => {
             "a precision stands in a print format alone; of two formats the print format comes first"
+        }
+        b'?' if begins_round(rest) => {
+            "a part that may be missing stands between %?( and %), in a scan format and by --profile 3"
         }
         b'?' => {
             "what may be missing has a ? before its width, in a scan format and by --profile 3: write %?5d"
@@ -102,6 +112,8 @@ fn unknown_sentence(b: u8, rest: &[u8]) -> &'static str
         b'=' => {
             "what stands in a column has a = before its width, in a scan format and by --profile 3: write %=8d"
         }
+        b'(' => "a part that may be missing begins with %?(, with nothing between these bytes",
+        b')' => "%) ends a part that may be missing, in a scan format and by --profile 3",
         b'*' => "a star stands before a ?, a =, a ! and a width: write %*?=!5d",
         b'b' => "base 2 is read and printed by --profile 2",
         b'D' | b'O' | b'U' => "the length l makes long integers: write %ld, %lo or %lu",
@@ -350,6 +362,10 @@ pub(crate) fn why_sentence(why: FormatWhy, b: u8, rest: &[u8]) -> &'static str
         FormatWhy::BadMark => {
             "a = has a width after it, and %c and %n have no =; %c, %[ and %n have no !"
         }
+        FormatWhy::BadGroup => {
+            "a group is %?( and %) around conversions or bytes, none within another; first in it is no white space, \
+             no %n and no conversion with a ?"
+        }
     }
 }
 
@@ -370,7 +386,8 @@ pub(crate) fn pair_sentence(why: PairWhy) -> &'static str
              \\n and the scan format with %*1[\\n]",
         PairWhy::LeadingZero => "%i reads a leading zero as octal",
         PairWhy::NotWritten => "nothing is written for %n",
-        PairWhy::MayBeMissing => "what may be missing is not written: leave out the ?",
+        PairWhy::MayBeMissing =>
+            "what may be missing is not written: leave out the ?, or the %?( and %)",
         PairWhy::BadFlagHere => "what this flag, width or precision writes is not read back",
         PairWhy::NoValues => "a pair has at least one value",
         PairWhy::BadMark =>

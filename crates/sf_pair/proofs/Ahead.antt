@@ -72,6 +72,7 @@ skips directive.Space = true
 skips (directive.Byte b) = false
 skips directive.Percent = true
 skips (directive.Conv s) = not s.column && shape_skips s.shape
+skips (directive.Opens o) = false
 
 -- the input that is left is what is still to come, or that without its white space, where the next directive skips it
 abbrev pub At : Option Directive → List ℕ → List ℕ → Type 0
@@ -164,6 +165,7 @@ module _ (tried : EachByteIsTried) (values : List Datum) (z : List ℕ) where
       absurd (literal_not_conv c us group later is.0 parts is.1)
   rest_begins (directive.Percent ∷ ds) (unit.Conv c) us proper (group, later, parts, is, more) =
       absurd (literal_not_conv c us group later is.0 parts is.1)
+  rest_begins (directive.Opens o ∷ ds) (unit.Conv c) us proper (group, later, parts, is, more) = absurd is
   rest_begins (directive.Conv s ∷ ds) (unit.Conv c) us proper (group, later, parts, is, more) =
       elim is [
         | inl p ↦ paired_begins s c us group later (next_of ds) parts p
@@ -238,6 +240,7 @@ module _ (tried : EachByteIsTried) (values : List Datum) (z : List ℕ) where
   next_ready (directive.Percent ∷ ds) (u ∷ us) proper cut start fault = inr (refl, refl)
   next_ready (directive.Byte b ∷ ds) (u ∷ us) proper (group, later, parts, is, more) start fault =
       unskipped (directive.Byte b) _ (literal_unskipped group later (u ∷ us) is.0 parts is.1 start)
+  next_ready (directive.Opens o ∷ ds) (u ∷ us) proper (group, later, parts, is, more) start fault = absurd is
   next_ready (directive.Conv s ∷ ds) (u ∷ us) proper (group, later, parts, is, more) start fault =
       elim is [
         | inl p ↦ paired p (skips (directive.Conv s)) refl

@@ -44,6 +44,7 @@ stored_some : (d : Directive) (group rest : List PrintUnit) (next : Option Direc
 stored_some directive.Space group rest next sized is = refl
 stored_some (directive.Byte b) group rest next sized is = refl
 stored_some directive.Percent group rest next sized is = refl
+stored_some (directive.Opens o) group rest next sized is = refl
 stored_some (directive.Conv s) group rest next sized is = by (is_left_out s) s.slot refl is
   where
     wide : (c : PrintConv) → pairing_fault c s ≡ None → (t : Bool) → s.column ≡ t → is_chars s.shape ≡ false → IsSome s.width

@@ -109,6 +109,7 @@ units_taken directive.Space us rest next e = space_taken us rest next e
 units_taken (directive.Byte b) us rest next e = literal_taken (only b) us rest e
 units_taken directive.Percent us rest next e = literal_taken (only 37) us rest e
 units_taken (directive.Conv s) us rest next e = conversion_taken s us rest next e
+units_taken (directive.Opens o) us rest next e = absurd cc
 
 -- ---- a walk without a fault cuts the units
 
@@ -174,6 +175,7 @@ units_back directive.Space group rest next h = space_back group rest next h
 units_back (directive.Byte b) group rest next h = literal_back (only b) group rest h
 units_back directive.Percent group rest next h = literal_back (only 37) group rest h
 units_back (directive.Conv s) group rest next h = conversion_back s group rest next h
+units_back (directive.Opens o) group rest next h = absurd h
 
 pub walk_from_cut : (ds : List Directive) (n : ℕ) (us : List PrintUnit) → AreCut ds us → fault_from n ds us ≡ None
 walk_from_cut [] n us e = ap (ending_fault n) e

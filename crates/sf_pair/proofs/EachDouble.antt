@@ -266,6 +266,7 @@ paired_here (directive.Byte b) group rest ds units is more =
     subst (λ (g : List PrintUnit). ArePaired (conversions (g ++ rest)) (assigned_conversions ds)) (sym is.1) more
 paired_here directive.Percent group rest ds units is more =
     subst (λ (g : List PrintUnit). ArePaired (conversions (g ++ rest)) (assigned_conversions ds)) (sym is.1) more
+paired_here (directive.Opens o) group rest ds units is more = absurd is
 paired_here (directive.Conv s) group rest ds units is more = by (is_left_out s) s.slot is
   where
     by : (out : Bool) (o : Option ℕ) → IsConversionGroup out (is_some o) s group rest (next_of ds)

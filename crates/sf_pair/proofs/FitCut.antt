@@ -58,6 +58,7 @@ GroupReads values directive.Space group rest next = IsSpaceRun group rest next
 GroupReads values (directive.Byte b) group rest next = IsLiteral (only b) group
 GroupReads values directive.Percent group rest next = IsLiteral (only 37) group
 GroupReads values (directive.Conv s) group rest next = PairedReads values s group rest next ⊎ LiteralReads s group
+GroupReads values (directive.Opens o) group rest next = ⊥
 
 abbrev pub FitCut : List Datum → List Directive → List PrintUnit → Type 0
 FitCut values [] us = us ≡ []
@@ -193,6 +194,7 @@ module _ (laws : LawsBelow) (values : List Datum) where
       (is, literal_none (directive.Byte b) ds group rest is.0 is.1 refl fit)
   group_reads directive.Percent ds group rest proper sized units is fit =
       (is, literal_none directive.Percent ds group rest is.0 is.1 refl fit)
+  group_reads (directive.Opens o) ds group rest proper sized units is fit = absurd is
   group_reads (directive.Conv s) ds group rest proper sized units is fit = by (is_left_out s) (is_some s.slot) refl refl is
     where
       by : (out assigned : Bool) → is_left_out s ≡ out → is_some s.slot ≡ assigned

@@ -12,12 +12,15 @@ use Rattle.sf_format.specs.declared.directive.Shape.TheVariants as shape
 use Rattle.sf_format.specs.declared.directive.Conversion.{Conversion}
 use Rattle.sf_format.specs.declared.directive.Directive.{Directive}
 use Rattle.sf_format.specs.declared.directive.Directive.TheVariants as directive
+use Rattle.sf_format.specs.declared.directive.Literal.{Literal}
+use Rattle.sf_format.specs.declared.directive.Literal.TheVariants as literal
 use Rattle.sf_format.specs.Leads.{is_strict}
 use Rattle.sf_format.specs.Widths.{add_widths, text_width, stored_width, width_sum}
 use Rattle.sf_report.specs.Steps.{StepEnd, Passes, Stores, Misses, Fails, NumberStored, RealStored, CountStep, ItemStored, ItemPasses}
 use Rattle.sf_report.specs.Steps.{EmptyItem, ItemEnds, ConversionStep, BlankColumn, TextColumn, ColumnEnds, ColumnStep, StepBy, Step}
+use Rattle.sf_report.specs.Steps.{LiteralStep, missed}
 use Rattle.sf_item.specs.Columns.{column_width, IsTextUnder, IsTextOf, ShapeFills, Fills}
-use Rattle.sf_report.specs.Runs.{Ran, RunReport, GoesOn, Steps, value_stored, values}
+use Rattle.sf_report.specs.Runs.{Ran, RunReport, GoesOn, Steps, StepsPast, over, value_stored, values}
 use Rattle.sf_report.specs.declared.outcome.Ending.{Ending}
 use Rattle.sf_report.specs.Limits.{IsCut, RunWithin}
 use Rattle.sf_pair.specs.Groups.{is_count}
@@ -149,11 +152,22 @@ byte_none b [] k slot v e = not_stored slot v (Fails _) e.1 tt
 byte_none b (y ∷ x) k slot v (inl e) = not_stored slot v Passes e.2 tt
 byte_none b (y ∷ x) k slot v (inr e) = not_stored slot v (Fails _) e.2 tt
 
+literal_none : (l : Literal) (x : List ℕ) (k slot : ℕ) (v : Datum) → LiteralStep l x k (Stores slot v) → ⊥
+literal_none (literal.Byte b) x k slot v is = byte_none b x k slot v is
+literal_none literal.Percent x k slot v (s, j, skipped, is, k_is) = byte_none 37 (drop s x) j slot v is
+
+opener_none : (l : Literal) (x : List ℕ) (k slot : ℕ) (v : Datum) (e : StepEnd) → LiteralStep l x k e → Stores slot v ≡ missed e → ⊥
+opener_none l x k slot v Passes is end_is = cc
+opener_none l x k slot v (Stores at u) is end_is = literal_none l x k at u is
+opener_none l x k slot v Misses is end_is = cc
+opener_none l x k slot v (Fails status) is end_is = cc
+
 step_within : (d : Directive) (x : List ℕ) (n k slot : ℕ) (v : Datum) (a : ℕ) → Step d x n k (Stores slot v) → stored_width d ≡ Some a
     → length (text_in v) ≤ a
 step_within directive.Space x n k slot v a is wide = absurd (not_stored slot v Passes is.1 tt)
 step_within (directive.Byte b) x n k slot v a is wide = absurd (byte_none b x k slot v is)
 step_within directive.Percent x n k slot v a (s, j, skipped, is, k_is) wide = absurd (byte_none 37 (drop s x) j slot v is)
+step_within (directive.Opens o) x n k slot v a (e, is, end_is) wide = absurd (opener_none o.literal x k slot v e is end_is)
 step_within (directive.Conv c) x n k slot v a is wide = by c.column is
   where
     by : (t : Bool) → StepBy t c x n k (Stores slot v) → length (text_in v) ≤ a
@@ -174,18 +188,24 @@ parts (Some m) (Some n) w e = record { first = m; rest = n; first_is = refl; res
 parts None p w e = absurd cc
 parts (Some m) None w e = absurd cc
 
-held : (ds : List Directive) (x : List ℕ) (n : ℕ) (ran : List Ran) → Steps ds x n ran → (w : ℕ) → width_sum ds ≡ Some w
+-- where the first m directives are missing with one before them
+held_past : (m : ℕ) (ds : List Directive) (x : List ℕ) (n : ℕ) (ran : List Ran) → StepsPast m ds x n ran → (w : ℕ) → width_sum ds ≡ Some w
     → length (texts_in (values ran)) ≤ w
-held [] x n [] steps w e = omega arith
-held [] x n (r ∷ ran) steps w e = absurd steps
-held (d ∷ ds) x n [] steps w e = absurd steps
-held (d ∷ ds) x n (r ∷ ran) (same, step, more) w e =
+held_past m [] x n [] steps w e = omega arith
+held_past m [] x n (r ∷ ran) steps w e = absurd steps
+held_past m (d ∷ ds) x n [] steps w e = absurd steps
+held_past (suc m) (d ∷ ds) x n (r ∷ ran) (out, more) w e =
     let p = parts (stored_width d) (width_sum ds) w e in
-    by p r.end refl step more (λ rest. held ds (drop r.bytes x) (n + r.bytes) ran rest p.rest p.rest_is)
+    let same = ap (λ (r : Ran). length (texts_in (values (r ∷ ran)))) out in
+    omega (arith, p.sum, held_past m ds x n ran more p.rest p.rest_is, same)
+held_past zero (d ∷ ds) x n (r ∷ ran) (same, step, more) w e =
+    let p = parts (stored_width d) (width_sum ds) w e in
+    by p r.end refl step more (λ rest. held_past (over d r.end) ds (drop r.bytes x) (n + r.bytes) ran rest p.rest p.rest_is)
   where
     by : (p : Parts (stored_width d) (width_sum ds) w) (end : StepEnd) → r.end ≡ end → Step d x n r.bytes end
-        → GoesOn end (Steps ds (drop r.bytes x) (n + r.bytes) ran) ran
-        → (Steps ds (drop r.bytes x) (n + r.bytes) ran → length (texts_in (values ran)) ≤ p.rest) → length (texts_in (values (r ∷ ran))) ≤ w
+        → GoesOn end (StepsPast (over d end) ds (drop r.bytes x) (n + r.bytes) ran) ran
+        → (StepsPast (over d end) ds (drop r.bytes x) (n + r.bytes) ran → length (texts_in (values ran)) ≤ p.rest)
+        → length (texts_in (values (r ∷ ran))) ≤ w
     by p Passes is step more later =
         let e = ap (λ (end : StepEnd). length (texts_in (values (record { directive = r.directive; bytes = r.bytes; end = end } ∷ ran))))
         is in
@@ -210,6 +230,10 @@ held (d ∷ ds) x n (r ∷ ran) (same, step, more) w e =
         is in
         let none = ap (λ (ran : List Ran). length (texts_in (values ran))) more in
         omega (arith, e, none)
+
+held : (ds : List Directive) (x : List ℕ) (n : ℕ) (ran : List Ran) → Steps ds x n ran → (w : ℕ) → width_sum ds ≡ Some w
+    → length (texts_in (values ran)) ≤ w
+held ds x n ran steps w e = held_past 0 ds x n ran steps w e
 
 -- what was held before a cut
 front_held : (before more : List Ran) → length (texts_in (values before)) ≤ length (texts_in (values (before ++ more)))

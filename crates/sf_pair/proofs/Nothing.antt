@@ -21,7 +21,7 @@ use Rattle.sf_format.specs.declared.directive.Conversion.{Conversion}
 use Rattle.sf_format.specs.declared.directive.Directive.{Directive}
 use Rattle.sf_format.specs.declared.directive.Directive.TheVariants as directive
 use Rattle.sf_format.specs.declared.unit.Unit.{Unit as PrintUnit}
-use Rattle.sf_format.specs.Proper.{IsProperShape, IsProperWidth, IsProper, AreProper}
+use Rattle.sf_format.specs.Proper.{IsProperShape, IsProperWidth, IsProper, AreProper, more_of}
 use Rattle.sf_item.specs.Radices.{radices, first_radix}
 use Rattle.sf_item.specs.Progress.{Progress, Start, Digits}
 use Rattle.sf_item.specs.Columns.{column_width}
@@ -30,10 +30,10 @@ use Rattle.sf_print.specs.Printed.{printed}
 use Rattle.sf_report.specs.declared.outcome.Status.TheVariants.{Done, InputFailure}
 use Rattle.sf_report.specs.declared.outcome.Ending.TheVariants.{End}
 use Rattle.sf_report.specs.Steps.{StepEnd, Passes, Stores, Misses, Fails}
-use Rattle.sf_report.specs.Runs.{Ran, RunReport, Run, IsOpen, used, status_of, converted, report_of, is_conversion, passed}
+use Rattle.sf_report.specs.Runs.{Ran, RunReport, Run, IsOpen, used, status_of, converted, report_of, is_conversion, left_out, over, passed}
 use Rattle.sf_report.specs.Machine.{empty_end}
 use Rattle.sf_report.specs.Computed.{skip_under, skip_before, len, item_part, conversion_step, byte_choice, step_by, step_of, go_on}
-use Rattle.sf_report.specs.Computed.{column_len, column_ended, ran_of}
+use Rattle.sf_report.specs.Computed.{column_len, column_ended, ran_of, ran_past}
 use Rattle.sf_pair.specs.conversions.Below.{LawsBelow}
 use Rattle.sf_pair.specs.Groups.{is_count, is_left_out, IsConversionGroup, AreCut, assigns, next_of}
 use Rattle.sf_pair.specs.Laws.{read_back, AlignedEndsOnNothing, PrintsSome}
@@ -43,28 +43,34 @@ use Rattle.sf_pair.proofs.Whole.{round_trip}
 
 -- ---- what is used of nothing, and of one byte that is taken
 
-after : (d : Directive) (x : List ℕ) (k n : ℕ) (end : StepEnd) (ds : List Directive) → k ≡ length x → ((n : ℕ) → used (ran_of ds [] n) ≡ 0)
-    → used (record { directive = d; bytes = k; end = end } ∷ go_on end (ran_of ds (drop k x) (n + k))) ≡ k
+after : (d : Directive) (x : List ℕ) (k n : ℕ) (end : StepEnd) (ds : List Directive) → k ≡ length x
+    → ((m n : ℕ) → used (ran_past m ds [] n) ≡ 0)
+    → used (record { directive = d; bytes = k; end = end } ∷ go_on end (ran_past (over d end) ds (drop k x) (n + k))) ≡ k
 after d x k n end ds e none = sum_by-cons (λ (r : Ran). r.bytes) (record { directive = d; bytes = k; end = end })
-    (go_on end (ran_of ds (drop k x) (n + k))) ∙ by end
+    (go_on end (ran_past (over d end) ds (drop k x) (n + k))) ∙ by end
   where
-    rest : used (ran_of ds (drop k x) (n + k)) ≡ 0
-    rest = ap (λ (y : List ℕ). used (ran_of ds y (n + k))) (drop_all k x (omega (arith, e))) ∙ none (n + k)
+    rest : (m : ℕ) → used (ran_past m ds (drop k x) (n + k)) ≡ 0
+    rest m = ap (λ (y : List ℕ). used (ran_past m ds y (n + k))) (drop_all k x (omega (arith, e))) ∙ none m (n + k)
 
-    by : (end : StepEnd) → k + used (go_on end (ran_of ds (drop k x) (n + k))) ≡ k
-    by Passes = omega (arith, rest)
-    by (Stores slot v) = omega (arith, rest)
-    by Misses = omega (arith, rest)
+    by : (end : StepEnd) → k + used (go_on end (ran_past (over d end) ds (drop k x) (n + k))) ≡ k
+    by Passes = omega (arith, rest 0)
+    by (Stores slot v) = omega (arith, rest 0)
+    by Misses = omega (arith, rest (more_of d))
     by (Fails status) = omega arith
 
-used_none : LawsBelow → (ds : List Directive) (n : ℕ) → used (ran_of ds [] n) ≡ 0
-used_none laws [] n = refl
-used_none laws (d ∷ ds) n =
+none_past : LawsBelow → (ds : List Directive) (m n : ℕ) → used (ran_past m ds [] n) ≡ 0
+none_past laws [] m n = refl
+none_past laws (d ∷ ds) zero n =
     let none : (step_of d [] n).0 ≡ 0 = omega (arith, laws.within d [] n) in
-    after d [] (step_of d [] n).0 n (step_of d [] n).1 ds none (used_none laws ds) ∙ none
+    after d [] (step_of d [] n).0 n (step_of d [] n).1 ds none (none_past laws ds) ∙ none
+none_past laws (d ∷ ds) (suc m) n =
+    sum_by-cons (λ (r : Ran). r.bytes) (left_out d) (ran_past m ds [] n) ∙ ap (λ (k : ℕ). 0 + k) (none_past laws ds m n)
+
+used_none : LawsBelow → (ds : List Directive) (n : ℕ) → used (ran_of ds [] n) ≡ 0
+used_none laws ds n = none_past laws ds 0 n
 
 one_used : LawsBelow → (d : Directive) (ds : List Directive) (b : ℕ) → (step_of d (b ∷ []) 0).0 ≡ 1 → used (ran_of (d ∷ ds) (b ∷ []) 0) ≡ 1
-one_used laws d ds b one = after d (b ∷ []) (step_of d (b ∷ []) 0).0 0 (step_of d (b ∷ []) 0).1 ds one (used_none laws ds) ∙ one
+one_used laws d ds b one = after d (b ∷ []) (step_of d (b ∷ []) 0).0 0 (step_of d (b ∷ []) 0).1 ds one (none_past laws ds) ∙ one
 
 -- ---- some byte is taken
 
@@ -195,6 +201,7 @@ first_taken : (d : Directive) (ds : List Directive) (us : List PrintUnit) → Is
 first_taken directive.Space ds us proper cut = (32, omega arith, refl)
 first_taken (directive.Byte a) ds us proper cut = (a, proper, ap (λ (t : Bool). (byte_choice t).0) (eq-eqb a a refl))
 first_taken directive.Percent ds us proper cut = (37, omega arith, refl)
+first_taken (directive.Opens o) ds us proper (group, rest, parts, is, more) = absurd is
 first_taken (directive.Conv s) ds us proper (group, rest, parts, is, more) =
     let no_count = no_count_in s (not_left_out s group rest (next_of ds) is) in
     let t = one_taken s s.shape refl no_count proper.0 proper.1 in
@@ -252,9 +259,10 @@ fails_first (directive.Space ∷ ds) us n (group, rest, parts, is, more) some =
     )
 fails_first (directive.Byte a ∷ ds) us n cut some = (refl, refl)
 fails_first (directive.Percent ∷ ds) us n cut some = (refl, refl)
+fails_first (directive.Opens o ∷ ds) us n (group, rest, parts, is, more) some = absurd is
 fails_first (directive.Conv s ∷ ds) us n (group, rest, parts, is, more) some =
     subst (λ (r : ℕ × StepEnd). FailsFirst (record { directive = directive.Conv s; bytes = r.0; end = r.1 } ∷ go_on r.1
-    (ran_of ds (drop r.0 []) (n + r.0))))
+    (ran_past (over (directive.Conv s) r.1) ds (drop r.0 []) (n + r.0))))
     (sym (conversion_fails s n (not_left_out s group rest (next_of ds) is))) (refl, none_converted s)
   where
     none_converted : (s : Conversion) → converted (record { directive = directive.Conv s; bytes = 0; end = Fails InputFailure } ∷ []) ≡ 0

@@ -97,6 +97,7 @@ open_here : LawsBelow → (d : Directive) (us : List PrintUnit) (next : Option D
 open_here laws directive.Space us next proper sized units e = space_runs_past laws us (space_open us next e)
 open_here laws (directive.Byte b) us next proper sized units e = absurd (literal_never why.OpenEnd refl (only b) us e)
 open_here laws directive.Percent us next proper sized units e = absurd (literal_never why.OpenEnd refl (only 37) us e)
+open_here laws (directive.Opens o) us next proper sized units e = absurd cc
 open_here laws (directive.Conv s) us next proper sized units e =
     let o = unclosed why.OpenEnd refl s us next e in
     let k = closed_open o.conversion s o.rest (reads next) o.closing in
@@ -112,6 +113,7 @@ on_here : LawsBelow → (d : Directive) (us : List PrintUnit) (next : Option Dir
 on_here laws directive.Space us next proper sized units e = tt
 on_here laws (directive.Byte b) us next proper sized units e = tt
 on_here laws directive.Percent us next proper sized units e = tt
+on_here laws (directive.Opens o) us next proper sized units e = tt
 on_here laws (directive.Conv s) [] next proper sized units e = tt
 on_here laws (directive.Conv s) (unit.Byte b ∷ us) next proper sized units e = tt
 on_here laws (directive.Conv s) (unit.Conv c ∷ []) next proper sized units e = tt

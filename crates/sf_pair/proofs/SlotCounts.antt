@@ -45,6 +45,7 @@ counts (directive.Percent ∷ ds) us (group, rest, parts, is, more) =
     ap (λ (us : List PrintUnit). length (values_of us)) parts ∙ literal_has_none group rest is.0 is.1 ∙ counts ds rest more
 counts (directive.Conv s ∷ ds) us (group, rest, parts, is, more) =
     ap (λ (us : List PrintUnit). length (values_of us)) parts ∙ conversion_has s ds group rest is (counts ds rest more)
+counts (directive.Opens o ∷ ds) us (group, rest, parts, is, more) = absurd is
 
 pub slots_agree : LawsBelow → AlignedSlotsAgree
 slots_agree laws us ds accepted proper aligned values fit = record {

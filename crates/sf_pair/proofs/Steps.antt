@@ -251,3 +251,4 @@ module _ (laws : LawsBelow) (values : List Datum) (z : List ℕ) (ds : List Dire
   move directive.Percent is at = percent_moves is at
   move (directive.Conv s) (inl p) at = paired_moves s p at
   move (directive.Conv s) (inr l) at = literal_moves s l at
+  move (directive.Opens o) is at = absurd is

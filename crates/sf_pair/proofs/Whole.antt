@@ -12,7 +12,7 @@ use Rattle.sf_print.specs.Printed.{printed}
 use Rattle.sf_report.specs.declared.outcome.Status.TheVariants.{Done}
 use Rattle.sf_report.specs.Steps.{StepEnd, Passes, Stores, Misses, Fails}
 use Rattle.sf_report.specs.Runs.{RunReport, Uses, used, IsOpen, is_conversion}
-use Rattle.sf_report.specs.Residual.{Tally, nothing_yet, with_used, counted, out_of, then_on, run_of}
+use Rattle.sf_report.specs.Residual.{Tally, nothing_yet, with_used, counted, out_of, then_on, run_of, run_past}
 use Rattle.sf_report.specs.Computed.{step_of, part_of, ran_of}
 use Rattle.sf_pair.specs.conversions.Below.{LawsBelow}
 use Rattle.sf_pair.specs.Groups.{IsAligned, next_of}
@@ -39,10 +39,10 @@ pub record Reads (ds : List Directive) (us : List PrintUnit) (values : List Datu
 -- one step that passes
 step_on : LawsBelow → (d : Directive) (ds : List Directive) (at : ℕ) (t : Tally) (x : List ℕ) (k : ℕ) (end : StepEnd)
     → step_of d x t.used ≡ (k, end)
-    → run_of None (d ∷ ds) at t x ≡ then_on None d at t (part_of t.used x (k, end)) (run_of None ds (at + 1))
+    → run_of None (d ∷ ds) at t x ≡ then_on None d at t (part_of t.used x (k, end)) (run_past None ds (at + 1))
 step_on laws d ds at t x k end e =
-    ap (λ p. then_on None d at t p (run_of None ds (at + 1))) (laws.machine d x t.used)
-    ∙ ap (λ r. then_on None d at t (part_of t.used x r) (run_of None ds (at + 1))) e
+    ap (λ p. then_on None d at t p (run_past None ds (at + 1))) (laws.machine d x t.used)
+    ∙ ap (λ r. then_on None d at t (part_of t.used x r) (run_past None ds (at + 1))) e
 
 abbrev tally : ℕ → ℕ → ℕ → List Assigned → Tally
 tally u a c v = record { used = u; assigned = a; converted = c; values = v }

@@ -40,6 +40,7 @@ group_unfaulted values (directive.Conv s) group rest next (inl p) =
     ap (λ (g : List PrintUnit). lowest_fault (g ++ rest) values) p.group_is
     ∙ same_end values (lower None (fault_or_none p.conversion _)) None rest (ap (fault_or_none p.conversion) p.at ∙ p.good)
 group_unfaulted values (directive.Conv s) group rest next (inr l) = ap (λ (g : List PrintUnit). lowest_fault (g ++ rest) values) l.group_is
+group_unfaulted values (directive.Opens o) group rest next is = absurd is
 
 unfaulted : (values : List Datum) (ds : List Directive) (us : List PrintUnit) → FitCut values ds us → lowest_fault us values ≡ None
 unfaulted values [] us cut = ap (λ (us : List PrintUnit). lowest_fault us values) cut

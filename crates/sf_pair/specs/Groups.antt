@@ -217,6 +217,7 @@ literals_of (directive.Byte b) = only b
 literals_of directive.Percent = only 37
 literals_of (directive.Conv s) = suppressed_by s
 literals_of directive.Space = no_byte
+literals_of (directive.Opens o) = no_byte
 
 -- ---- groups
 
@@ -243,12 +244,13 @@ IsConversionGroup true assigned s group rest next = ⊥
 IsConversionGroup false true s group rest next = IsPaired s group rest next
 IsConversionGroup false false s group rest next = IsLiteral (suppressed_by s) group
 
--- the directive's group, where these units and this directive come next
+-- the directive's group, where these units and this directive come next; one that may be missing has none
 abbrev pub IsGroup : Directive → List PrintUnit → List PrintUnit → Option Directive → Type 0
 IsGroup directive.Space group rest next = IsSpaceRun group rest next
 IsGroup (directive.Byte b) group rest next = IsLiteral (only b) group
 IsGroup directive.Percent group rest next = IsLiteral (only 37) group
 IsGroup (directive.Conv s) group rest next = IsConversionGroup (is_left_out s) (is_some s.slot) s group rest next
+IsGroup (directive.Opens o) group rest next = ⊥
 
 abbrev pub next_of : List Directive → Option Directive
 next_of [] = None

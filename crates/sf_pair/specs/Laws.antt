@@ -69,7 +69,7 @@ ReadWithin = (us : List PrintUnit) (ds : List Directive) → AreAccepted us → 
 abbrev pub AlignedIsBounded : Type 0
 AlignedIsBounded = (us : List PrintUnit) (ds : List Directive) → IsAccepted ds → IsAligned us ds → IsSome (width_sum ds)
 
--- no conversion of an aligned scan format may be missing
+-- no directive of an aligned scan format may be missing
 abbrev pub AlignedIsWhole : Type 0
 AlignedIsWhole = (us : List PrintUnit) (ds : List Directive) → IsAligned us ds → has_optional ds ≡ false
 

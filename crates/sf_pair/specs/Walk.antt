@@ -56,6 +56,7 @@ take_group directive.Space us next = take_space us next
 take_group (directive.Byte b) us next = take_literal (only b) us
 take_group directive.Percent us next = take_literal (only 37) us
 take_group (directive.Conv s) us next = take_conversion s us next
+take_group (directive.Opens o) us next = Err why.MayBeMissing
 
 -- ---- the first fault, at the n-th directive and those after it
 

@@ -72,8 +72,8 @@ pub fn aligned_is_bounded()
     ensures { AlignedIsBounded }
 {}
 
-/// A scan format that is aligned with a print format has no conversion whose item may be missing, and so no slot that
-/// may have no value.
+/// A scan format that is aligned with a print format has no directive that may be missing, and so no slot that may
+/// have no value.
 pub fn aligned_is_whole()
     ensures conversions { AlignedIsWhole }
     ensures slots { AlignedMissesNone }

@@ -26,6 +26,7 @@ fn no_conversion() -> Conversion
         width: None,
         slot: None,
         optional: false,
+        opens: None,
         column: false,
     }
 }
@@ -46,7 +47,7 @@ fn takes_literal(directive: &Directive, b: u8) -> bool
     ensures { result ≡ literals_of directive.now b }
 {
     match directive {
-        Directive::Space => false,
+        Directive::Space | Directive::Opens(_) => false,
         Directive::Byte(byte) => b == *byte,
         Directive::Percent => b == b'%',
         Directive::Conv(scan) => {
@@ -195,6 +196,7 @@ fn take_group<'a>(
                 take_literal(directive, units)
             }
         }
+        Directive::Opens(_) => Err(PairWhy::MayBeMissing),
     }
 }
 

@@ -18,7 +18,9 @@ fn checked(alloc: Global, print: &[u8], scan: &[u8]) -> anyhow::Result<()> {
 }
 
 /// A print format, a scan format, and the text of the fault.
-static REFUSED: [(&[u8], &[u8], &str); 20] = [
+static REFUSED: [(&[u8], &[u8], &str); 22] = [
+    (b"%d,%d;", b"%9d%?(,%9d%);", "Q13 MayBeMissing at 2"),
+    (b"%d,", b"%?(%9d,%)", "Q13 MayBeMissing at 1"),
     (b"%5d", b"%=6d", "Q14 BadMark at 1"),
     (b"%d", b"%=5d", "Q14 BadMark at 1"),
     (b"%5d", b"%=!5d", "Q14 BadMark at 1"),

@@ -19,6 +19,7 @@ fn is_decimal(directive: &Directive, number: u8, lead: Lead) -> bool {
                 width: None,
                 slot: Some(slot),
                 optional: false,
+                opens: None,
                 column: false,
             },
         ) => numeral.base == Base::Dec && numeral.lead == lead && *slot == number,

@@ -1,5 +1,6 @@
 -- A run consumes no more bytes than there are.
-use Rattle.std.proofs.Common.{ℕ, ◌+◌, ◌<◌, ◌≤◌, Bool, true, false, List, [], ◌∷◌, ◌++◌, length, drop, inl, inr, arith, length-drop}
+use Rattle.std.proofs.Common.{ℕ, zero, suc, ◌+◌, ◌<◌, ◌≤◌, Bool, true, false, List, [], ◌∷◌, ◌++◌, length, drop, inl, inr, arith}
+use Rattle.std.proofs.Common.{length-drop}
 use Rattle.std.proofs.lemmas.List.Sums.{sum_by-cons, sum_by-append}
 use Rattle.sf_format.specs.declared.directive.Lead.{Lead}
 use Rattle.sf_format.specs.declared.directive.Lead.TheVariants.{Any, Minus, Nothing}
@@ -7,11 +8,13 @@ use Rattle.sf_format.specs.declared.directive.Shape.{Shape}
 use Rattle.sf_format.specs.declared.directive.Shape.TheVariants.{Int, Text, Set, Chars, Float, Count}
 use Rattle.sf_format.specs.declared.directive.Conversion.{Conversion}
 use Rattle.sf_format.specs.declared.directive.Directive.{Directive}
-use Rattle.sf_format.specs.declared.directive.Directive.TheVariants.{Space, Byte, Percent, Conv}
+use Rattle.sf_format.specs.declared.directive.Directive.TheVariants.{Space, Byte, Percent, Conv, Opens}
+use Rattle.sf_format.specs.declared.directive.Literal.{Literal}
+use Rattle.sf_format.specs.declared.directive.Literal.TheVariants as literal
 use Rattle.sf_run.specs.outcome.Ending.{Ending}
 use Rattle.sf_run.specs.Steps.{StepEnd, Passes, Stores, Misses, Fails, Step, ByteStep, ItemStep, ConversionStep, StepBy, IsSkipBefore}
-use Rattle.sf_run.specs.Steps.{IsSkipUnder}
-use Rattle.sf_run.specs.Runs.{Ran, RunReport, GoesOn, Steps, used}
+use Rattle.sf_run.specs.Steps.{IsSkipUnder, LiteralStep}
+use Rattle.sf_run.specs.Runs.{Ran, RunReport, GoesOn, Steps, StepsPast, left_out, over, used}
 use Rattle.sf_run.specs.Limits.{IsCut, RunWithin}
 
 byte_within : (b : ℕ) (x : List ℕ) (k : ℕ) (end : StepEnd) → ByteStep b x k end → k ≤ length x
@@ -50,31 +53,44 @@ step_by_within : (column : Bool) (c : Conversion) (x : List ℕ) (n k : ℕ) (en
 step_by_within true c x n k end h = h.0.holds.0
 step_by_within false c x n k end h = conversion_within c c.shape x n k end h
 
+literal_within : (l : Literal) (x : List ℕ) (k : ℕ) (end : StepEnd) → LiteralStep l x k end → k ≤ length x
+literal_within (literal.Byte b) x k end h = byte_within b x k end h
+literal_within literal.Percent x k end (s, j, skip, byte, bytes) =
+    omega (arith, bytes, skip.holds.0, byte_within 37 (drop s x) j end byte, length-drop s x)
+
 step_within : (d : Directive) (x : List ℕ) (n k : ℕ) (end : StepEnd) → Step d x n k end → k ≤ length x
 step_within Space x n k end h = h.0.holds.0
 step_within (Byte b) x n k end h = byte_within b x k end h
 step_within Percent x n k end (s, j, skip, byte, bytes) =
     omega (arith, bytes, skip.holds.0, byte_within 37 (drop s x) j end byte, length-drop s x)
 step_within (Conv c) x n k end h = step_by_within c.column c x n k end h
+step_within (Opens o) x n k end (e, step, is) = literal_within o.literal x k e step
 
 rest_within : (d : Directive) (ds : List Directive) (x : List ℕ) (n : ℕ) (r : Ran) (ran : List Ran) (end : StepEnd)
-    → ((y : List ℕ) (k : ℕ) (rs : List Ran) → Steps ds y k rs → used rs ≤ length y)
-    → GoesOn end (Steps ds (drop r.bytes x) (n + r.bytes) ran) ran → r.bytes ≤ length x → used (r ∷ ran) ≤ length x
+    → ((m : ℕ) (y : List ℕ) (k : ℕ) (rs : List Ran) → StepsPast m ds y k rs → used rs ≤ length y)
+    → GoesOn end (StepsPast (over d end) ds (drop r.bytes x) (n + r.bytes) ran) ran → r.bytes ≤ length x → used (r ∷ ran) ≤ length x
 rest_within d ds x n r ran Passes within h low =
-    omega (arith, sum_by-cons (λ (q : Ran). q.bytes) r ran, within (drop r.bytes x) (n + r.bytes) ran h, length-drop r.bytes x)
+    omega (arith, sum_by-cons (λ (q : Ran). q.bytes) r ran, within 0 (drop r.bytes x) (n + r.bytes) ran h, length-drop r.bytes x)
 rest_within d ds x n r ran (Stores slot v) within h low =
-    omega (arith, sum_by-cons (λ (q : Ran). q.bytes) r ran, within (drop r.bytes x) (n + r.bytes) ran h, length-drop r.bytes x)
+    omega (arith, sum_by-cons (λ (q : Ran). q.bytes) r ran, within 0 (drop r.bytes x) (n + r.bytes) ran h, length-drop r.bytes x)
 rest_within d ds x n r ran Misses within h low =
-    omega (arith, sum_by-cons (λ (q : Ran). q.bytes) r ran, within (drop r.bytes x) (n + r.bytes) ran h, length-drop r.bytes x)
+    let later = within (over d Misses) (drop r.bytes x) (n + r.bytes) ran h in
+    omega (arith, sum_by-cons (λ (q : Ran). q.bytes) r ran, later, length-drop r.bytes x)
 rest_within d ds x n r ran (Fails status) within h low =
     rw h (omega (arith, sum_by-cons (λ (q : Ran). q.bytes) r []))
 
+past_within : (ds : List Directive) (m : ℕ) (x : List ℕ) (n : ℕ) (ran : List Ran) → StepsPast m ds x n ran → used ran ≤ length x
+past_within [] m x n [] h = omega arith
+past_within [] m x n (r ∷ ran) h = absurd h
+past_within (d ∷ ds) m x n [] h = absurd h
+past_within (d ∷ ds) zero x n (r ∷ ran) (is, step, goes_on) =
+    rest_within d ds x n r ran r.end (past_within ds) goes_on (step_within d x n r.bytes r.end step)
+past_within (d ∷ ds) (suc m) x n (r ∷ ran) (is, rest) =
+    let later = past_within ds m x n ran rest in
+    rw is (omega (arith, later, sum_by-cons (λ (q : Ran). q.bytes) (left_out d) ran))
+
 pub steps_within : (ds : List Directive) (x : List ℕ) (n : ℕ) (ran : List Ran) → Steps ds x n ran → used ran ≤ length x
-steps_within [] x n [] h = omega arith
-steps_within [] x n (r ∷ ran) h = absurd h
-steps_within (d ∷ ds) x n [] h = absurd h
-steps_within (d ∷ ds) x n (r ∷ ran) (is, step, goes_on) =
-    rest_within d ds x n r ran r.end (steps_within ds) goes_on (step_within d x n r.bytes r.end step)
+steps_within ds x n ran h = past_within ds 0 x n ran h
 
 -- a run that was cut off had more bytes than its limit
 pub cut_below : (ds : List Directive) (x : List ℕ) (m : ℕ) (before : List Ran) → IsCut ds x m before → m < length x

@@ -1,5 +1,5 @@
 -- Rows and the destinations of formats.
-use Rattle.std.proofs.Common.{◌≡◌, inl, inr, ℕ, ◌+◌, ◌-◌, ◌≤◌, Bool, true, false, cond, not, ◌&&◌, ◌||◌, nat_eq, List, [], ◌∷◌, length}
+use Rattle.std.proofs.Common.{◌≡◌, inl, inr, ℕ, ◌+◌, ◌-◌, ◌≤◌, Bool, true, false, cond, not, nat_eq, List, [], ◌∷◌, length}
 use Rattle.std.proofs.Common.{Option, Some, None, Result, Ok, Err, is_some, if◌then◌else◌, refl, sym, ap, subst, ◌∙◌, arith}
 use Rattle.std.proofs.Math.Nat.{lt_of_not-le}
 use Rattle.std.proofs.lemmas.Option.{slice_get_past}
@@ -9,8 +9,8 @@ use Rattle.std.specs.List.{cons_option}
 use Rattle.std.specs.Option.{option_eq}
 use Rattle.sf_base.specs.declared.values.Kind.{Kind}
 use Rattle.sf_format.specs.declared.directive.Directive.{Directive}
-use Rattle.sf_format.specs.declared.directive.Directive.TheVariants.{Space, Byte, Percent, Conv}
-use Rattle.sf_format.specs.Proper.{AreKinded, destinations_of, has_optional, kind_at, may_miss}
+use Rattle.sf_format.specs.declared.directive.Directive.TheVariants.{Space, Byte, Percent, Conv, Opens}
+use Rattle.sf_format.specs.Proper.{AreKinded, destinations_of, has_optional, kind_at, may_miss, left_over, may_miss_from}
 use Rattle.sf_format.specs.Slots.{AreSlots, kind_with}
 use Rattle.sf_format.proofs.Outcomes.{by_test}
 use Rattle.sf_format.proofs.SlotLookups.{kinds_are}
@@ -56,17 +56,14 @@ no_kind shape slot out =
     slice_get_past shape (slot - 1) (omega (arith, low, past)))
 
 -- a slot that may be missing has a kind
-no_may : (slot : ℕ) (ds : List Directive) → is_some (kind_at slot ds) ≡ false → may_miss slot ds ≡ false
-no_may slot [] unkinded = refl
-no_may slot (Space ∷ ds) unkinded = no_may slot ds unkinded
-no_may slot (Byte b ∷ ds) unkinded = no_may slot ds unkinded
-no_may slot (Percent ∷ ds) unkinded = no_may slot ds unkinded
-no_may slot (Conv c ∷ ds) unkinded = by c.slot refl (no_may slot ds)
+no_may_from : (slot k : ℕ) (ds : List Directive) → is_some (kind_at slot ds) ≡ false → may_miss_from slot k ds ≡ false
+no_may_from slot k [] unkinded = refl
+no_may_from slot k (Space ∷ ds) unkinded = no_may_from slot (left_over Space k) ds unkinded
+no_may_from slot k (Byte b ∷ ds) unkinded = no_may_from slot (left_over (Byte b) k) ds unkinded
+no_may_from slot k (Percent ∷ ds) unkinded = no_may_from slot (left_over Percent k) ds unkinded
+no_may_from slot k (Opens o ∷ ds) unkinded = no_may_from slot (left_over (Opens o) k) ds unkinded
+no_may_from slot k (Conv c ∷ ds) unkinded = by c.slot refl (no_may_from slot (left_over (Conv c) k) ds)
   where
-    and_nothing : (v : Bool) → (v && false || false) ≡ false
-    and_nothing true = refl
-    and_nothing false = refl
-
     -- the kind of the slot, by that of the conversion
     kinds : (o : Option ℕ) → c.slot ≡ o → is_some (kind_with slot (cons_option
         (elim o [ None ↦ None | Some n ↦ Some (n, c.kind) ]) (destinations_of ds))) ≡ false
@@ -81,12 +78,15 @@ no_may slot (Conv c ∷ ds) unkinded = by c.slot refl (no_may slot ds)
     later n own e = let h = kinds (Some n) own in
         let same : kind_with slot ((n, c.kind) ∷ destinations_of ds) ≡ kind_at slot ds = rw e refl in ap is_some (sym same) ∙ h
 
-    by : (o : Option ℕ) → c.slot ≡ o → (is_some (kind_at slot ds) ≡ false → may_miss slot ds ≡ false)
-        → may_miss slot (Conv c ∷ ds) ≡ false
-    by None own rest = rw (own, rest (kinds None own)) (and_nothing c.optional)
+    by : (o : Option ℕ) → c.slot ≡ o → (is_some (kind_at slot ds) ≡ false → may_miss_from slot (left_over (Conv c) k) ds ≡ false)
+        → may_miss_from slot k (Conv c ∷ ds) ≡ false
+    by None own rest = rw own (rest (kinds None own))
     by (Some n) own rest =
-        by_test (nat_eq n slot) (λ v. nat_eq n slot ≡ v → may_miss slot (Conv c ∷ ds) ≡ false)
-        (λ same e. absurd (own_kind n own e)) (λ other e. rw (own, e, rest (later n own e)) (and_nothing c.optional)) refl
+        by_test (nat_eq n slot) (λ v. nat_eq n slot ≡ v → may_miss_from slot k (Conv c ∷ ds) ≡ false)
+        (λ same e. absurd (own_kind n own e)) (λ other e. rw (own, e) (rest (later n own e))) refl
+
+no_may : (slot : ℕ) (ds : List Directive) → is_some (kind_at slot ds) ≡ false → may_miss slot ds ≡ false
+no_may slot ds unkinded = no_may_from slot 0 ds unkinded
 
 -- the kinds that were compared slot by slot are those of each slot
 pub has_kinds : (shape : List Kind) (ds : List Directive) → AreSlots (destinations_of ds)

@@ -1,6 +1,6 @@
 -- A run that is Done, has used all of its input and ends with an item that can go on would consume some byte next.
 use Rattle.std.proofs.Common.{◌≡◌, ℕ, ◌+◌, ◌-◌, ◌<◌, ◌≤◌, inl, inr, Bool, true, false, cond, List, [], ◌∷◌, ◌++◌, length, take, drop}
-use Rattle.std.proofs.Common.{Option, Some, None, refl, sym, ap, subst, ◌∙◌, arith, lit<, zero, suc, ◌&&◌}
+use Rattle.std.proofs.Common.{Option, Some, None, refl, sym, ap, subst, ◌∙◌, arith, lit<, zero, suc, ◌&&◌, ◌||◌, is_some, unwrap_or}
 use Rattle.std.specs.Prelude.{slice_get, SomeIff}
 use Rattle.std.proofs.lemmas.Bool.{and_from, and_parts}
 use Rattle.std.proofs.lemmas.List.{append-nil, append_assoc, take-append-drop}
@@ -13,8 +13,8 @@ use Rattle.sf_format.specs.declared.directive.Shape.{Shape}
 use Rattle.sf_format.specs.declared.directive.Shape.TheVariants.{Int, Text, Set, Chars, Float, Count}
 use Rattle.sf_format.specs.declared.directive.Conversion.{Conversion}
 use Rattle.sf_format.specs.declared.directive.Directive.{Directive}
-use Rattle.sf_format.specs.declared.directive.Directive.TheVariants.{Conv}
-use Rattle.sf_format.specs.Proper.{IsProper, IsProperShape, AreProper}
+use Rattle.sf_format.specs.declared.directive.Directive.TheVariants.{Space, Byte, Percent, Conv, Opens}
+use Rattle.sf_format.specs.Proper.{IsProper, IsProperShape, AreProper, has_group, is_opener, more_of}
 use Rattle.sf_item.specs.ColumnTests.{column_text}
 use Rattle.sf_item.specs.Tests.{can_take, is_ink, is_within, shape_begins}
 use Rattle.sf_item.proofs.Fronts.{zero_begins}
@@ -23,14 +23,14 @@ use Rattle.sf_report.specs.declared.outcome.Ending.TheVariants.{End}
 use Rattle.sf_report.specs.declared.outcome.Status.{Status}
 use Rattle.sf_report.specs.declared.outcome.Status.TheVariants.{Done, InputFailure}
 use Rattle.sf_report.specs.Steps.{StepEnd, Passes, Stores, Misses, Fails}
-use Rattle.sf_report.specs.Runs.{RunReport, IsOpen, Run}
+use Rattle.sf_report.specs.Runs.{RunReport, IsOpen, Run, over}
 use Rattle.sf_report.specs.Limits.{RunWithin}
 use Rattle.sf_report.specs.Laws.{EachDoneRunStays, EachOpenInputIsUsed}
 use Rattle.sf_base.specs.Bytes.{is_white}
 use Rattle.sf_report.specs.Machine.{Stage, Skipping, Taken, Item, shape_skips, item_stepped, conversion_stepped, stepped, is_full}
 use Rattle.sf_report.specs.Machine.{empty_end, text_end, conversion_finished, column_finished, finished_by, finished}
 use Rattle.sf_report.specs.Residual.{stepped_all, Tally, nothing_yet, Part, choose, one_from, with_used, counted, out_of, by_end, then_on}
-use Rattle.sf_report.specs.Residual.{run_of}
+use Rattle.sf_report.specs.Residual.{run_of, run_past}
 use Rattle.sf_report.proofs.Joined.{one_from-all}
 use Rattle.sf_report.proofs.Machines.{by_option, can_take_one, keeps_all, not_full, some_is, steps_by}
 use Rattle.sf_report.proofs.Openness.{counted-used, holds_by}
@@ -181,18 +181,48 @@ one_never_done d q n (b ∷ x) = by_option (λ p. NotDone p.end) (stepped d q b)
 
 -- where the run is Done, its directive has passed
 first_passed : (d : Directive) (ds : List Directive) (at : ℕ) (t : Tally) (p : Part) → NotDone p.end
-    → (then_on None d at t p (run_of None ds (at + 1))).status ≡ Done
+    → (then_on None d at t p (run_past None ds (at + 1))).status ≡ Done
     → (status : Status) → p.end ≡ Fails status → ⊥
 first_passed d ds at t p ok done status e =
     let is : status ≡ Done = ap
-    (λ o. (by_end o (run_of None ds (at + 1) (counted d p.end (with_used p.used t)) p.left)
+    (λ o. (by_end o (run_past None ds (at + 1) (over d p.end) (counted d p.end (with_used p.used t)) p.left)
     (λ s. out_of s at (with_used p.used t))).status) (sym e) ∙ done in
     ok (e ∙ ap Fails is)
 
+-- a directive that opens no group is missing alone
+more_alone : (d : Directive) → is_opener d ≡ false → more_of d ≡ 0
+more_alone (Conv c) alone = by c.optional c.opens alone
+  where
+    by : (optional : Bool) (opens : Option ℕ) → is_some opens ≡ false → cond optional (unwrap_or opens 0) 0 ≡ 0
+    by false opens e = refl
+    by true None e = refl
+    by true (Some n) e = absurd cc
+more_alone (Opens o) alone = absurd cc
+more_alone Space alone = refl
+more_alone (Byte b) alone = refl
+more_alone Percent alone = refl
+
+over_alone : (d : Directive) (end : StepEnd) → is_opener d ≡ false → over d end ≡ 0
+over_alone d Passes alone = refl
+over_alone d (Stores slot v) alone = refl
+over_alone d Misses alone = more_alone d alone
+over_alone d (Fails status) alone = refl
+
+or_false : (a b : Bool) → (a || b) ≡ false → (a ≡ false) × (b ≡ false)
+or_false true b e = absurd cc
+or_false false b e = (refl, e)
+
+alone_parts : (d : Directive) (ds : List Directive) → has_group (d ∷ ds) ≡ false → (is_opener d ≡ false) × (has_group ds ≡ false)
+alone_parts d ds none = or_false (is_opener d) (has_group ds) none
+
 -- and the rest of the run follows
-goes_to_rest : (d : Directive) (ds : List Directive) (at : ℕ) (t : Tally) (p : Part) → ((status : Status) → p.end ≡ Fails status → ⊥)
-    → then_on None d at t p (run_of None ds (at + 1)) ≡ run_of None ds (at + 1) (counted d p.end (with_used p.used t)) p.left
-goes_to_rest d ds at t p passed = by p.end refl
+goes_to_rest : (d : Directive) → is_opener d ≡ false → (ds : List Directive) (at : ℕ) (t : Tally) (p : Part)
+    → ((status : Status) → p.end ≡ Fails status → ⊥)
+    → then_on None d at t p (run_past None ds (at + 1)) ≡ run_of None ds (at + 1) (counted d p.end (with_used p.used t)) p.left
+goes_to_rest d alone ds at t p passed =
+    ap (λ k. by_end p.end (run_past None ds (at + 1) k (counted d p.end (with_used p.used t)) p.left)
+    (λ s. out_of s at (with_used p.used t)))
+    (over_alone d p.end alone) ∙ by p.end refl
   where
     rest : RunReport
     rest = run_of None ds (at + 1) (counted d p.end (with_used p.used t)) p.left
@@ -231,26 +261,28 @@ whole_part d q r n x e =
     (one_from-all d q r n x [] e)
 
 fails_alone : (c : Conversion) (at : ℕ) (t : Tally) (p : Part) → p.end ≡ Fails InputFailure
-    → (then_on None (Conv c) at t p (run_of None [] (at + 1))).status ≡ Done → ⊥
+    → (then_on None (Conv c) at t p (run_past None [] (at + 1))).status ≡ Done → ⊥
 fails_alone c at t p e done =
     let is : InputFailure ≡ Done = ap
-    (λ o. (by_end o (run_of None [] (at + 1) (counted (Conv c) p.end (with_used p.used t)) p.left)
+    (λ o. (by_end o (run_past None [] (at + 1) (over (Conv c) p.end) (counted (Conv c) p.end (with_used p.used t)) p.left)
     (λ s. out_of s at (with_used p.used t))).status) (sym e) ∙ done in
     absurd cc
 
 -- with nothing left for it, the run isn't Done
-lacks_an_item : (c : Conversion) → IsNeeded c → (ds : List Directive) (at : ℕ) (t : Tally)
+lacks_an_item : (c : Conversion) → IsNeeded c → (ds : List Directive) → has_group ds ≡ false → (at : ℕ) (t : Tally)
     → (run_of None (ds ++ Conv c ∷ []) at t []).status ≡ Done → ⊥
-lacks_an_item c goes [] at t done = fails_alone c at t (one_from (Conv c) Skipping t.used []) (conversion_lacks c t.used goes) done
-lacks_an_item c goes (d ∷ ds) at t done =
+lacks_an_item c goes [] none at t done = fails_alone c at t (one_from (Conv c) Skipping t.used []) (conversion_lacks c t.used goes) done
+lacks_an_item c goes (d ∷ ds) none at t done =
+    let alone = alone_parts d ds none in
     let p : Part = one_from d Skipping t.used [] in
     let passed = first_passed d (ds ++ Conv c ∷ []) at t p (one_never_done d Skipping t.used []) done in
-    lacks_an_item c goes ds (at + 1) (counted d p.end (with_used p.used t))
-    (ap (λ (r : RunReport). r.status) (sym (goes_to_rest d (ds ++ Conv c ∷ []) at t p passed)) ∙ done)
+    lacks_an_item c goes ds alone.1 (at + 1) (counted d p.end (with_used p.used t))
+    (ap (λ (r : RunReport). r.status) (sym (goes_to_rest d alone.0 (ds ++ Conv c ∷ []) at t p passed)) ∙ done)
 
-alone_uses : (c : Conversion) (at : ℕ) (t : Tally) (p : Part) → (then_on None (Conv c) at t p (run_of None [] (at + 1))).used ≡ p.used
+alone_uses : (c : Conversion) (at : ℕ) (t : Tally) (p : Part) → (then_on None (Conv c) at t p (run_past None [] (at + 1))).used ≡ p.used
 alone_uses c at t p =
-    holds_by (λ o. o.used ≡ p.used) p.end (run_of None [] (at + 1) (counted (Conv c) p.end (with_used p.used t)) p.left)
+    holds_by (λ o. o.used ≡ p.used) p.end
+    (run_past None [] (at + 1) (over (Conv c) p.end) (counted (Conv c) p.end (with_used p.used t)) p.left)
     (λ s. out_of s at (with_used p.used t))
     (counted-used (Conv c) p.end (with_used p.used t)) (λ status. refl)
 
@@ -284,15 +316,18 @@ last_takes c proper goes none at t x done all = by (stepped_all (Conv c) Skippin
     by (Some r) e = staged r (last_stage c goes.2 Skipping x r tt e) e
 
 takes_next : (c : Conversion) → IsProperShape c.shape → IsNeeded c → c.width ≡ None
-    → (ds : List Directive) (at : ℕ) (t : Tally) (x : List ℕ)
+    → (ds : List Directive) → has_group ds ≡ false → (at : ℕ) (t : Tally) (x : List ℕ)
     → (run_of None (ds ++ Conv c ∷ []) at t x).status ≡ Done → (run_of None (ds ++ Conv c ∷ []) at t x).used ≡ t.used + length x
     → TakesNext (ds ++ Conv c ∷ []) at t x
-takes_next c proper goes none [] at t x done all = last_takes c proper goes none at t x done all
-takes_next c proper goes none (d ∷ ds) at t x done all =
+takes_next c proper goes none [] single at t x done all = last_takes c proper goes none at t x done all
+takes_next c proper goes none (d ∷ ds) single at t x done all =
     by (stepped_all d Skipping x) refl
-    (takes_next c proper goes none ds (at + 1) u p.left (ap (λ (r : RunReport). r.status) (sym rest) ∙ done)
+    (takes_next c proper goes none ds alone.1 (at + 1) u p.left (ap (λ (r : RunReport). r.status) (sym rest) ∙ done)
     (ap (λ (r : RunReport). r.used) (sym rest) ∙ all ∙ sym (keeps_all d Skipping t.used x) ∙ ap (λ n. n + length p.left) (sym uses)))
   where
+    alone : (is_opener d ≡ false) × (has_group ds ≡ false)
+    alone = alone_parts d ds single
+
     back : List Directive
     back = ds ++ Conv c ∷ []
 
@@ -309,17 +344,17 @@ takes_next c proper goes none (d ∷ ds) at t x done all =
     passed = first_passed d back at t p (one_never_done d Skipping t.used x) done
 
     rest : run_of None (d ∷ back) at t x ≡ run_of None back (at + 1) u p.left
-    rest = goes_to_rest d back at t p passed
+    rest = goes_to_rest d alone.0 back at t p passed
 
     by : (o : Option Stage) → stepped_all d Skipping x ≡ o → TakesNext back (at + 1) u p.left → TakesNext (d ∷ back) at t x
     by None e (b, below, takes) =
         let same : run_of None (d ∷ back) at t (x ++ b ∷ []) ≡ run_of None back (at + 1) u (p.left ++ b ∷ []) =
-        ap (λ part. then_on None d at t part (run_of None back (at + 1))) (stops_alike d Skipping t.used x (b ∷ []) e)
-        ∙ goes_to_rest d back at t (more_left p (b ∷ [])) passed in
+        ap (λ part. then_on None d at t part (run_past None back (at + 1))) (stops_alike d Skipping t.used x (b ∷ []) e)
+        ∙ goes_to_rest d alone.0 back at t (more_left p (b ∷ [])) passed in
         (b, below, ap (λ (r : RunReport). r.used) same ∙ takes ∙ omega (arith, uses, keeps_all d Skipping t.used x))
     by (Some r) e takes =
         let nothing : p.left ≡ [] = ap (λ (q : Part). q.left) (whole_part d Skipping r t.used x e) in
-        absurd (lacks_an_item c goes ds (at + 1) u
+        absurd (lacks_an_item c goes ds alone.1 (at + 1) u
         (subst (λ y. (run_of None back (at + 1) u y).status ≡ Done) nothing (ap (λ (r : RunReport). r.status) (sym rest) ∙ done)))
 
 -- ---- the last directive
@@ -339,6 +374,13 @@ proper_last : (front : List Directive) (d : Directive) → AreProper (front ++ d
 proper_last [] d proper = proper.0
 proper_last (e ∷ front) d proper = proper_last front d proper.1
 
+-- where no directive opens a group, none of a front does
+front_alone : (n : ℕ) (ds : List Directive) → has_group ds ≡ false → has_group (take n ds) ≡ false
+front_alone zero ds none = refl
+front_alone (suc n) [] none = refl
+front_alone (suc n) (d ∷ ds) none =
+    let parts = alone_parts d ds none in rw parts.0 (front_alone n ds parts.1)
+
 -- a run that is Done and has used all of its input would consume some byte next
 pub is_open_after : (ds : List Directive) → AreProper ds → EndsUnbounded ds → (x : List ℕ)
     → (run_of None ds 1 nothing_yet x).status ≡ Done
@@ -349,7 +391,7 @@ is_open_after ds proper ends x done all =
     let is : ds ≡ front ++ Conv c ∷ [] = last_is ds (Conv c) ends.last in
     let own : IsProper (Conv c) = proper_last front (Conv c) (subst AreProper is proper) in
     let takes : TakesNext (front ++ Conv c ∷ []) 1 nothing_yet x = takes_next c own.0 (ends.goes_on, ends.needed, ends.no_column)
-    ends.no_width front 1 nothing_yet x
+    ends.no_width front (front_alone (length ds - 1) ds ends.no_group) 1 nothing_yet x
     (subst (λ es. (run_of None es 1 nothing_yet x).status ≡ Done) is done)
     (subst (λ es. (run_of None es 1 nothing_yet x).used ≡ length x) is all ∙ omega arith) in
     let here : TakesNext ds 1 nothing_yet x = subst (λ es. TakesNext es 1 nothing_yet x) (sym is) takes in

@@ -152,9 +152,9 @@ type Gaps = (
     &'static [Option<Value<'static>>],
 );
 
-/// Tuples of one field to six in turn, of which fields are missing. The last has an Option in each slot, though only
-/// the second may be missing.
-static GAPS: [Gaps; 6] = [
+/// Tuples of one field to six in turn, of which fields are missing. The sixth has an Option in each slot, though only
+/// the second may be missing. The last is of a group.
+static GAPS: [Gaps; 7] = [
     (b"%?ld", b"", &[None]),
     (b"%?d %s", b" up 7", &[None, Some(Value::Text(b"up"))]),
     (
@@ -190,6 +190,7 @@ static GAPS: [Gaps; 6] = [
             Some(Value::U64(5)),
         ],
     ),
+    (b"%d%?(,%d:%n%);", b"1;", &[Some(Value::I32(1)), None, None]),
 ];
 
 /// The row of a text by a format of profile 3, from a source and of the text.
@@ -250,6 +251,11 @@ type Six = (
 #[test]
 fn gaps_of_six(rt: HostRuntime) -> Result<(), Fail> {
     has_gaps::<Six>(rt.alloc(), &GAPS[5])
+}
+
+#[test]
+fn gaps_of_a_group(rt: HostRuntime) -> Result<(), Fail> {
+    has_gaps::<(i32, Option<i32>, Option<i32>)>(rt.alloc(), &GAPS[6])
 }
 
 /// The values of a row that are there.

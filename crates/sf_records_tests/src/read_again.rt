@@ -39,7 +39,7 @@ fn records_under_names(rt: HostRuntime) -> Result<(), Fail> {
 #[test]
 fn lines_by_two_formats(rt: HostRuntime) -> Result<(), Fail> {
     let formats = [
-        ScanFormat::parse(rt.alloc(), Profile::Three, b"%d,%?9[a-z]")?,
+        ScanFormat::parse(rt.alloc(), Profile::Three, b"%d,%?9[a-z]%?(:%d%)")?,
         ScanFormat::parse(rt.alloc(), Profile::Three, b"%9[a-z]")?,
     ];
     let options = LinesOptions {
@@ -49,12 +49,12 @@ fn lines_by_two_formats(rt: HostRuntime) -> Result<(), Fail> {
         keep_going: true,
         matching: false,
     };
-    let written = write_lines(rt.alloc(), b"7,ab\nc\n;\n8,\n", &formats, options);
+    let written = write_lines(rt.alloc(), b"7,ab:5\nc\n;\n8,\n", &formats, options);
     is(&rt, &written.end.written, &3, &"lines");
     is(
         &rt,
         &written.text.bytes(),
-        &b"[1,7,\"ab\"]\n[2,\"c\"]\n[1,8,null]\n".as_slice(),
+        &b"[1,7,\"ab\",5]\n[2,\"c\"]\n[1,8,null,null]\n".as_slice(),
         &"lines",
     );
     Ok(())

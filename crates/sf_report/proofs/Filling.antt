@@ -1,6 +1,6 @@
 -- What the runs of a format give its slots.
 use Rattle.std.proofs.Common.{◌≡◌, ◌≢◌, ℕ, zero, suc, ◌+◌, inl, inr, Bool, true, false, cond, ◌&&◌, ◌||◌, map, nat_eq, List, [], ◌∷◌, drop}
-use Rattle.std.proofs.Common.{take, Option, Some, None, refl, sym, ap, subst, ◌∙◌, arith}
+use Rattle.std.proofs.Common.{◌⊎◌, ◌<◌, ◌≤◌, take, Option, Some, None, refl, sym, ap, subst, ◌∙◌, arith}
 use Rattle.std.proofs.lemmas.Bool.Decides.{nat_tests}
 use Rattle.std.specs.Prelude.{find, ℤ}
 use Rattle.std.specs.List.{AllByRecursion}
@@ -14,9 +14,12 @@ use Rattle.sf_format.specs.declared.directive.Shape.{Shape}
 use Rattle.sf_format.specs.declared.directive.Shape.TheVariants.{Int, Text, Set, Chars, Float, Count}
 use Rattle.sf_format.specs.declared.directive.Conversion.{Conversion}
 use Rattle.sf_format.specs.declared.directive.Directive.{Directive}
-use Rattle.sf_format.specs.declared.directive.Directive.TheVariants.{Space, Byte, Percent, Conv}
+use Rattle.sf_format.specs.declared.directive.Opener.{Opener}
+use Rattle.sf_format.specs.declared.directive.Directive.TheVariants.{Space, Byte, Percent, Conv, Opens}
+use Rattle.sf_format.specs.declared.directive.Literal.{Literal}
+use Rattle.sf_format.specs.declared.directive.Literal.TheVariants as literal
 use Rattle.sf_format.specs.Proper.{AreKinded, HasItsKind, IsKinded, destination_of, destinations_of, has_optional, has_slot, is_optional}
-use Rattle.sf_format.specs.Proper.{is_optional_for, kind_at, may_miss}
+use Rattle.sf_format.specs.Proper.{assigns, kind_at, left_over, may_be_missing, may_miss, may_miss_from, more_of}
 use Rattle.sf_item.specs.Columns.{ShapeFills}
 use Rattle.sf_format.specs.Slots.{AreDistinct, AreSlots, Slotted, kind_with}
 use Rattle.sf_format.proofs.Outcomes.{by_test}
@@ -25,10 +28,10 @@ use Rattle.sf_report.specs.declared.outcome.Status.{Status}
 use Rattle.sf_report.specs.declared.outcome.Status.TheVariants.{Done, InputFailure, MatchingFailure, OutOfRange, TooLong, NoMemory}
 use Rattle.sf_report.specs.Limits.{RunTold}
 use Rattle.sf_report.specs.Rows.{Suits, kind_of}
-use Rattle.sf_report.specs.Runs.{GoesOn, Ran, RunReport, Steps, is_shape_converted, status_of, values}
+use Rattle.sf_report.specs.Runs.{GoesOn, Ran, RunReport, StepsPast, is_shape_converted, over, status_of, values}
 use Rattle.sf_report.specs.Steps.{ByteStep, ConversionStep, CountStep, EmptyItem, Fails, IsReal, ItemEnds, ItemPasses, ItemStep, ItemStored}
 use Rattle.sf_report.specs.Steps.{BlankColumn, ColumnEnds, Misses, NumberStored, Passes, RealStored, Step, StepBy, StepEnd, Stores}
-use Rattle.sf_report.specs.Steps.{TextColumn}
+use Rattle.sf_report.specs.Steps.{LiteralStep, TextColumn, missed}
 
 -- ---- what a step gives its slot
 
@@ -158,6 +161,18 @@ fills_by : (c : Conversion) (column : Bool) (x : List ℕ) (n k : ℕ) (e : Step
 fills_by c true x n k e kind h = column_fills c x (take k x) e kind h.1
 fills_by c false x n k e kind h = conversion_fills c c.shape x n k e refl kind h
 
+-- ---- literals that open a group
+
+literal_fills : (o : Opener) (l : Literal) (x : List ℕ) (k : ℕ) (e : StepEnd) → LiteralStep l x k e → Fills (Opens o) e
+literal_fills o (literal.Byte b) x k e h = byte_fills (Opens o) b x k e refl h
+literal_fills o literal.Percent x k e (s, j, skip, byte, bytes) = byte_fills (Opens o) 37 (drop s x) j e refl byte
+
+missed_fills : (o : Opener) (e : StepEnd) → Fills (Opens o) e → Fills (Opens o) (missed e)
+missed_fills o Passes h = h
+missed_fills o (Stores slot v) h = h
+missed_fills o Misses h = h
+missed_fills o (Fails status) h = refl
+
 -- ---- each directive
 
 step_fills : (d : Directive) (x : List ℕ) (n k : ℕ) (e : StepEnd) → IsKinded d → Step d x n k e → Fills d e
@@ -165,6 +180,7 @@ step_fills Space x n k e kind h = rw h.1 refl
 step_fills (Byte b) x n k e kind h = byte_fills (Byte b) b x k e refl h
 step_fills Percent x n k e kind (s, j, skip, byte, bytes) = byte_fills Percent 37 (drop s x) j e refl byte
 step_fills (Conv c) x n k e kind h = fills_by c c.column x n k e kind h
+step_fills (Opens o) x n k e kind (f, step, is) = rw is (missed_fills o f (literal_fills o o.literal x k f step))
 
 -- ---- what a run gives the slots
 
@@ -190,6 +206,13 @@ one_more : (d : Directive) (ds : List Directive) (e : Slotted) → destination_o
 one_more d ds e is = rw is refl
 
 -- ---- each slot suits
+
+-- the same, where the first k of the directives may be missing with one before them
+abbrev SuitsFrom : ℕ → List Directive → ℕ → Option Datum → Type 0
+SuitsFrom k ds slot given = (option_map kind_of given ≡ kind_at slot ds) ⊎ (may_miss_from slot k ds ≡ true) × (given ≡ None)
+
+abbrev AreSuitedFrom : ℕ → List Directive → List Assigned → Type 0
+AreSuitedFrom k ds values = (slot : ℕ) → SuitsFrom k ds slot (datum_at slot values)
 
 abbrev pub AreSuited : List Directive → List Assigned → Type 0
 AreSuited ds values = (slot : ℕ) → Suits ds slot (datum_at slot values)
@@ -219,112 +242,137 @@ apart_parts d ds None is h = (subst (λ (es : List Slotted). AreDistinct (map (�
 apart_parts d ds (Some e) is h =
     let both = subst (λ (es : List Slotted). AreDistinct (map (λ (o : Slotted). o.0) es)) (one_more d ds e is) h in (both.1, both.0)
 
-may_more : (d : Directive) (ds : List Directive) (slot : ℕ) → may_miss slot ds ≡ true → may_miss slot (d ∷ ds) ≡ true
-may_more d ds slot h = by_test (is_optional_for slot d) (λ t. (t || may_miss slot ds) ≡ true) (λ one. refl) (λ other. h)
+may_more : (d : Directive) (k : ℕ) (ds : List Directive) (slot : ℕ) → may_miss_from slot (left_over d k) ds ≡ true
+    → may_miss_from slot k (d ∷ ds) ≡ true
+may_more d k ds slot h =
+    by_test (assigns slot d && may_be_missing d k) (λ t. (t || may_miss_from slot (left_over d k) ds) ≡ true) (λ one. refl) (λ other. h)
 
 -- after a directive that assigns nothing
-suits_none : (d : Directive) (ds : List Directive) (slot : ℕ) (given : Option Datum) → destination_of d ≡ None → Suits ds slot given
-    → Suits (d ∷ ds) slot given
-suits_none d ds slot given none (inl is) = inl (is ∙ sym (ap (kind_with slot) (none_more d ds none)))
-suits_none d ds slot given none (inr (may, nothing)) = inr (may_more d ds slot may, nothing)
+suits_none : (d : Directive) (k : ℕ) (ds : List Directive) (slot : ℕ) (given : Option Datum) → destination_of d ≡ None
+    → SuitsFrom (left_over d k) ds slot given → SuitsFrom k (d ∷ ds) slot given
+suits_none d k ds slot given none (inl is) = inl (is ∙ sym (ap (kind_with slot) (none_more d ds none)))
+suits_none d k ds slot given none (inr (may, nothing)) = inr (may_more d k ds slot may, nothing)
 
-own_optional : (d : Directive) (e : Slotted) (slot : ℕ) → destination_of d ≡ Some e → is_optional d ≡ true → nat_eq e.0 slot ≡ true
-    → is_optional_for slot d ≡ true
-own_optional Space e slot is optional same = absurd cc
-own_optional (Byte b) e slot is optional same = absurd cc
-own_optional Percent e slot is optional same = absurd cc
-own_optional (Conv c) e slot is optional same = by c.slot refl is
+own_slot : (d : Directive) (e : Slotted) (slot : ℕ) → destination_of d ≡ Some e → nat_eq e.0 slot ≡ true → assigns slot d ≡ true
+own_slot Space e slot is same = absurd cc
+own_slot (Byte b) e slot is same = absurd cc
+own_slot Percent e slot is same = absurd cc
+own_slot (Opens o) e slot is same = absurd cc
+own_slot (Conv c) e slot is same = by c.slot refl is
   where
-    by : (o : Option ℕ) → c.slot ≡ o → elim o [ None ↦ None | Some n ↦ Some (n, c.kind) ] ≡ Some e
-        → (c.optional && has_slot slot c.slot) ≡ true
+    by : (o : Option ℕ) → c.slot ≡ o → elim o [ None ↦ None | Some n ↦ Some (n, c.kind) ] ≡ Some e → has_slot slot c.slot ≡ true
     by None own eq = absurd cc
-    by (Some n) own eq = let first : n ≡ e.0 = cc in rw (optional, own, first) same
+    by (Some n) own eq = let first : n ≡ e.0 = cc in rw (own, first) same
 
--- after one whose item is missing
-suits_missing : (d : Directive) (ds : List Directive) (slot : ℕ) (given : Option Datum) (e : Slotted) → destination_of d ≡ Some e
-    → is_optional d ≡ true → IsApart (Some e) (destinations_of ds) → Suits ds slot given → Suits (d ∷ ds) slot given
-suits_missing d ds slot given e is optional apart suits = by_test (nat_eq e.0 slot) (λ t. nat_eq e.0 slot ≡ t → Suits (d ∷ ds) slot given)
+-- after one that is missing
+suits_missing : (d : Directive) (k : ℕ) (ds : List Directive) (slot : ℕ) (given : Option Datum) (e : Slotted) → destination_of d ≡ Some e
+    → may_be_missing d k ≡ true → IsApart (Some e) (destinations_of ds) → SuitsFrom (left_over d k) ds slot given
+    → SuitsFrom k (d ∷ ds) slot given
+suits_missing d k ds slot given e is missing apart suits =
+    by_test (nat_eq e.0 slot) (λ t. nat_eq e.0 slot ≡ t → SuitsFrom k (d ∷ ds) slot given)
     (λ same _. own same suits) (λ other _. another other suits) refl
   where
-    own : nat_eq e.0 slot ≡ true → Suits ds slot given → Suits (d ∷ ds) slot given
+    own : nat_eq e.0 slot ≡ true → SuitsFrom (left_over d k) ds slot given → SuitsFrom k (d ∷ ds) slot given
     own same h =
         let is_slot : e.0 ≡ slot = grind (arith, nat_tests) in
         let no_kind : kind_at slot ds ≡ None = none_with slot (destinations_of ds)
         (subst (λ n. AllByRecursion (λ m. m ≢ n) (map (λ (o : Slotted). o.0) (destinations_of ds))) is_slot apart) in
-        let may : may_miss slot (d ∷ ds) ≡ true = rw (own_optional d e slot is optional same) refl in
-        inr (may, elim h [ inl kind ↦ nothing_of given (kind ∙ no_kind) | inr missing ↦ missing.1 ])
+        let may : may_miss_from slot k (d ∷ ds) ≡ true = rw (own_slot d e slot is same, missing) refl in
+        inr (may, elim h [ inl kind ↦ nothing_of given (kind ∙ no_kind) | inr other ↦ other.1 ])
 
-    another : nat_eq e.0 slot ≡ false → Suits ds slot given → Suits (d ∷ ds) slot given
+    another : nat_eq e.0 slot ≡ false → SuitsFrom (left_over d k) ds slot given → SuitsFrom k (d ∷ ds) slot given
     another other (inl kind) = inl (kind ∙ sym (ap (kind_with slot) (one_more d ds e is) ∙ rw other refl))
-    another other (inr (may, nothing)) = inr (may_more d ds slot may, nothing)
+    another other (inr (may, nothing)) = inr (may_more d k ds slot may, nothing)
 
 -- after one that stored something
-suits_stored : (d : Directive) (ds : List Directive) (slot s : ℕ) (v : Datum) (values : List Assigned)
-    → destination_of d ≡ Some (s, kind_of v) → Suits ds slot (datum_at slot values)
-    → Suits (d ∷ ds) slot (datum_at slot (record { slot = s; datum = v } ∷ values))
-suits_stored d ds slot s v values is (inl kind) =
+suits_stored : (d : Directive) (k : ℕ) (ds : List Directive) (slot s : ℕ) (v : Datum) (values : List Assigned)
+    → destination_of d ≡ Some (s, kind_of v) → SuitsFrom (left_over d k) ds slot (datum_at slot values)
+    → SuitsFrom k (d ∷ ds) slot (datum_at slot (record { slot = s; datum = v } ∷ values))
+suits_stored d k ds slot s v values is (inl kind) =
     inl (next_given slot s v values (destinations_of ds) kind ∙ sym (ap (kind_with slot) (one_more d ds (s, kind_of v) is)))
-suits_stored d ds slot s v values is (inr (may, nothing)) =
-    by_test (nat_eq slot s) (λ t. nat_eq slot s ≡ t → Suits (d ∷ ds) slot (datum_at slot (record { slot = s; datum = v } ∷ values)))
+suits_stored d k ds slot s v values is (inr (may, nothing)) =
+    by_test (nat_eq slot s) (λ t. nat_eq slot s ≡ t → SuitsFrom k (d ∷ ds) slot (datum_at slot (record { slot = s; datum = v } ∷ values)))
     (λ same _. inl (rw (one_more d ds (s, kind_of v) is, sym (eq_swapped slot s), same) refl))
-    (λ other _. inr (may_more d ds slot may, rw other nothing)) refl
+    (λ other _. inr (may_more d k ds slot may, rw other nothing)) refl
 
-by_destination : (d : Directive) (ds : List Directive) (slot : ℕ) (given : Option Datum) (o : Option Slotted) → destination_of d ≡ o
-    → is_optional d ≡ true → IsApart o (destinations_of ds) → Suits ds slot given → Suits (d ∷ ds) slot given
-by_destination d ds slot given None is optional apart suits = suits_none d ds slot given is suits
-by_destination d ds slot given (Some e) is optional apart suits = suits_missing d ds slot given e is optional apart suits
+by_destination : (d : Directive) (k : ℕ) (ds : List Directive) (slot : ℕ) (given : Option Datum) (o : Option Slotted)
+    → destination_of d ≡ o → may_be_missing d k ≡ true → IsApart o (destinations_of ds) → SuitsFrom (left_over d k) ds slot given
+    → SuitsFrom k (d ∷ ds) slot given
+by_destination d k ds slot given None is missing apart suits = suits_none d k ds slot given is suits
+by_destination d k ds slot given (Some e) is missing apart suits = suits_missing d k ds slot given e is missing apart suits
 
-next_fills : (d : Directive) (ds : List Directive) (b : ℕ) (e : StepEnd) (ran : List Ran) (Rest : Type 0) → Fills d e → GoesOn e Rest ran
-    → IsApart (destination_of d) (destinations_of ds)
-    → (Rest → status_of ran ≡ Done → AreSuited ds (values ran)) → status_of (record { directive = d; bytes = b; end = e } ∷ ran) ≡ Done
-    → AreSuited (d ∷ ds) (values (record { directive = d; bytes = b; end = e } ∷ ran))
-next_fills d ds b Passes ran Rest fills goes apart rest done slot =
-    suits_none d ds slot (datum_at slot (values ran)) fills (rest goes done slot)
-next_fills d ds b (Stores s v) ran Rest fills goes apart rest done slot =
-    suits_stored d ds slot s v (values ran) fills (rest goes done slot)
-next_fills d ds b Misses ran Rest fills goes apart rest done slot =
-    by_destination d ds slot (datum_at slot (values ran)) (destination_of d) refl fills apart (rest goes done slot)
-next_fills d ds b (Fails status) ran Rest fills goes apart rest done slot = absurd (fills done)
+next_fills : (d : Directive) (k : ℕ) (ds : List Directive) (b : ℕ) (e : StepEnd) (ran : List Ran) (Rest : Type 0) → Fills d e
+    → GoesOn e Rest ran → IsApart (destination_of d) (destinations_of ds)
+    → (Rest → status_of ran ≡ Done → AreSuitedFrom (left_over d k) ds (values ran))
+    → status_of (record { directive = d; bytes = b; end = e } ∷ ran) ≡ Done
+    → AreSuitedFrom k (d ∷ ds) (values (record { directive = d; bytes = b; end = e } ∷ ran))
+next_fills d k ds b Passes ran Rest fills goes apart rest done slot =
+    suits_none d k ds slot (datum_at slot (values ran)) fills (rest goes done slot)
+next_fills d k ds b (Stores s v) ran Rest fills goes apart rest done slot =
+    suits_stored d k ds slot s v (values ran) fills (rest goes done slot)
+next_fills d k ds b Misses ran Rest fills goes apart rest done slot =
+    by_destination d k ds slot (datum_at slot (values ran)) (destination_of d) refl (rw fills refl) apart (rest goes done slot)
+next_fills d k ds b (Fails status) ran Rest fills goes apart rest done slot = absurd (fills done)
 
-steps_fill : (ds : List Directive) (x : List ℕ) (n : ℕ) (ran : List Ran) → AreKinded ds → AreApart ds → Steps ds x n ran
-    → status_of ran ≡ Done → AreSuited ds (values ran)
-steps_fill [] x n [] kinded apart steps done = λ slot. inl refl
-steps_fill [] x n (r ∷ ran) kinded apart steps done = absurd steps
-steps_fill (d ∷ ds) x n [] kinded apart steps done = absurd steps
-steps_fill (d ∷ ds) x n (r ∷ ran) kinded apart steps done =
+-- no more are missing with one than may be
+over_fits : (d : Directive) (e : StepEnd) (k : ℕ) → over d e ≤ left_over d k
+over_fits d e k = grind arith
+
+some_left : (d : Directive) (k : ℕ) → 0 < k → may_be_missing d k ≡ true
+some_left d k low = grind (arith, nat_tests)
+
+steps_fill : (m k : ℕ) (ds : List Directive) (x : List ℕ) (n : ℕ) (ran : List Ran) → m ≤ k → AreKinded ds → AreApart ds
+    → StepsPast m ds x n ran → status_of ran ≡ Done → AreSuitedFrom k ds (values ran)
+steps_fill m k [] x n [] few kinded apart steps done = λ slot. inl refl
+steps_fill m k [] x n (r ∷ ran) few kinded apart steps done = absurd steps
+steps_fill m k (d ∷ ds) x n [] few kinded apart steps done = absurd steps
+steps_fill zero k (d ∷ ds) x n (r ∷ ran) few kinded apart steps done =
     let parts = apart_parts d ds (destination_of d) refl apart in
-    next_fills d ds r.bytes r.end ran (Steps ds (drop r.bytes x) (n + r.bytes) ran)
+    next_fills d k ds r.bytes r.end ran (StepsPast (over d r.end) ds (drop r.bytes x) (n + r.bytes) ran)
     (step_fills d x n r.bytes r.end kinded.0 steps.1) steps.2 parts.1
-    (λ rest. steps_fill ds (drop r.bytes x) (n + r.bytes) ran kinded.1 parts.0 rest) done
+    (λ rest. steps_fill (over d r.end) (left_over d k) ds (drop r.bytes x) (n + r.bytes) ran (over_fits d r.end k) kinded.1 parts.0 rest)
+    done
+steps_fill (suc m) k (d ∷ ds) x n (r ∷ ran) few kinded apart steps done =
+    let parts = apart_parts d ds (destination_of d) refl apart in
+    let rest : status_of ran ≡ Done = subst (λ (s : Ran). status_of (s ∷ ran) ≡ Done) steps.0 done in
+    let later = steps_fill m (left_over d k) ds x n ran (grind (arith, few)) kinded.1 parts.0 steps.1 rest in
+    λ slot. subst (λ (s : Ran). SuitsFrom k (d ∷ ds) slot (datum_at slot (values (s ∷ ran)))) (sym steps.0)
+    (by_destination d k ds slot (datum_at slot (values ran)) (destination_of d) refl (some_left d k (omega (arith, few))) parts.1
+    (later slot))
 
 -- a Done report has a value of its kind for each destination of the format that isn't missing, and no others
 pub done_fills : (ds : List Directive) (m : ℕ) (x : List ℕ) (ending : Ending) (report : RunReport) → AreKinded ds
     → AreSlots (destinations_of ds) → RunTold ds m x ending report → report.status ≡ Done
     → AreSuited ds report.values
 done_fills ds m x ending report kinded slots (inl (inl (few, (ran, steps, met, is_met, is)))) done =
-    subst (λ (o : RunReport). AreSuited ds o.values) (sym is) (steps_fill ds x 0 ran kinded slots.distinct steps
+    subst (λ (o : RunReport). AreSuited ds o.values) (sym is) (steps_fill 0 0 ds x 0 ran (omega arith) kinded slots.distinct steps
     (ap (λ (o : RunReport). o.status) (sym is) ∙ done))
 done_fills ds m x ending report kinded slots (inl (inr (before, cut, is))) done = let e : report.status ≡ TooLong =
     ap (λ (o : RunReport). o.status) is in absurd cc
 done_fills ds m x ending report kinded slots (inr (k, low, (before, cut, stores, is))) done = let e : report.status ≡ NoMemory =
     ap (λ (o : RunReport). o.status) is in absurd cc
 
--- without a conversion that may be missing, no slot is
+-- without a directive that may be missing, no slot is
 pub none_may : (slot : ℕ) (ds : List Directive) → has_optional ds ≡ false → may_miss slot ds ≡ false
 none_may slot [] none = refl
 none_may slot (d ∷ ds) none =
     let parts = or_false (is_optional d) (has_optional ds) none in
-    rw (not_for d parts.0, none_may slot ds parts.1) refl
+    rw (parts.0, no_and (assigns slot d), no_more d parts.0) (none_may slot ds parts.1)
   where
     or_false : (a b : Bool) → (a || b) ≡ false → (a ≡ false) × (b ≡ false)
     or_false true b e = absurd cc
     or_false false b e = (refl, e)
 
-    not_for : (d : Directive) → is_optional d ≡ false → is_optional_for slot d ≡ false
-    not_for Space e = refl
-    not_for (Byte b) e = refl
-    not_for Percent e = refl
-    not_for (Conv c) e = rw e refl
+    no_and : (a : Bool) → (a && false) ≡ false
+    no_and true = refl
+    no_and false = refl
+
+    no_more : (d : Directive) → is_optional d ≡ false → more_of d ≡ 0
+    no_more Space e = refl
+    no_more (Byte b) e = refl
+    no_more Percent e = refl
+    no_more (Conv c) e = rw e refl
+    no_more (Opens o) e = absurd cc
 
 -- where none may be missing, each is given
 pub each_given : (ds : List Directive) (values : List Assigned) → ((slot : ℕ) → may_miss slot ds ≡ false) → AreSuited ds values

@@ -12,7 +12,7 @@ use Rattle.sf_report.specs.Residual.{nothing_yet, run_of}
 use Rattle.sf_report.proofs.Openness.{OpenAt, open_or_closed, uses_within}
 use Rattle.sf_report.proofs.Told.{run_told, told_exists, told_is, uses_is, uses_from, met_within, within_met}
 
-pub open_of : (ds : List Directive) → AreProper ds → (x : List ℕ) → OpenAt ds 1 nothing_yet x → IsOpen ds x
+pub open_of : (ds : List Directive) → AreProper ds → (x : List ℕ) → OpenAt ds 1 0 nothing_yet x → IsOpen ds x
 open_of ds proper x w = (
   w.next,
   w.is_byte,
@@ -23,7 +23,7 @@ open_of ds proper x w = (
 pub open_all : (ds : List Directive) → AreProper ds → (x : List ℕ) → IsOpen ds x → (run_of None ds 1 nothing_yet x).used ≡ length x
 open_all ds proper x o = grind (
   arith,
-  (open_or_closed ds 1 nothing_yet x proper),
+  (open_or_closed ds 1 0 nothing_yet x proper),
   (uses_is ds proper (x ++ o.0 ∷ []) (length x + 1) o.2),
   (uses_within ds 1 nothing_yet x),
 )
@@ -32,7 +32,7 @@ open_all ds proper x o = grind (
 pub closed_same : (ds : List Directive) → AreProper ds → (m : ℕ) (x z : List ℕ) (r : RunReport) → (IsOpen ds x → ⊥) → TellsWithin ds m x r
     → TellsWithin ds m (x ++ z) r
 closed_same ds proper m x z r closed h =
-    elim (open_or_closed ds 1 nothing_yet x proper) [
+    elim (open_or_closed ds 1 0 nothing_yet x proper) [
       | inl w ↦ absurd (closed (open_of ds proper x w))
       | inr w ↦ subst (λ (o : RunReport). TellsWithin ds m (x ++ z) o) (w (Some m) z ∙ sym (told_is ds proper m x r h))
           (told_exists ds proper m (x ++ z))
@@ -40,7 +40,7 @@ closed_same ds proper m x z r closed h =
 
 closed_more : (ds : List Directive) → AreProper ds → (x z : List ℕ) → (IsOpen ds x → ⊥) → IsOpen ds (x ++ z) → ⊥
 closed_more ds proper x z closed o =
-    elim (open_or_closed ds 1 nothing_yet x proper) [
+    elim (open_or_closed ds 1 0 nothing_yet x proper) [
       | inl w ↦ closed (open_of ds proper x w)
       | inr w ↦ (let long : (run_of None ds 1 nothing_yet ((x ++ z) ++ o.0 ∷ [])).used ≡ length (x ++ z) + 1 =
           uses_is ds proper ((x ++ z) ++ o.0 ∷ []) (length (x ++ z) + 1) o.2 in

@@ -14,8 +14,11 @@ use Rattle.sf_format.specs.declared.directive.Shape.{Shape}
 use Rattle.sf_format.specs.declared.directive.Shape.TheVariants.{Int, Text, Set, Chars, Float, Count}
 use Rattle.sf_format.specs.declared.directive.Conversion.{Conversion}
 use Rattle.sf_format.specs.declared.directive.Directive.{Directive}
-use Rattle.sf_format.specs.declared.directive.Directive.TheVariants.{Space, Byte, Percent, Conv}
-use Rattle.sf_format.specs.Proper.{IsProper, IsProperShape, IsProperWidth}
+use Rattle.sf_format.specs.declared.directive.Directive.TheVariants.{Space, Byte, Percent, Conv, Opens}
+use Rattle.sf_format.specs.declared.directive.Literal.{Literal}
+use Rattle.sf_format.specs.declared.directive.Literal.TheVariants as literal
+use Rattle.sf_format.specs.declared.directive.Opener.{Opener}
+use Rattle.sf_format.specs.Proper.{IsProper, IsProperLiteral, IsProperShape, IsProperWidth}
 use Rattle.sf_base.specs.Sets.{has_byte}
 use Rattle.sf_float_read.specs.item.Tests.{begins_float_of}
 use Rattle.sf_item.specs.Matching.{forms_of}
@@ -27,10 +30,10 @@ use Rattle.sf_item.proofs.Fronts.{HasItem, can_take_front, integer_goes_on, zero
 use Rattle.sf_item.proofs.Deciding.{tests_same}
 use Rattle.sf_report.proofs.FloatBytes.{float_byte}
 use Rattle.sf_report.specs.declared.outcome.Status.TheVariants.{TooLong}
-use Rattle.sf_report.specs.Steps.{StepEnd, Fails}
+use Rattle.sf_report.specs.Steps.{StepEnd, Fails, missed}
 use Rattle.sf_report.specs.Machine.{Stage, Skipping, Taken, Item, shape_skips, item_stepped, stepped, some_below, is_full, finished}
 use Rattle.sf_report.specs.Machine.{conversion_stepped, column_taken, stepped_by, conversion_finished, column_finished, finished_by}
-use Rattle.sf_report.specs.Machine.{empty_end, text_end}
+use Rattle.sf_report.specs.Machine.{byte_finished, empty_end, literal_stepped, text_end}
 use Rattle.sf_report.specs.Residual.{Part, choose, one_from}
 
 pub some_is : {A : Type 0} (a b : A) → Some a ≡ Some b → a ≡ b
@@ -226,11 +229,22 @@ full_by c proper true e Skipping b full = taken_nothing c Skipping [] (steps_by 
 full_by c proper true e Taken b full = refl
 full_by c proper true e (Item f) b full = taken_nothing c (Item f) f (steps_by c true e (Item f)) full b
 
+opener_full : (o : Opener) → IsProperLiteral o.literal → (q : Stage) (b : ℕ) → is_full (Opens o) q ≡ true → stepped (Opens o) q b ≡ None
+opener_full o proper q b full = by o.literal refl
+  where
+    by : (l : Literal) → o.literal ≡ l → literal_stepped o.literal q b ≡ None
+    by (literal.Byte a) e = grind (
+      arith,
+      (takes_one (Opens o) Skipping a Taken (rw e at proper) (rw (e, same_test) refl)),
+    )
+    by literal.Percent e = grind (arith, (takes_one (Opens o) Skipping 37 Taken (lit< tt) (rw e refl)))
+
 pub full_takes_nothing : (d : Directive) → IsProper d → (q : Stage) (b : ℕ) → is_full d q ≡ true → stepped d q b ≡ None
 full_takes_nothing Space proper q b full = grind (arith, (takes_one Space Skipping 32 Skipping (lit< tt) refl))
 full_takes_nothing (Byte a) proper q b full = grind (arith, (takes_one (Byte a) Skipping a Taken proper (rw same_test refl)))
 full_takes_nothing Percent proper q b full = grind (arith, (takes_one Percent Skipping 37 Taken (lit< tt) refl))
 full_takes_nothing (Conv c) proper q b full = full_by c proper.0 c.column refl q b full
+full_takes_nothing (Opens o) proper q b full = opener_full o proper q b full
 
 -- ---- the end of a full directive
 
@@ -296,6 +310,19 @@ finished_full c proper true column q n more full =
 finished_full c proper false no_column q n more full =
     shape_full c c.shape q n more (λ e item. item_not_full c proper item (subst (λ r. is_full (Conv c) r ≡ true) e full))
 
+-- a full literal has its byte
+byte_full : (q : Stage) (more : Bool) → (q ≡ Skipping → ⊥) → byte_finished q more ≡ byte_finished q true
+byte_full Skipping more none = absurd (none refl)
+byte_full Taken more none = refl
+byte_full (Item f) more none = refl
+
+opener_not_full : (o : Opener) → IsProperLiteral o.literal → is_full (Opens o) Skipping ≡ true → ⊥
+opener_not_full o proper full = by o.literal refl
+  where
+    by : (l : Literal) → o.literal ≡ l → ⊥
+    by (literal.Byte a) e = takes_one (Opens o) Skipping a Taken (rw e at proper) (rw (e, same_test) refl) full
+    by literal.Percent e = takes_one (Opens o) Skipping 37 Taken (lit< tt) (rw e refl) full
+
 -- what follows a full directive makes no difference to its end
 pub full_finish : (d : Directive) → IsProper d → (q : Stage) (n : ℕ) (more : Bool) → is_full d q ≡ true
     → finished d q n more ≡ finished d q n true
@@ -303,6 +330,8 @@ full_finish Space proper q n more full = refl
 full_finish (Byte a) proper q n more full = grind (arith, (takes_one (Byte a) Skipping a Taken proper (rw same_test refl)))
 full_finish Percent proper q n more full = grind (arith, (takes_one Percent Skipping 37 Taken (lit< tt) refl))
 full_finish (Conv c) proper q n more full = finished_full c proper c.column refl q n more full
+full_finish (Opens o) proper q n more full =
+    ap missed (byte_full q more (λ e. opener_not_full o proper (subst (λ r. is_full (Opens o) r ≡ true) e full)))
 
 -- a full directive takes nothing, and ends alike whatever follows
 pub full_refuses : (d : Directive) → IsProper d → (q : Stage) (n : ℕ) (z : List ℕ) → is_full d q ≡ true

@@ -2,21 +2,24 @@
 use Rattle.std.proofs.lemmas.Bool.Decides.{nat_tests}
 use Rattle.std.proofs.lemmas.Grind.{common_steps}
 use Rattle.std.proofs.Common.{◌≡◌, ℕ, suc, ◌+◌, Bool, true, false, cond, ◌&&◌, List, [], ◌∷◌, ◌++◌, take, drop, Some, None, refl, sym, ap}
-use Rattle.std.proofs.Common.{ap₂, ◌∙◌, arith, append_assoc, append-nil, length, length-append, min, nat_lt, ◌-◌, ◌<◌, ◌≤◌}
+use Rattle.std.proofs.Common.{Option, ap₂, ◌∙◌, arith, append_assoc, append-nil, length, length-append, min, nat_lt, ◌-◌, ◌<◌, ◌≤◌}
 use Rattle.sf_base.specs.Bytes.{is_white}
 use Rattle.sf_format.specs.declared.directive.Shape.{Shape}
 use Rattle.sf_format.specs.declared.directive.Shape.TheVariants.{Count}
 use Rattle.sf_format.specs.declared.directive.Conversion.{Conversion}
 use Rattle.sf_format.specs.declared.directive.Directive.{Directive}
-use Rattle.sf_format.specs.declared.directive.Directive.TheVariants.{Space, Byte, Percent, Conv}
+use Rattle.sf_format.specs.declared.directive.Directive.TheVariants.{Space, Byte, Percent, Conv, Opens}
+use Rattle.sf_format.specs.declared.directive.Literal.{Literal}
+use Rattle.sf_format.specs.declared.directive.Literal.TheVariants as literal
+use Rattle.sf_format.specs.declared.directive.Opener.{Opener}
 use Rattle.sf_item.specs.Columns.{column_width}
 use Rattle.sf_item.specs.Tests.{can_take}
-use Rattle.sf_report.specs.Steps.{StepEnd, Passes}
+use Rattle.sf_report.specs.Steps.{StepEnd, Passes, missed}
 use Rattle.sf_report.specs.Machine.{Stage, Skipping, Taken, Item, shape_skips, stepped, finished, item_finished, count_end, item_end}
 use Rattle.sf_report.specs.Machine.{nothing_end, column_end, conversion_stepped, column_stepped, stepped_by, column_finished, finished_by}
-use Rattle.sf_report.specs.Residual.{choose, one_from}
+use Rattle.sf_report.specs.Residual.{Part, choose, one_from}
 use Rattle.sf_report.specs.Computed.{skip, len, byte_choice, byte_step, item_ended, item_part, conversion_step, column_len}
-use Rattle.sf_report.specs.Computed.{column_ended, column_step, step_by, percent_step, step_of, part_of}
+use Rattle.sf_report.specs.Computed.{column_ended, column_step, literal_step, opener_step, step_by, percent_step, step_of, part_of}
 
 -- ---- white space
 
@@ -71,6 +74,42 @@ percent_here x n s = grind (arith, percent_taken)
 
 percent_is : (x : List ℕ) (n : ℕ) → one_from Percent Skipping n x ≡ part_of n x (percent_step x (skip x))
 percent_is x n = grind (arith, skips, percent_here, starts, common_steps)
+
+-- ---- literals that open a group
+
+-- the directive that the literal is elsewhere
+abbrev pub plain : Literal → Directive
+plain (literal.Byte a) = Byte a
+plain literal.Percent = Percent
+
+abbrev pub with_missed : Part → Part
+with_missed p = record p { end = missed p.end }
+
+pub plain_stepped : (o : Opener) (q : Stage) (b : ℕ) → stepped (Opens o) q b ≡ stepped (plain o.literal) q b
+plain_stepped o q b = grind arith
+
+plain_finished : (o : Opener) (q : Stage) (n : ℕ) (more : Bool) → finished (Opens o) q n more ≡ missed (finished (plain o.literal) q n more)
+plain_finished o q n more = grind arith
+
+-- such a literal takes what it takes elsewhere, and is missing where it fails there
+pub opens_plain : (o : Opener) (q : Stage) (n : ℕ) (x : List ℕ) → one_from (Opens o) q n x ≡ with_missed (one_from (plain o.literal) q n x)
+opens_plain o q n [] = ap (λ end. record { used = n; left = []; end = end }) (plain_finished o q n false)
+opens_plain o q n (b ∷ x) = by (stepped (plain o.literal) q b) (plain_stepped o q b) (λ r. opens_plain o r (n + 1) x)
+  where
+    by : (s : Option Stage) → stepped (Opens o) q b ≡ s
+        → ((r : Stage) → one_from (Opens o) r (n + 1) x ≡ with_missed (one_from (plain o.literal) r (n + 1) x))
+        → one_from (Opens o) q n (b ∷ x)
+        ≡ with_missed (choose s (record { used = n; left = b ∷ x; end = finished (plain o.literal) q n true })
+        (λ r. one_from (plain o.literal) r (n + 1) x))
+    by None e rest = rw e (ap (λ end. record { used = n; left = b ∷ x; end = end }) (plain_finished o q n true))
+    by (Some r) e rest = rw e (rest r)
+
+literal_is : (l : Literal) (x : List ℕ) (n : ℕ) → one_from (plain l) Skipping n x ≡ part_of n x (literal_step l x)
+literal_is (literal.Byte a) x n = byte_is a x n
+literal_is literal.Percent x n = percent_is x n
+
+opener_is : (o : Opener) (x : List ℕ) (n : ℕ) → one_from (Opens o) Skipping n x ≡ part_of n x (opener_step o.literal x)
+opener_is o x n = opens_plain o Skipping n x ∙ ap with_missed (literal_is o.literal x n)
 
 -- ---- items
 
@@ -211,4 +250,4 @@ by_is c false e x n = conversion_is c e c.shape refl x n
 
 -- the machine makes the step: it leaves the rest of the input, and ends as the step does
 pub one_made : (d : Directive) (x : List ℕ) (n : ℕ) → one_from d Skipping n x ≡ part_of n x (step_of d x n)
-one_made d x n = grind (arith, space_is, byte_is, percent_is, by_is)
+one_made d x n = grind (arith, space_is, byte_is, percent_is, by_is, opener_is)

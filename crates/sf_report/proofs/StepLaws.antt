@@ -24,6 +24,7 @@ use Rattle.sf_format.specs.declared.directive.Shape.{Shape}
 use Rattle.sf_format.specs.declared.directive.Shape.TheVariants.{Int, Text, Set, Chars, Float, Count}
 use Rattle.sf_format.specs.declared.directive.Conversion.{Conversion}
 use Rattle.sf_format.specs.declared.directive.Directive.{Directive}
+use Rattle.sf_format.specs.declared.directive.Literal.{Literal}
 use Rattle.sf_format.specs.Proper.{IsProperShape, IsProper}
 use Rattle.sf_item.specs.Matching.{ShapeMatches, Matches, forms_of}
 use Rattle.sf_item.specs.Columns.{IsColumn, IsTextOf, ShapeFills, Fills, column_width}
@@ -33,10 +34,11 @@ use Rattle.sf_item.proofs.Deciding.{integer_at_is, tests_matches}
 use Rattle.sf_report.specs.declared.outcome.Status.TheVariants.{MatchingFailure}
 use Rattle.sf_report.specs.Steps.{StepEnd, Fails, NumberStored, CountStep, IsReal, RealStored, ItemStored, ItemPasses, EmptyItem, ItemEnds}
 use Rattle.sf_report.specs.Steps.{IsSkipUnder, IsSkipBefore, ConversionStep, BlankColumn, TextColumn, ColumnEnds, ColumnStep, StepBy, Step}
+use Rattle.sf_report.specs.Steps.{LiteralStep, OpenerStep, missed}
 use Rattle.sf_report.specs.Machine.{number_end, count_end, integer_end, real_in, real_at, real_end, stored_end, passed_end, empty_end}
 use Rattle.sf_report.specs.Machine.{text_end}
 use Rattle.sf_report.specs.Computed.{skip, has_more, byte_step, skip_under, skip_before, item_ended, item_step, conversion_step}
-use Rattle.sf_report.specs.Computed.{column_len, column_ended, column_step, step_by, percent_step, step_of}
+use Rattle.sf_report.specs.Computed.{column_len, column_ended, column_step, literal_step, opener_step, step_by, percent_step, step_of}
 use Rattle.sf_base.proofs.Blanks.{white_is}
 use Rattle.sf_item.proofs.Columns.{fills_is, text_is, text_only}
 use Rattle.sf_report.proofs.Skips.{greatest_only, skip_is, skip_only, skip-le}
@@ -321,15 +323,34 @@ by_within : (c : Conversion) (column : Bool) (x : List ℕ) (n : ℕ) → (step_
 by_within c true x n = column_within c x
 by_within c false x n = conversion_within c c.shape x n
 
+-- ---- literals that open a group
+
+literal_is : (l : Literal) (x : List ℕ) → LiteralStep l x (literal_step l x).0 (literal_step l x).1
+literal_is l x = grind (arith, skip_is)
+
+literal_only : (l : Literal) (x : List ℕ) (k : ℕ) (end : StepEnd) → LiteralStep l x k end → Is (literal_step l x) k end
+literal_only l x k end h = grind (arith, skip_only)
+
+opener_is : (l : Literal) (x : List ℕ) → OpenerStep l x (opener_step l x).0 (opener_step l x).1
+opener_is l x = ((literal_step l x).1, literal_is l x, refl)
+
+opener_only : (l : Literal) (x : List ℕ) (k : ℕ) (end : StepEnd) → OpenerStep l x k end → Is (opener_step l x) k end
+opener_only l x k end (e, step, is) = let only = literal_only l x k e step in (only.0, is ∙ ap missed only.1)
+
+-- ---- each directive
+
 pub step_is : (d : Directive) → IsProper d → (x : List ℕ) (n : ℕ) → Step d x n (step_of d x n).0 (step_of d x n).1
-step_is d proper x n = grind (arith, skip_is, by_is)
+step_is d proper x n = grind (arith, skip_is, by_is, opener_is)
 
 pub step_only : (d : Directive) → IsProper d → (x : List ℕ) (n k : ℕ) (end : StepEnd) → Step d x n k end
     → (k ≡ (step_of d x n).0) × (end ≡ (step_of d x n).1)
-step_only d proper x n k end h = grind (arith, skip_only, by_only)
+step_only d proper x n k end h = grind (arith, skip_only, by_only, opener_only)
 
 percent_within : (x : List ℕ) → (percent_step x (skip x)).0 ≤ length x
 percent_within x = grind (arith, skip-le, byte_step-le, length-drop)
 
+opener_within : (l : Literal) (x : List ℕ) → (opener_step l x).0 ≤ length x
+opener_within l x = grind (arith, percent_within, byte_step-le)
+
 pub step_within : (d : Directive) (x : List ℕ) (n : ℕ) → (step_of d x n).0 ≤ length x
-step_within d x n = grind (arith, percent_within, by_within)
+step_within d x n = grind (arith, percent_within, by_within, opener_within)

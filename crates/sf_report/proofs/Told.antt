@@ -14,13 +14,14 @@ use Rattle.sf_report.specs.declared.outcome.Ending.{Ending}
 use Rattle.sf_report.specs.declared.outcome.Status.{Status}
 use Rattle.sf_report.specs.declared.outcome.Status.TheVariants.{Done, TooLong}
 use Rattle.sf_report.specs.Steps.{StepEnd, Fails}
-use Rattle.sf_report.specs.Runs.{Ran, Steps, used, failure_of, status_of, values, assigned, converted, RunReport, report_of, Uses, IsOpen}
+use Rattle.sf_report.specs.Runs.{Ran, Steps, left_out, over, used, failure_of, status_of, values, assigned, converted, RunReport}
+use Rattle.sf_report.specs.Runs.{report_of, Uses, IsOpen}
 use Rattle.sf_report.specs.Limits.{cut_report, RunWithin, TellsWithin}
 use Rattle.sf_item.proofs.Deciding.{Tests, tests_both, tests_most}
 use Rattle.sf_report.specs.Laws.{EachHasOneReport}
 use Rattle.sf_report.specs.Machine.{some_below}
-use Rattle.sf_report.specs.Residual.{Tally, nothing_yet, with_used, counted, out_of, by_end, then_on, run_of}
-use Rattle.sf_report.specs.Computed.{step_of, part_of, go_on, ran_of}
+use Rattle.sf_report.specs.Residual.{Tally, nothing_yet, with_used, counted, out_of, by_end, then_on, run_of, run_past}
+use Rattle.sf_report.specs.Computed.{step_of, part_of, go_on, ran_of, ran_past}
 use Rattle.sf_report.proofs.Ones.{one_made}
 use Rattle.sf_report.proofs.Openness.{counted-used, within_limit}
 use Rattle.sf_report.proofs.RunLaws.{steps_is, steps_only}
@@ -86,15 +87,16 @@ next_tally d x t = counted d (step_of d x t.used).1 (with_used (t.used + (step_o
 
 -- the steps after the first
 abbrev later : Directive → List Directive → List ℕ → ℕ → List Ran
-later d ds x n = ran_of ds (drop (step_of d x n).0 x) (n + (step_of d x n).0)
+later d ds x n = ran_past (over d (step_of d x n).1) ds (drop (step_of d x n).0 x) (n + (step_of d x n).0)
 
 first_step : (m : Option ℕ) (d : Directive) (ds : List Directive) (at : ℕ) (t : Tally) (x : List ℕ)
-    → run_of m (d ∷ ds) at t x ≡ then_on m d at t (part_of t.used x (step_of d x t.used)) (run_of m ds (at + 1))
-first_step m d ds at t x = ap (λ p. then_on m d at t p (run_of m ds (at + 1))) (one_made d x t.used)
+    → run_of m (d ∷ ds) at t x ≡ then_on m d at t (part_of t.used x (step_of d x t.used)) (run_past m ds (at + 1))
+first_step m d ds at t x = ap (λ p. then_on m d at t p (run_past m ds (at + 1))) (one_made d x t.used)
 
 -- the rest of the run by the first directive's end
 abbrev by_first : Option ℕ → Directive → List Directive → ℕ → Tally → List ℕ → RunReport
-by_first m d ds at t x = by_end (step_of d x t.used).1 (run_of m ds (at + 1) (next_tally d x t) (drop (step_of d x t.used).0 x))
+by_first m d ds at t x = by_end (step_of d x t.used).1
+    (run_past m ds (at + 1) (over d (step_of d x t.used).1) (next_tally d x t) (drop (step_of d x t.used).0 x))
     (λ status. out_of status at (with_used (t.used + (step_of d x t.used).0) t))
 
 limited_step : (m : ℕ) (d : Directive) (ds : List Directive) (at : ℕ) (t : Tally) (x : List ℕ) → t.used + (step_of d x t.used).0 ≤ m
@@ -112,14 +114,21 @@ told_first : (d : Directive) (end : StepEnd) (k a : ℕ) (t : Tally) (next : Run
     → by_end end next (λ status. out_of status (a + 1) (with_used (t.used + k) t)) ≡ told_from a t (ran_one d k end ∷ go_on end rest)
 told_first d end k a t next rest h = grind (arith, common_steps)
 
-run_told_from : (ds : List Directive) (a : ℕ) (t : Tally) (x : List ℕ) → run_of None ds (a + 1) t x ≡ told_from a t (ran_of ds x t.used)
-run_told_from [] a t x = ap (out_of Done 0) (sums_none t)
-run_told_from (d ∷ ds) a t x =
+-- one that is missing with another adds nothing
+told_left_out : (d : Directive) (a : ℕ) (t : Tally) (ran : List Ran) → told_from (a + 1) t ran ≡ told_from a t (left_out d ∷ ran)
+told_left_out d a t ran = grind (arith, common_steps)
+
+run_told_from : (ds : List Directive) (a m : ℕ) (t : Tally) (x : List ℕ)
+    → run_past None ds (a + 1) m t x ≡ told_from a t (ran_past m ds x t.used)
+run_told_from [] a m t x = ap (out_of Done 0) (sums_none t)
+run_told_from (d ∷ ds) a zero t x =
     let k = (step_of d x t.used).0 in
+    let j = over d (step_of d x t.used).1 in
     first_step None d ds (a + 1) t x
-    ∙ told_first d (step_of d x t.used).1 k a t _ (later d ds x t.used) (run_told_from ds (a + 1) (next_tally d x t) (drop k x)
-    ∙ ap (λ n. told_from (a + 1) (next_tally d x t) (ran_of ds (drop k x) n))
+    ∙ told_first d (step_of d x t.used).1 k a t _ (later d ds x t.used) (run_told_from ds (a + 1) j (next_tally d x t) (drop k x)
+    ∙ ap (λ n. told_from (a + 1) (next_tally d x t) (ran_past j ds (drop k x) n))
     (counted-used d (step_of d x t.used).1 (with_used (t.used + k) t)))
+run_told_from (d ∷ ds) a (suc m) t x = run_told_from ds (a + 1) m t x ∙ told_left_out d a t (ran_past m ds x t.used)
 
 sums_nothing : (ran : List Ran) → sums nothing_yet ran ≡ tally (used ran) (assigned ran) (converted ran) (values ran)
 sums_nothing ran = same_tally _ _ _ _ (zero-add (used ran)) (zero-add (assigned ran)) (zero-add (converted ran)) refl
@@ -131,7 +140,7 @@ cut_nothing : (before : List Ran) (m : ℕ) → cut_from 0 nothing_yet before m 
 cut_nothing before m = same_out TooLong _ _ _ _ (zero-add (length before + 1)) (ap (with_used m) (sums_nothing before))
 
 pub run_is_told : (ds : List Directive) (x : List ℕ) → run_of None ds 1 nothing_yet x ≡ report_of (ran_of ds x 0) None
-run_is_told ds x = run_told_from ds 0 nothing_yet x ∙ told_nothing (ran_of ds x 0)
+run_is_told ds x = run_told_from ds 0 0 nothing_yet x ∙ told_nothing (ran_of ds x 0)
 
 pub run_told : (ds : List Directive) → AreProper ds → (x : List ℕ) (ran : List Ran) → Steps ds x 0 ran
     → run_of None ds 1 nothing_yet x ≡ report_of ran None
@@ -155,14 +164,29 @@ gone_on : (end : StepEnd) (l before : List Ran) (cut : Ran) (rest : List Ran) �
 gone_on end l [] cut rest e = grind arith
 gone_on end l (r ∷ before) cut rest e = grind arith
 
+cut_left_out : (d : Directive) (a m : ℕ) (t : Tally) (before : List Ran)
+    → cut_from (a + 1) t before m ≡ cut_from a t (left_out d ∷ before) m
+cut_left_out d a m t before = grind (arith, common_steps)
+
 -- a run past the limit is cut off in the step in which it passes it
-cut_is : (ds : List Directive) (m a : ℕ) (t : Tally) (x : List ℕ) (before : List Ran) (cut : Ran) (rest : List Ran)
-    → ran_of ds x t.used ≡ before ++ cut ∷ rest → t.used + used before ≤ m → m < t.used + used before + cut.bytes
-    → run_of (Some m) ds (a + 1) t x ≡ cut_from a t before m
-cut_is [] m a t x [] cut rest parts low high = cc
-cut_is [] m a t x (r ∷ before) cut rest parts low high = cc
-cut_is (d ∷ ds) m a t x [] cut rest parts low high = grind (arith, limited_over, sums_none)
-cut_is (d ∷ ds) m a t x (r ∷ before) cut rest parts low high =
+cut_is : (ds : List Directive) (m a j : ℕ) (t : Tally) (x : List ℕ) (before : List Ran) (cut : Ran) (rest : List Ran)
+    → ran_past j ds x t.used ≡ before ++ cut ∷ rest → t.used + used before ≤ m → m < t.used + used before + cut.bytes
+    → run_past (Some m) ds (a + 1) j t x ≡ cut_from a t before m
+cut_is [] m a j t x [] cut rest parts low high = cc
+cut_is [] m a j t x (r ∷ before) cut rest parts low high = cc
+cut_is (d ∷ ds) m a zero t x [] cut rest parts low high = grind (arith, limited_over, sums_none)
+cut_is (d ∷ ds) m a (suc j) t x [] cut rest parts low high =
+    let none : left_out d ≡ cut = cc in
+    let size : cut.bytes ≡ 0 = ap (λ (s : Ran). s.bytes) (sym none) in
+    absurd (omega (arith, low, high, size))
+cut_is (d ∷ ds) m a (suc j) t x (r ∷ before) cut rest parts low high =
+    let same : left_out d ≡ r = cc in
+    let size : r.bytes ≡ 0 = ap (λ (s : Ran). s.bytes) (sym same) in
+    let tail : ran_past j ds x t.used ≡ before ++ cut ∷ rest = cc in
+    let all = used-cons r before in
+    cut_is ds m (a + 1) j t x before cut rest tail (omega (arith, low, size, all)) (omega (arith, high, size, all))
+    ∙ cut_left_out d a m t before ∙ ap (λ (s : Ran). cut_from a t (s ∷ before) m) same
+cut_is (d ∷ ds) m a zero t x (r ∷ before) cut rest parts low high =
     let k : ℕ = (step_of d x t.used).0 in
     let end : StepEnd = (step_of d x t.used).1 in
     let same : ran_one d k end ≡ r = cc in
@@ -173,7 +197,7 @@ cut_is (d ∷ ds) m a t x (r ∷ before) cut rest parts low high =
     let now = counted-used d end (with_used (t.used + k) t) in
     limited_step m d ds (a + 1) t x (omega (arith, low, size, all))
     ∙ cut_first d end k a m t before _ goes.0
-    (cut_is ds m (a + 1) (next_tally d x t) (drop k x) before cut rest (rw now goes.1) (omega (arith, low, size, all, now))
+    (cut_is ds m (a + 1) (over d end) (next_tally d x t) (drop k x) before cut rest (rw now goes.1) (omega (arith, low, size, all, now))
     (omega (arith, high, size, all, now)))
     ∙ ap (λ (s : Ran). cut_from a t (s ∷ before) m) same
 
@@ -225,7 +249,7 @@ told_exists ds proper m x = by_case (cases_lt m (used (ran_of ds x 0)))
             low = omega (arith, low);
             high = omega (arith, high);
           },
-          cut_is ds m 0 nothing_yet x s.before s.cut s.rest s.parts low high ∙ cut_nothing s.before m,
+          cut_is ds m 0 0 nothing_yet x s.before s.cut s.rest s.parts low high ∙ cut_nothing s.before m,
         )
     by_case (inr fits) = inl (
       ran_of ds x 0,
@@ -242,7 +266,7 @@ told_is ds proper m x r (inr w) =
     let low : used w.0 ≤ m = w.1.low in
     let high : m < used w.0 + w.1.cut.bytes = w.1.high in
     w.2 ∙ sym (cut_nothing w.0 m)
-    ∙ sym (cut_is ds m 0 nothing_yet x w.0 w.1.cut w.1.rest (sym (steps_only ds proper x 0 _ w.1.steps)) (omega (arith, low))
+    ∙ sym (cut_is ds m 0 0 nothing_yet x w.0 w.1.cut w.1.rest (sym (steps_only ds proper x 0 _ w.1.steps)) (omega (arith, low))
     (omega (arith, high)))
 
 -- ---- what the run met

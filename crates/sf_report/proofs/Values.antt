@@ -22,7 +22,9 @@ use Rattle.sf_format.specs.declared.directive.Shape.{Shape}
 use Rattle.sf_format.specs.declared.directive.Shape.TheVariants.{Int, Text, Set, Chars, Float, Count}
 use Rattle.sf_format.specs.declared.directive.Conversion.{Conversion}
 use Rattle.sf_format.specs.declared.directive.Directive.{Directive}
-use Rattle.sf_format.specs.declared.directive.Directive.TheVariants.{Space, Byte, Percent, Conv}
+use Rattle.sf_format.specs.declared.directive.Directive.TheVariants.{Space, Byte, Percent, Conv, Opens}
+use Rattle.sf_format.specs.declared.directive.Literal.{Literal}
+use Rattle.sf_format.specs.declared.directive.Literal.TheVariants as literal
 use Rattle.sf_format.specs.Leads.{is_strict}
 use Rattle.sf_format.proofs.Outcomes.{by_test}
 use Rattle.sf_item.specs.Columns.{IsTextUnder}
@@ -30,10 +32,10 @@ use Rattle.sf_report.specs.declared.outcome.Ending.{Ending}
 use Rattle.sf_report.specs.declared.outcome.Status.TheVariants.{Done, TooLong, NoMemory}
 use Rattle.sf_report.specs.Limits.{RunTold}
 use Rattle.sf_report.specs.Rows.{IsPattern, IsReadable, IsValue}
-use Rattle.sf_report.specs.Runs.{GoesOn, Ran, RunReport, Steps, values}
+use Rattle.sf_report.specs.Runs.{GoesOn, Ran, RunReport, StepsPast, over, values}
 use Rattle.sf_report.specs.Steps.{ByteStep, ConversionStep, CountStep, EmptyItem, Fails, IsReal, ItemEnds, ItemPasses, ItemStep, ItemStored}
 use Rattle.sf_report.specs.Steps.{BlankColumn, ColumnEnds, Misses, NumberStored, Passes, RealStored, Step, StepBy, StepEnd, Stores}
-use Rattle.sf_report.specs.Steps.{TextColumn}
+use Rattle.sf_report.specs.Steps.{LiteralStep, TextColumn, missed}
 
 -- ---- the numbers of a kind
 
@@ -206,11 +208,22 @@ module _ (Q : List ℕ → Type 0) (from : (n : ℕ) (x : List ℕ) → Q x → 
   byte_given b (y ∷ x) k e (inl h) = rw h.2 tt
   byte_given b (y ∷ x) k e (inr h) = rw h.2 tt
 
+  literal_given : (l : Literal) (x : List ℕ) (k : ℕ) (e : StepEnd) → LiteralStep l x k e → GivesValue e
+  literal_given (literal.Byte b) x k e h = byte_given b x k e h
+  literal_given literal.Percent x k e (s, j, skip, byte, length) = byte_given 37 (drop s x) j e byte
+
+  missed_given : (e : StepEnd) → GivesValue e → GivesValue (missed e)
+  missed_given Passes h = tt
+  missed_given (Stores slot v) h = h
+  missed_given Misses h = tt
+  missed_given (Fails status) h = tt
+
   step_given : (d : Directive) (x : List ℕ) (n k : ℕ) (e : StepEnd) → Q x → Step d x n k e → GivesValue e
   step_given Space x n k e bytes h = rw h.1 tt
   step_given (Byte b) x n k e bytes h = byte_given b x k e h
   step_given Percent x n k e bytes (s, j, skip, byte, length) = byte_given 37 (drop s x) j e byte
   step_given (Conv c) x n k e bytes h = given_by c c.column x n k e bytes h
+  step_given (Opens o) x n k e bytes (f, step, is) = rw is (missed_given f (literal_given o.literal x k f step))
 
   -- ---- what a run stores
 
@@ -225,20 +238,22 @@ module _ (Q : List ℕ → Type 0) (from : (n : ℕ) (x : List ℕ) → Q x → 
   next_given d b Misses ran Rest given goes rest = rest goes
   next_given d b (Fails status) ran Rest given goes rest = rw goes tt
 
-  steps_given : (ds : List Directive) (x : List ℕ) (n : ℕ) (ran : List Ran) → Q x → Steps ds x n ran → AreStoredSo (values ran)
-  steps_given [] x n [] bytes steps = tt
-  steps_given [] x n (r ∷ ran) bytes steps = absurd steps
-  steps_given (d ∷ ds) x n [] bytes steps = absurd steps
-  steps_given (d ∷ ds) x n (r ∷ ran) bytes steps =
-      next_given r.directive r.bytes r.end ran (Steps ds (drop r.bytes x) (n + r.bytes) ran)
+  steps_given : (m : ℕ) (ds : List Directive) (x : List ℕ) (n : ℕ) (ran : List Ran) → Q x → StepsPast m ds x n ran
+      → AreStoredSo (values ran)
+  steps_given m [] x n [] bytes steps = tt
+  steps_given m [] x n (r ∷ ran) bytes steps = absurd steps
+  steps_given m (d ∷ ds) x n [] bytes steps = absurd steps
+  steps_given zero (d ∷ ds) x n (r ∷ ran) bytes steps =
+      next_given r.directive r.bytes r.end ran (StepsPast (over d r.end) ds (drop r.bytes x) (n + r.bytes) ran)
       (step_given d x n r.bytes r.end bytes steps.1) steps.2
-      (λ rest. steps_given ds (drop r.bytes x) (n + r.bytes) ran (from r.bytes x bytes) rest)
+      (λ rest. steps_given (over d r.end) ds (drop r.bytes x) (n + r.bytes) ran (from r.bytes x bytes) rest)
+  steps_given (suc m) (d ∷ ds) x n (r ∷ ran) bytes steps = rw steps.0 (steps_given m ds x n ran bytes steps.1)
 
   done_so : (ds : List Directive) (m : ℕ) (x : List ℕ) (ending : Ending) (report : RunReport) → Q x
       → RunTold ds m x ending report → report.status ≡ Done
       → AreStoredSo report.values
   done_so ds m x ending report bytes (inl (inl (few, (ran, steps, met, is_met, is)))) done =
-      subst (λ (o : RunReport). AreStoredSo o.values) (sym is) (steps_given ds x 0 ran bytes steps)
+      subst (λ (o : RunReport). AreStoredSo o.values) (sym is) (steps_given 0 ds x 0 ran bytes steps)
   done_so ds m x ending report bytes (inl (inr (before, cut, is))) done = let e : report.status ≡ TooLong =
       ap (λ (o : RunReport). o.status) is in absurd cc
   done_so ds m x ending report bytes (inr (k, low, (before, cut, stores, is))) done =

@@ -8,11 +8,13 @@ use Rattle.sf_format.specs.declared.directive.Shape.{Shape}
 use Rattle.sf_format.specs.declared.directive.Shape.TheVariants.{Int, Text, Float, Count}
 use Rattle.sf_format.specs.declared.directive.Conversion.{Conversion}
 use Rattle.sf_format.specs.declared.directive.Directive.{Directive}
-use Rattle.sf_format.specs.declared.directive.Directive.TheVariants.{Space, Byte, Percent, Conv}
+use Rattle.sf_format.specs.declared.directive.Directive.TheVariants.{Space, Byte, Percent, Conv, Opens}
+use Rattle.sf_format.specs.declared.directive.Literal.{Literal}
+use Rattle.sf_format.specs.declared.directive.Literal.TheVariants as literal
 use Rattle.sf_item.specs.Columns.{column_width}
 use Rattle.sf_item.specs.Tests.{can_take}
-use Rattle.sf_report.specs.Steps.{StepEnd, Passes, Fails}
-use Rattle.sf_report.specs.Runs.{Ran}
+use Rattle.sf_report.specs.Steps.{StepEnd, Passes, Fails, missed}
+use Rattle.sf_report.specs.Runs.{Ran, over, left_out}
 use Rattle.sf_report.specs.Machine.{count_end, item_end, column_end, nothing_end, empty_end}
 use Rattle.sf_report.specs.Residual.{Part}
 
@@ -89,12 +91,21 @@ step_by false c x n = conversion_step c c.shape x n
 abbrev pub percent_step : List ℕ → ℕ → ℕ × StepEnd
 percent_step x s = (s + (byte_step 37 (drop s x)).0, (byte_step 37 (drop s x)).1)
 
+abbrev pub literal_step : Literal → List ℕ → ℕ × StepEnd
+literal_step (literal.Byte a) x = byte_step a x
+literal_step literal.Percent x = percent_step x (skip x)
+
+-- a literal that opens a group
+abbrev pub opener_step : Literal → List ℕ → ℕ × StepEnd
+opener_step l x = ((literal_step l x).0, missed (literal_step l x).1)
+
 -- how many bytes of x a directive consumes after n bytes of the run, and how it ends
 abbrev pub step_of : Directive → List ℕ → ℕ → ℕ × StepEnd
 step_of Space x n = (skip x, Passes)
 step_of (Byte a) x n = byte_step a x
 step_of Percent x n = percent_step x (skip x)
 step_of (Conv c) x n = step_by c.column c x n
+step_of (Opens o) x n = opener_step o.literal x
 
 -- such a step of x, after n bytes of the run: what it leaves
 abbrev pub part_of : ℕ → List ℕ → ℕ × StepEnd → Part
@@ -105,9 +116,14 @@ abbrev pub go_on : StepEnd → List Ran → List Ran
 go_on (Fails status) rest = []
 go_on _ rest = rest
 
--- the directives that run on x after n bytes of the run, each with its step
-abbrev pub ran_of : List Directive → List ℕ → ℕ → List Ran
-ran_of [] x n = []
-ran_of (d ∷ ds) x n =
+-- the directives that run on x after n bytes of the run, each with its step; the first m are missing with one before them
+abbrev pub ran_past : ℕ → List Directive → List ℕ → ℕ → List Ran
+ran_past m [] x n = []
+ran_past zero (d ∷ ds) x n =
     let r = step_of d x n in
-    record { directive = d; bytes = r.0; end = r.1 } ∷ go_on r.1 (ran_of ds (drop r.0 x) (n + r.0))
+    record { directive = d; bytes = r.0; end = r.1 } ∷ go_on r.1 (ran_past (over d r.1) ds (drop r.0 x) (n + r.0))
+ran_past (suc m) (d ∷ ds) x n = left_out d ∷ ran_past m ds x n
+
+-- the same, where none is missing before the first
+abbrev pub ran_of : List Directive → List ℕ → ℕ → List Ran
+ran_of ds x n = ran_past 0 ds x n

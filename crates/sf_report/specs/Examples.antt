@@ -29,7 +29,8 @@ pub record Reports (ds : List Directive) (m : ℕ) (x : List ℕ) (ending : Endi
 -- ---- directives
 
 abbrev pub conv : Shape → Kind → Option ℕ → Option ℕ → Directive
-conv shape kind width slot = Conv (record { shape = shape; kind = kind; width = width; slot = slot; optional = false; column = false })
+conv shape kind width slot =
+    Conv (record { shape = shape; kind = kind; width = width; slot = slot; optional = false; opens = None; column = false })
 
 -- an integer, assigned to the slot
 abbrev pub int : Base → Kind → Option ℕ → ℕ → Directive
@@ -50,13 +51,14 @@ maybe_strict = Conv (record {
   width = None;
   slot = Some 1;
   optional = true;
+  opens = None;
   column = false;
 })
 
 -- with = and a width
 abbrev pub in_column : Shape → Kind → ℕ → Bool → ℕ → Directive
 in_column shape kind width optional slot =
-    Conv (record { shape = shape; kind = kind; width = Some width; slot = Some slot; optional = optional; column = true })
+    Conv (record { shape = shape; kind = kind; width = Some width; slot = Some slot; optional = optional; opens = None; column = true })
 
 abbrev pub int_column : ℕ → ℕ → Directive
 int_column width slot = in_column (Int (as_in_c Dec)) kind.I32 width false slot

@@ -16,13 +16,15 @@ use Rattle.sf_format.specs.declared.directive.Shape.TheVariants.{Int, Text, Set,
 use Rattle.sf_format.specs.declared.directive.Conversion.{Conversion}
 use Rattle.sf_format.specs.declared.directive.Directive.{Directive}
 use Rattle.sf_format.specs.Leads.{is_strict_lead}
-use Rattle.sf_format.specs.declared.directive.Directive.TheVariants.{Space, Byte, Percent, Conv}
+use Rattle.sf_format.specs.declared.directive.Directive.TheVariants.{Space, Byte, Percent, Conv, Opens}
+use Rattle.sf_format.specs.declared.directive.Literal.{Literal}
+use Rattle.sf_format.specs.declared.directive.Literal.TheVariants as literal
 use Rattle.sf_base.specs.Blanks.{are_white}
 use Rattle.sf_item.specs.Columns.{column_width}
 use Rattle.sf_item.specs.ColumnTests.{column_text, fills}
 use Rattle.sf_item.specs.Tests.{integer_at, matches, can_take}
 use Rattle.sf_report.specs.declared.outcome.Status.TheVariants.{InputFailure, MatchingFailure, OutOfRange}
-use Rattle.sf_report.specs.Steps.{StepEnd, Passes, Stores, Misses, Fails}
+use Rattle.sf_report.specs.Steps.{StepEnd, Passes, Stores, Misses, Fails, missed}
 
 -- how far a directive has come: it took white space alone, or its one byte, or the bytes of its item
 pub data Stage : Type 0 where
@@ -64,6 +66,10 @@ percent_stepped Skipping b = if is_white b then Some Skipping else byte_stepped 
 percent_stepped Taken b = None
 percent_stepped (Item f) b = None
 
+abbrev pub literal_stepped : Literal → Stage → ℕ → Option Stage
+literal_stepped (literal.Byte a) q b = byte_stepped a q b
+literal_stepped literal.Percent q b = percent_stepped q b
+
 -- ---- columns: the stage Item has all bytes of the column so far
 
 abbrev pub column_taken : Conversion → List ℕ → ℕ → Option Stage
@@ -85,6 +91,7 @@ stepped Space q b = space_stepped q b
 stepped (Byte a) q b = byte_stepped a q b
 stepped Percent q b = percent_stepped q b
 stepped (Conv c) q b = stepped_by c.column c q b
+stepped (Opens o) q b = literal_stepped o.literal q b
 
 -- some number below n passes the test
 abbrev pub some_below : ℕ → (ℕ → Bool) → Bool
@@ -182,3 +189,4 @@ finished Space q n more = Passes
 finished (Byte a) q n more = byte_finished q more
 finished Percent q n more = byte_finished q more
 finished (Conv c) q n more = finished_by c.column c q n more
+finished (Opens o) q n more = missed (byte_finished q more)

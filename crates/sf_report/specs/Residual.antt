@@ -1,11 +1,11 @@
 -- What a run that has come so far does with the rest of the input.
-use Rattle.std.specs.Prelude.{ℕ, ◌+◌, Bool, true, false, if◌then◌else◌, nat_lt, List, [], ◌∷◌, ◌++◌, Option, Some, None}
+use Rattle.std.specs.Prelude.{ℕ, zero, suc, ◌+◌, Bool, true, false, if◌then◌else◌, nat_lt, List, [], ◌∷◌, ◌++◌, Option, Some, None}
 use Rattle.sf_base.specs.Data.{Assigned}
 use Rattle.sf_format.specs.declared.directive.Directive.{Directive}
 use Rattle.sf_report.specs.declared.outcome.Status.{Status}
 use Rattle.sf_report.specs.declared.outcome.Status.TheVariants.{Done, TooLong}
 use Rattle.sf_report.specs.Steps.{StepEnd, Passes, Stores, Misses, Fails}
-use Rattle.sf_report.specs.Runs.{RunReport, is_conversion}
+use Rattle.sf_report.specs.Runs.{RunReport, is_conversion, over}
 use Rattle.sf_report.specs.Machine.{Stage, Skipping, stepped, finished}
 
 -- what the directives that have passed gave, and the bytes used
@@ -87,17 +87,23 @@ by_end (Stores slot v) y f = y
 by_end Misses y f = y
 by_end (Fails status) y f = f status
 
--- a directive's part, and then the directives after it
-abbrev pub then_on : Option ℕ → Directive → ℕ → Tally → Part → (Tally → List ℕ → RunReport) → RunReport
+-- a directive's part, and then the directives after it, of which so many are missing with it
+abbrev pub then_on : Option ℕ → Directive → ℕ → Tally → Part → (ℕ → Tally → List ℕ → RunReport) → RunReport
 then_on m d at t p next = if is_over m p.used then out_of TooLong at (with_used (or_zero m) t)
-    else by_end p.end (next (counted d p.end (with_used p.used t)) p.left) (λ status. out_of status at (with_used p.used t))
+    else by_end p.end (next (over d p.end) (counted d p.end (with_used p.used t)) p.left) (λ status. out_of status at (with_used p.used t))
 
--- the directives under a limit, from the start of the first, which is the one at this place
+-- the directives under a limit, of which the first is the one at this place, and the first k are missing with one
+-- before them
+abbrev pub run_past : Option ℕ → List Directive → ℕ → ℕ → Tally → List ℕ → RunReport
+run_past m [] at k t x = out_of Done 0 t
+run_past m (d ∷ ds) at zero t x = then_on m d at t (one_from d Skipping t.used x) (λ k u y. run_past m ds (at + 1) k u y)
+run_past m (d ∷ ds) at (suc k) t x = run_past m ds (at + 1) k t x
+
+-- the same from the start of the first
 abbrev pub run_of : Option ℕ → List Directive → ℕ → Tally → List ℕ → RunReport
-run_of m [] at t x = out_of Done 0 t
-run_of m (d ∷ ds) at t x = then_on m d at t (one_from d Skipping t.used x) (λ u y. run_of m ds (at + 1) u y)
+run_of m ds at t x = run_past m ds at 0 t x
 
 -- the directives from a stage of the first one on
 abbrev pub run_from : Option ℕ → List Directive → Stage → ℕ → Tally → List ℕ → RunReport
 run_from m [] q at t x = out_of Done 0 t
-run_from m (d ∷ ds) q at t x = then_on m d at t (one_from d q t.used x) (run_of m ds (at + 1))
+run_from m (d ∷ ds) q at t x = then_on m d at t (one_from d q t.used x) (run_past m ds (at + 1))

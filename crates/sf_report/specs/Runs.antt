@@ -1,5 +1,6 @@
 -- Whole runs and their reports (C11 7.21.6.2p4, p16).
-use Rattle.std.specs.Prelude.{◌≡◌, ℕ, ◌+◌, ◌<◌, Bool, true, false, if◌then◌else◌, List, [], ◌∷◌, ◌++◌, length, drop, Option, Some, None}
+use Rattle.std.specs.Prelude.{◌≡◌, ℕ, zero, suc, ◌+◌, ◌<◌, Bool, true, false, if◌then◌else◌, List, [], ◌∷◌, ◌++◌, length, drop, Option}
+use Rattle.std.specs.Prelude.{Some, None}
 use Rattle.std.specs.Prelude.{SomeIff, is_some, ℤ, pos, negsuc}
 use Rattle.std.specs.Prelude.{◌&&◌, nat_eq}
 use Rattle.std.specs.List.{sum_by, count_by, filter_map, list_any}
@@ -8,6 +9,7 @@ use Rattle.sf_format.specs.declared.directive.Shape.{Shape}
 use Rattle.sf_format.specs.declared.directive.Shape.TheVariants.{Count}
 use Rattle.sf_format.specs.declared.directive.Directive.{Directive}
 use Rattle.sf_format.specs.declared.directive.Directive.TheVariants.{Conv}
+use Rattle.sf_format.specs.Proper.{more_of}
 use Rattle.sf_report.specs.declared.outcome.Ending.{Ending}
 use Rattle.sf_report.specs.declared.outcome.Status.{Status}
 use Rattle.sf_report.specs.declared.outcome.Status.TheVariants.{Done, InputFailure}
@@ -26,14 +28,29 @@ GoesOn (Stores slot v) rest ran = rest
 GoesOn Misses rest ran = rest
 GoesOn (Fails status) rest ran = ran ≡ []
 
+-- how many directives after it are missing with it: where it is missing, the rest of the group that it opens
+abbrev pub over : Directive → StepEnd → ℕ
+over d Misses = more_of d
+over d _ = 0
+
+-- a directive that is missing with the first of its group: it passes, and takes nothing
+abbrev pub left_out : Directive → Ran
+left_out d = record { directive = d; bytes = 0; end = Misses }
+
 -- The directives that ran are ds up to and including the first that fails, each on what those before it
--- left of x; n bytes were consumed before the first (C11 7.21.6.2p4).
+-- left of x; n bytes were consumed before the first (C11 7.21.6.2p4). The first m of ds are missing with one before them.
+abbrev pub StepsPast : ℕ → List Directive → List ℕ → ℕ → List Ran → Type 0
+StepsPast m [] x n [] = Unit {0}
+StepsPast m [] x n (r ∷ ran) = ⊥
+StepsPast m (d ∷ ds) x n [] = ⊥
+StepsPast zero (d ∷ ds) x n (r ∷ ran) =
+    (r.directive ≡ d) × Step d x n r.bytes r.end
+    × GoesOn r.end (StepsPast (over d r.end) ds (drop r.bytes x) (n + r.bytes) ran) ran
+StepsPast (suc m) (d ∷ ds) x n (r ∷ ran) = (r ≡ left_out d) × StepsPast m ds x n ran
+
+-- the same, where none is missing before the first
 abbrev pub Steps : List Directive → List ℕ → ℕ → List Ran → Type 0
-Steps [] x n [] = Unit {0}
-Steps [] x n (r ∷ ran) = ⊥
-Steps (d ∷ ds) x n [] = ⊥
-Steps (d ∷ ds) x n (r ∷ ran) =
-    (r.directive ≡ d) × Step d x n r.bytes r.end × GoesOn r.end (Steps ds (drop r.bytes x) (n + r.bytes) ran) ran
+Steps ds x n ran = StepsPast 0 ds x n ran
 
 -- ---- what is reported of the directives that ran
 

@@ -15,7 +15,9 @@ use Rattle.sf_format.specs.declared.directive.Shape.{Shape}
 use Rattle.sf_format.specs.declared.directive.Shape.TheVariants.{Int, Text, Float, Count}
 use Rattle.sf_format.specs.declared.directive.Conversion.{Conversion}
 use Rattle.sf_format.specs.declared.directive.Directive.{Directive}
-use Rattle.sf_format.specs.declared.directive.Directive.TheVariants.{Space, Byte, Percent, Conv}
+use Rattle.sf_format.specs.declared.directive.Directive.TheVariants.{Space, Byte, Percent, Conv, Opens}
+use Rattle.sf_format.specs.declared.directive.Literal.{Literal}
+use Rattle.sf_format.specs.declared.directive.Literal.TheVariants as literal
 use Rattle.sf_item.specs.Matching.{IsInteger, Matches, IsItem}
 use Rattle.sf_item.specs.Columns.{IsColumn, IsTextOf, Fills}
 use Rattle.sf_report.specs.declared.outcome.Status.{Status}
@@ -127,9 +129,29 @@ abbrev pub StepBy : Bool → Conversion → List ℕ → ℕ → ℕ → StepEnd
 StepBy true c x n k end = ColumnStep c x k end
 StepBy false c x n k end = ConversionStep c c.shape x n k end
 
+-- ---- literals
+
+-- %%: white space, and then a percent sign (C11 7.21.6.2p12)
+abbrev pub PercentStep : List ℕ → ℕ → StepEnd → Type 0
+PercentStep x k end = (s : ℕ) × (j : ℕ) × IsSkip x s × ByteStep 37 (drop s x) j end × (k ≡ s + j)
+
+abbrev pub LiteralStep : Literal → List ℕ → ℕ → StepEnd → Type 0
+LiteralStep (literal.Byte b) x k end = ByteStep b x k end
+LiteralStep literal.Percent x k end = PercentStep x k end
+
+-- of a directive that may be missing: it is, where it fails (our own; C has none)
+abbrev pub missed : StepEnd → StepEnd
+missed (Fails status) = Misses
+missed end = end
+
+-- a literal that opens a group
+abbrev pub OpenerStep : Literal → List ℕ → ℕ → StepEnd → Type 0
+OpenerStep l x k end = (e : StepEnd) × LiteralStep l x k e × (end ≡ missed e)
+
 -- on the remaining input x, after n bytes, the directive consumes k bytes and ends so
 abbrev pub Step : Directive → List ℕ → ℕ → ℕ → StepEnd → Type 0
 Step Space x n k end = IsSkip x k × (end ≡ Passes)
 Step (Byte b) x n k end = ByteStep b x k end
-Step Percent x n k end = (s : ℕ) × (j : ℕ) × IsSkip x s × ByteStep 37 (drop s x) j end × (k ≡ s + j)
+Step Percent x n k end = PercentStep x k end
 Step (Conv c) x n k end = StepBy c.column c x n k end
+Step (Opens o) x n k end = OpenerStep o.literal x k end

@@ -8,6 +8,7 @@ mod column_scans;
 mod compare;
 mod errors;
 mod fault_rows;
+mod group_scans;
 mod item_rows;
 mod limited_scans;
 mod named;

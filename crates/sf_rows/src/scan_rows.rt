@@ -2,6 +2,7 @@
 use crate::binary_scans::binary_scans;
 use crate::column_scans::column_scans;
 use crate::compare::{has_values, is};
+use crate::group_scans::group_scans;
 use crate::limited_scans::limited_scans;
 use crate::number_scans::number_scans;
 use crate::quick_scans::quick_scans;
@@ -55,7 +56,7 @@ impl ScanRow {
 }
 
 /// Every row of a scan, in tables by what they show.
-pub fn scans() -> [&'static [ScanRow]; 7] {
+pub fn scans() -> [&'static [ScanRow]; 8] {
     [
         number_scans(),
         text_scans(),
@@ -64,6 +65,7 @@ pub fn scans() -> [&'static [ScanRow]; 7] {
         quick_scans(),
         strict_scans(),
         column_scans(),
+        group_scans(),
     ]
 }
 

@@ -1,6 +1,6 @@
 -- Runs that begin and pass within a piece.
 use Rattle.std.proofs.lemmas.Grind.{common_steps}
-use Rattle.std.proofs.Common.{◌≡◌, ℕ, ◌+◌, ◌-◌, ◌<◌, ◌≤◌, Bool, true, false, cond, List, [], ◌∷◌, ◌++◌, length, take, drop}
+use Rattle.std.proofs.Common.{suc, ◌≡◌, ℕ, ◌+◌, ◌-◌, ◌<◌, ◌≤◌, Bool, true, false, cond, List, [], ◌∷◌, ◌++◌, length, take, drop}
 use Rattle.std.proofs.Common.{Option, Some, None}
 use Rattle.std.proofs.Common.{refl, sym, ap, subst, ◌∙◌, arith, is_some, length-drop, true≢false}
 use Rattle.std.specs.Prelude.{◌≢◌, slice_get, ℤ}
@@ -16,11 +16,11 @@ use Rattle.sf_format.specs.declared.directive.Shape.{Shape}
 use Rattle.sf_format.specs.declared.directive.Shape.TheVariants.{Int, Text, Set, Chars, Float, Count}
 use Rattle.sf_format.specs.declared.directive.Conversion.{Conversion}
 use Rattle.sf_format.specs.declared.directive.Directive.{Directive}
-use Rattle.sf_format.specs.declared.directive.Directive.TheVariants.{Space, Byte, Percent, Conv}
+use Rattle.sf_format.specs.declared.directive.Directive.TheVariants.{Space, Byte, Percent, Conv, Opens}
 use Rattle.sf_item.specs.ColumnTests.{column_text, fills}
 use Rattle.sf_item.specs.Tests.{integer_at}
 use Rattle.sf_format.specs.Layout.{assigns_item, is_item, items_assigned, items_taken, takes_item}
-use Rattle.sf_format.specs.Proper.{AreProper, IsColumned, TakesColumn, destinations_of, is_optional, slots_of}
+use Rattle.sf_format.specs.Proper.{AreProper, IsColumned, TakesColumn, destinations_of, is_opener, is_optional, more_of, slots_of}
 use Rattle.sf_format.specs.Slots.{AreSlots}
 use Rattle.sf_run.specs.declared.directive.Finished.{Finished}
 use Rattle.sf_run.specs.declared.directive.Ended.{Ended}
@@ -48,13 +48,15 @@ use Rattle.sf_run.specs.declared.quick.Place.{Place}
 use Rattle.sf_run.specs.declared.quick.Passage.{Passage}
 use Rattle.sf_run.specs.declared.quick.PassageEnd.{PassageEnd}
 use Rattle.sf_run.specs.declared.quick.PassageEnd.TheVariants as ends
-use Rattle.sf_report.specs.Residual.{Part, Tally, counted, nothing_yet, one_from, out_of, run_of, then_on, with_used}
-use Rattle.sf_report.specs.Runs.{IsOpen, RunReport, is_conversion, passed}
+use Rattle.sf_report.specs.Residual.{Part, Tally, counted, nothing_yet, one_from, out_of, run_of, run_past, then_on, with_used}
+use Rattle.sf_report.specs.Runs.{IsOpen, RunReport, is_conversion, over, passed}
+use Rattle.sf_run.specs.Standing.{passed_with}
 use Rattle.sf_report.specs.Steps.{StepEnd, Passes as Passed, Stores, Misses, Fails}
 use Rattle.sf_report.specs.Views.{report_by}
 use Rattle.sf_run.specs.Tallies.{PassesSo, tally_of, values_with}
 use Rattle.sf_run.specs.Texts.{IsSound, slot_of, slots_in}
-use Rattle.sf_run.proofs.Moves.{drop_at, place_taken}
+use Rattle.sf_run.proofs.Groups.{count_on, drop_at, gone_most, kept_on, others, others_within, own_front, past_from, place_is}
+use Rattle.sf_run.proofs.Moves.{place_taken}
 use Rattle.sf_report.proofs.Openness.{within_limit}
 use Rattle.sf_run.proofs.Slots.{given_more, given_on, joined_text, placed_from, slot_placed, slot_unused, slots_more, slots_none}
 use Rattle.sf_report.proofs.Machines.{by_option}
@@ -146,7 +148,7 @@ goes _ = true
 -- it takes the run on
 goes_on : (d : Directive) (ds : List Directive) (at : ℕ) (t : Tally) (x y : List ℕ) (taken : ℕ) (end : StepEnd) → goes end ≡ true
     → one_from d Skipping t.used x ≡ record { used = t.used + taken; left = y; end = end }
-    → run_of None (d ∷ ds) at t x ≡ run_of None ds (at + 1) (counted d end (with_used (t.used + taken) t)) y
+    → run_of None (d ∷ ds) at t x ≡ run_past None ds (at + 1) (over d end) (counted d end (with_used (t.used + taken) t)) y
 goes_on d ds at t x y taken end ok is = grind arith
 
 -- the slots of the values are those of the directives that have passed
@@ -172,9 +174,9 @@ going_on : (ds : List Directive) (front : List ℕ) (p : ℕ) (d : Directive) (t
     (taken : ℕ) (end : StepEnd) → slice_get ds p ≡ Some d
     → Going ds front p t old → piece ≡ drop t.used front → EndsIn d Skipping t.used piece taken end → goes end ≡ true
     → new.values ≡ values_with end old.values → new.opened ≡ None → new.closed ≡ texts_in new.values
-    → are_among (slots_in (values_with end old.values)) (slots_of (take (p + 1) ds)) ≡ true
+    → are_among (slots_in (values_with end old.values)) (slots_of (take (passed_with ds p d end) ds)) ≡ true
     → tally_of u (values_with end old.values) ≡ counted d end (with_used (t.used + taken) (tally_of t old.values))
-    → u.used ≡ t.used + taken → Going ds front (p + 1) u new
+    → u.used ≡ t.used + taken → Going ds front (passed_with ds p d end) u new
 going_on ds front p d t u old new piece taken end at h is takes ok values opened joined given tally used =
     let rest : List ℕ = drop t.used front in
     let behind : taken ≤ length rest = subst (λ y. taken ≤ length y) is takes.within in
@@ -189,10 +191,11 @@ going_on ds front p d t u old new piece taken end at h is takes ok values opened
           ∙ ap (λ (y : List ℕ). record { used = t.used + taken; left = y ++ z; end = end }) place in
           h.same z ∙ ap (λ l. run_of None l (p + 1) (tally_of t old.values) (rest ++ z)) (drop_at ds p d at)
           ∙ goes_on d (drop (p + 1) ds) (p + 1) (tally_of t old.values) (rest ++ z) (next ++ z) taken end ok step
-          ∙ ap (λ v. run_of None (drop (p + 1) ds) (p + 1 + 1) v (next ++ z))
+          ∙ past_from ds p d at None end (counted d end (with_used (t.used + taken) (tally_of t old.values))) (next ++ z)
+          ∙ ap (λ v. run_of None (drop (passed_with ds p d end) ds) (passed_with ds p d end + 1) v (next ++ z))
           (sym tally ∙ ap (tally_of u) (sym values));
       within = omega (arith, used, behind, left, low);
-      given = ap (λ v. are_among (slots_in v) (slots_of (take (p + 1) ds))) values ∙ given;
+      given = ap (λ v. are_among (slots_in v) (slots_of (take (passed_with ds p d end) ds))) values ∙ given;
       opened = opened;
       joined = joined;
     }
@@ -293,17 +296,21 @@ misses_by : (c : Conversion) → IsColumned (Conv c) → (v : Bool) → c.column
 misses_by c sound true column q n more e = (misses_column c q more e, takes_by c c.shape refl sound column)
 misses_by c sound false plain q n more e = misses_item c q n more e
 
-misses_only : (d : Directive) → IsColumned d → (q : Stage) (n : ℕ) (more : Bool) → finished d q n more ≡ Misses
-    → (is_optional d ≡ true) × (takes_item d ≡ true)
-misses_only (Conv c) sound q n more e = misses_by c sound c.column refl q n more e
+-- it takes an item, or opens a group
+abbrev MayBeMissed : Directive → Type 0
+MayBeMissed d = (is_optional d ≡ true) × ((is_opener d ≡ false) → takes_item d ≡ true)
+
+misses_only : (d : Directive) → IsColumned d → (q : Stage) (n : ℕ) (more : Bool) → finished d q n more ≡ Misses → MayBeMissed d
+misses_only (Conv c) sound q n more e = let own = misses_by c sound c.column refl q n more e in (own.0, λ none. own.1)
+misses_only (Opens o) sound q n more e = (refl, λ none. absurd cc)
 misses_only Space sound q n more e = absurd cc
 misses_only (Byte b) sound q n more e = absurd (byte_given q more e)
 misses_only Percent sound q n more e = absurd (byte_given q more e)
 
 pub one_misses : (d : Directive) → IsColumned d → (q : Stage) (n : ℕ) (x : List ℕ) → (one_from d q n x).end ≡ Misses
-    → (is_optional d ≡ true) × (takes_item d ≡ true)
+    → (is_optional d ≡ true) × (is_opener d ≡ false → takes_item d ≡ true)
 one_misses d sound q n [] e = misses_only d sound q n false e
-one_misses d sound q n (b ∷ x) e = by_option (λ p. p.end ≡ Misses → (is_optional d ≡ true) × (takes_item d ≡ true)) (stepped d q b) _ _
+one_misses d sound q n (b ∷ x) e = by_option (λ p. p.end ≡ Misses → MayBeMissed d) (stepped d q b) _ _
     (misses_only d sound q n true) (λ r. one_misses d sound r (n + 1) x) e
 
 abbrev one_if : Bool → ℕ
@@ -335,6 +342,13 @@ used_is ds front tail p missing kept h =
     let short = ap length h.rest ∙ length-drop h.tally.used front in
     omega (arith, short, low)
 
+-- nothing is missing with one that passes
+place_passed : (ds : List Directive) (p : ℕ) (d : Directive) (end : StepEnd) → passed end ≡ true → passed_with ds p d end ≡ p + 1
+place_passed ds p d Passed ok = refl
+place_passed ds p d (Stores slot v) ok = refl
+place_passed ds p d Misses ok = absurd (true≢false (sym ok))
+place_passed ds p d (Fails status) ok = refl
+
 -- the next directive has passed
 pub counting_on : (ds : List Directive) (front rest left : List ℕ) (p : ℕ) (d : Directive) (n : ℕ) (missing : Missing) (old new : Kept)
     (taken : ℕ) → slice_get ds p ≡ Some d
@@ -356,10 +370,12 @@ counting_on ds front rest left p d n missing old new taken at h begins w on =
     let converted = h.converted in
     record {
       tally = u;
-      going = going_on ds front p d t u old new rest taken is.end at h.going h.rest is.takes (passed_goes is.end so.passes)
+      going = subst (λ q. Going ds front q u new) (place_passed ds p d is.end so.passes)
+          (going_on ds front p d t u old new rest taken is.end at h.going h.rest is.takes (passed_goes is.end so.passes)
           is.gives.values is.gives.opened (is.gives.joined h.going.joined)
-          (some_given ds p d old.values is.end at is.own so.passes h.going.given)
-          (totals_counted d is.end stores taken t old.values so) refl;
+          (subst (λ q. are_among (slots_in (values_with is.end old.values)) (slots_of (take q ds)) ≡ true)
+          (sym (place_passed ds p d is.end so.passes)) (some_given ds p d old.values is.end at is.own so.passes h.going.given))
+          (totals_counted d is.end stores taken t old.values so) refl);
       rest = on ∙ ap (drop taken) h.rest ∙ drop-drop taken t.used front;
       short = grind (arith, length-drop, on, (h.short));
       assigned = omega (arith, assigned', given, assigned);
@@ -367,51 +383,61 @@ counting_on ds front rest left p d n missing old new taken at h begins w on =
       few = few_more ds p d at h.few;
     }
 
--- its item is missing
+-- it is missing, with others
 pub counting_missing : (ds : List Directive) (front rest left : List ℕ) (p : ℕ) (d : Directive) (n : ℕ) (missing more : Missing)
-    (old new : Kept) (taken : ℕ) → IsColumned d → slice_get ds p ≡ Some d → (h : Counted ds front rest p missing old)
+    (gone : List Directive) (old new : Kept) (taken : ℕ) → slice_get ds p ≡ Some d → (h : Counted ds front rest p missing old)
     → n ≡ length front - length rest → EndsIn d Skipping n rest taken Misses → new ≡ old → left ≡ drop taken rest
-    → more.assigned ≡ missing.assigned + cond (is_some (slot_of d)) 1 0 → more.converted ≡ missing.converted + 1
-    → Counted ds front left (p + 1) more new
-counting_missing ds front rest left p d n missing more old new taken sound at h begins takes same on assigned' converted' =
+    → gone ≡ take (suc (more_of d)) (drop p ds) → more.assigned ≡ missing.assigned + items_assigned gone
+    → more.converted ≡ missing.converted + items_taken gone → Counted ds front left (p + length gone) more new
+counting_missing ds front rest left p d n missing more gone old new taken at h begins takes same on all assigned' converted' =
     let t : code.Tally = h.tally in
     let u : code.Tally = record { used = t.used + taken; assigned = t.assigned; converted = t.converted } in
     let here : n ≡ t.used = begins ∙ sym (used_is ds front rest p missing old h) in
     let is : EndsIn d Skipping t.used rest taken Misses = subst (λ m. EndsIn d Skipping m rest taken Misses) here takes in
-    let item = (one_misses d sound Skipping t.used (rest ++ []) (ap (λ (q : Part). q.end) (is.takes []))).1 in
-    let one : one_if (assigns_item d) ≡ one_if (is_some (slot_of d)) = ap one_if (assigns_taken d item) in
-    let two : one_if (takes_item d) ≡ 1 = ap one_if item in
-    let given = count_more assigns_item ds p d at in
-    let taken' = count_more takes_item ds p d at in
+    let with : List Directive = others ds p d at Misses in
+    let whole : gone ≡ d ∷ with = all ∙ ap (take (suc (more_of d))) (drop_at ds p d at) in
+    let size : p + length gone ≡ p + 1 + length with = (let long = ap length whole in omega (arith, long)) in
+    let place : passed_with ds p d Misses ≡ p + length gone = place_is ds p d at Misses ∙ sym size in
+    let within : p + 1 + length with ≤ length ds = others_within ds p d at Misses in
+    let own : gone ≡ take (length gone) (drop p ds) = own_front gone (suc (more_of d)) (drop p ds) all in
+    let given = count_on assigns_item ds p (length gone) ∙ ap (λ l. items_assigned (take p ds) + items_assigned l) (sym own) in
+    let taken' = count_on takes_item ds p (length gone) ∙ ap (λ l. items_taken (take p ds) + items_taken l) (sym own) in
     let assigned = h.assigned in
     let converted = h.converted in
     record {
       tally = u;
-      going = going_on ds front p d t u old new rest taken Misses at h.going h.rest is refl (ap (λ (k : Kept). k.values) same)
+      going = subst (λ q. Going ds front q u new) place
+          (going_on ds front p d t u old new rest taken Misses at h.going h.rest is refl (ap (λ (k : Kept). k.values) same)
           (ap (λ (k : Kept). k.opened) same ∙ h.going.opened)
           (subst (λ (k : Kept). k.closed ≡ texts_in k.values) (sym same) h.going.joined)
-          (given_on ds p d old.values at h.going.given) refl refl;
+          (subst (λ q. are_among (slots_in old.values) (slots_of (take q ds)) ≡ true) (sym (place ∙ size))
+          (kept_on (λ q. are_among (slots_in old.values) (slots_of (take q ds)) ≡ true) ds
+          (λ q e there. given_on ds q e old.values there) (length with) (p + 1) within (given_on ds p d old.values at h.going.given)))
+          refl refl);
       rest = on ∙ ap (drop taken) h.rest ∙ drop-drop taken t.used front;
       short = grind (arith, length-drop, on, (h.short));
-      assigned = omega (arith, assigned', given, assigned, one);
-      converted = omega (arith, converted', taken', converted, two);
-      few = few_more ds p d at h.few;
+      assigned = omega (arith, assigned', given, assigned);
+      converted = omega (arith, converted', taken', converted);
+      few = subst (Few ds) (sym size) (kept_on (Few ds) ds (λ q e there. few_more ds q e there) (length with) (p + 1) within
+          (few_more ds p d at h.few));
     }
 
 -- the same by how it ended
 pub counting : (ds : List Directive) (front rest left : List ℕ) (p : ℕ) (d : Directive) (n : ℕ) (missing : Missing) (old new : Kept)
-    (passage : Passage) → IsColumned d → slice_get ds p ≡ Some d → Counted ds front rest p missing old
+    (passage : Passage) → slice_get ds p ≡ Some d → Counted ds front rest p missing old
     → n ≡ length front - length rest → EndsSo d n rest passage old new → left ≡ drop passage.taken rest
     → (passage.end ≡ ends.Passes → Counted ds front left (p + 1) missing new)
-    × ((more : Missing) → passage.end ≡ ends.Misses → more.assigned ≡ missing.assigned + cond (is_some (slot_of d)) 1 0
-    → more.converted ≡ missing.converted + 1 → Counted ds front left (p + 1) more new)
-counting ds front rest left p d n missing old new passage sound at h begins w on = (
+    × ((more : Missing) (gone : List Directive) → passage.end ≡ ends.Misses → gone ≡ take (suc (more_of d)) (drop p ds)
+    → more.assigned ≡ missing.assigned + items_assigned gone
+    → more.converted ≡ missing.converted + items_taken gone → Counted ds front left (p + length gone) more new)
+counting ds front rest left p d n missing old new passage at h begins w on = (
   λ is. (let so : GivenSo ends.Passes d w.end old new = subst (λ how. GivenSo how d w.end old new) is w.gives in
       counting_on ds front rest left p d n missing old new passage.taken at h begins
       (so.0, record { end = w.end; takes = w.takes; gives = so.1; own = so.2 }) on),
-  λ more is assigned converted. (let so : GivenSo ends.Misses d w.end old new = subst (λ how. GivenSo how d w.end old new) is w.gives in
-      counting_missing ds front rest left p d n missing more old new passage.taken sound at h begins
-      (subst (λ end. EndsIn d Skipping n rest passage.taken end) so.0 w.takes) so.1 on assigned converted),
+  λ more gone is all assigned converted.
+      (let so : GivenSo ends.Misses d w.end old new = subst (λ how. GivenSo how d w.end old new) is w.gives in
+      counting_missing ds front rest left p d n missing more gone old new passage.taken at h begins
+      (subst (λ end. EndsIn d Skipping n rest passage.taken end) so.0 w.takes) so.1 on all assigned converted),
 )
 
 -- the same of what is the same
@@ -534,7 +560,7 @@ counted_done ds proper m most piece front rest missing kept p all is fits h z en
 fails_on : (d : Directive) (ds : List Directive) (at : ℕ) (t : Tally) (x y : List ℕ) (n : ℕ) (status : Status)
     → one_from d Skipping t.used x ≡ record { used = n; left = y; end = Fails status }
     → run_of None (d ∷ ds) at t x ≡ out_of status at (with_used n t)
-fails_on d ds at t x y n status is = ap (λ q. then_on None d at t q (run_of None ds (at + 1))) is
+fails_on d ds at t x y n status is = ap (λ q. then_on None d at t q (run_past None ds (at + 1))) is
 
 -- where the next directive fails, the run counts the items before it but those that are missing
 pub counted_failed : (ds : List Directive) → AreProper ds → (m most n : ℕ) (piece front rest : List ℕ) (missing : Missing)
@@ -614,20 +640,52 @@ come_of ds all front rest p from place missing old kept new same is here used on
 
 -- the next directive has ended so
 pub come_on : (ds : List Directive) (front : List ℕ) (place next : Place) (d : Directive) (missing : Missing) (old new : Kept)
-    (passage : Passage) → IsColumned d → slice_get ds (length ds - place.left) ≡ Some d → 0 < place.left → place.left ≤ length ds
+    (passage : Passage) (ended : ℕ) → slice_get ds (length ds - place.left) ≡ Some d → 0 < place.left → place.left ≤ length ds
     → place.used ≤ length front → HasCome ds front place missing old
-    → EndsSo d place.used (drop place.used front) passage old new → next.left ≡ place.left - 1 → next.used ≡ place.used + passage.taken
-    → (passage.end ≡ ends.Passes → HasCome ds front next missing new)
-    × ((more : Missing) → passage.end ≡ ends.Misses → more.assigned ≡ missing.assigned + cond (is_some (slot_of d)) 1 0
-    → more.converted ≡ missing.converted + 1 → HasCome ds front next more new)
-come_on ds front place next d missing old new passage sound at some most low h w left used =
+    → EndsSo d place.used (drop place.used front) passage old new → next.left ≡ place.left - ended → next.used ≡ place.used + passage.taken
+    → (passage.end ≡ ends.Passes → ended ≡ 1 → HasCome ds front next missing new)
+    × ((more : Missing) (gone : List Directive) → passage.end ≡ ends.Misses → ended ≡ length gone
+    → gone ≡ take (suc (more_of d)) (drop (length ds - place.left) ds) → more.assigned ≡ missing.assigned + items_assigned gone
+    → more.converted ≡ missing.converted + items_taken gone → HasCome ds front next more new)
+come_on ds front place next d missing old new passage ended at some most low h w left used =
+    let p : ℕ = length ds - place.left in
     let on : drop next.used front ≡ drop passage.taken (drop place.used front) =
     ap (λ n. drop n front) used ∙ sym (drop-drop passage.taken place.used front) in
-    let p : length ds - place.left + 1 ≡ length ds - next.left = omega (arith, some, most, left) in
-    let both = counting ds front (drop place.used front) (drop next.used front) (length ds - place.left) d place.used missing old new
-    passage sound at h (after_place front place.used low) w on in (
-      λ is. subst (λ n. Counted ds front (drop next.used front) n missing new) p (both.0 is),
-      λ more is assigned converted. subst (λ n. Counted ds front (drop next.used front) n more new) p (both.1 more is assigned converted),
+    let both = counting ds front (drop place.used front) (drop next.used front) p d place.used missing old new
+    passage at h (after_place front place.used low) w on in (
+      λ is one. subst (λ n. Counted ds front (drop next.used front) n missing new) {x = p + 1} {y = length ds - next.left}
+          (omega (arith, some, most, left, one)) (both.0 is),
+      λ more gone is one all assigned converted.
+          let few = ap length all in
+          let rest = length-drop p ds in
+          let within = gone_most (suc (more_of d)) (drop p ds) in
+          subst (λ n. Counted ds front (drop next.used front) n more new) {x = p + length gone} {y = length ds - next.left}
+          (grind (arith, some, most, left, one, few, rest, within)) (both.1 more gone is all assigned converted),
+    )
+
+-- what is missing with one fits the counts
+pub gone_fits : (ds : List Directive) (front : List ℕ) (place : Place) (d : Directive) (missing : Missing) (kept : Kept)
+    (gone : List Directive) → place.left ≤ length ds → gone ≡ take (suc (more_of d)) (drop (length ds - place.left) ds)
+    → HasCome ds front place missing kept
+    → (length gone ≤ place.left) × (missing.assigned + items_assigned gone ≤ 32) × (missing.converted + items_taken gone ≤ length ds)
+gone_fits ds front place d missing kept gone most all h =
+    let p : ℕ = length ds - place.left in
+    let long = ap length all in
+    let few = gone_most (suc (more_of d)) (drop p ds) in
+    let rest = length-drop p ds in
+    let short : length gone ≤ place.left = grind (arith, most, long, few, rest) in
+    let own : gone ≡ take (length gone) (drop p ds) = own_front gone (suc (more_of d)) (drop p ds) all in
+    let given = count_on assigns_item ds p (length gone) ∙ ap (λ l. items_assigned (take p ds) + items_assigned l) (sym own) in
+    let taken = count_on takes_item ds p (length gone) ∙ ap (λ l. items_taken (take p ds) + items_taken l) (sym own) in
+    let after : Few ds (p + length gone) = kept_on (Few ds) ds (λ q e there. few_more ds q e there) (length gone) p
+    (omega (arith, short, most)) h.few in
+    let most_assigned = after.assigned in
+    let most_converted = after.converted in
+    let assigned = h.assigned in
+    let converted = h.converted in (
+      short,
+      omega (arith, given, most_assigned, assigned),
+      omega (arith, taken, most_converted, converted, short, most),
     )
 
 -- past the last directive, an outcome that counts so is that of the run

@@ -19,7 +19,7 @@ use Rattle.sf_format.specs.declared.directive.Shape.{Shape}
 use Rattle.sf_format.specs.declared.directive.Shape.TheVariants.{Int, Text, Set, Chars, Float, Count}
 use Rattle.sf_format.specs.declared.directive.Conversion.{Conversion}
 use Rattle.sf_format.specs.declared.directive.Directive.{Directive}
-use Rattle.sf_format.specs.declared.directive.Directive.TheVariants.{Space, Byte, Percent, Conv}
+use Rattle.sf_format.specs.declared.directive.Directive.TheVariants.{Space, Byte, Percent, Conv, Opens}
 use Rattle.sf_format.specs.Leads.{is_strict, is_strict_lead}
 use Rattle.sf_item.specs.declared.item.ItemEnd.{ItemEnd}
 use Rattle.sf_item.specs.declared.item.ItemEnd.TheVariants as ends
@@ -118,6 +118,7 @@ column_bytes (Conv c) column y q led = ap taken_at (column_stage c column [] y q
 column_bytes Space column y q led = absurd cc
 column_bytes (Byte b) column y q led = absurd cc
 column_bytes Percent column y q led = absurd cc
+column_bytes (Opens o) column y q led = absurd cc
 
 -- ---- the text of a column
 

@@ -1,11 +1,11 @@
 -- How far a run has come with the bytes that it consumed.
 use Rattle.std.proofs.Common.{◌≡◌, ℕ, suc, ◌+◌, ◌≤◌, Bool, true, false, cond, ◌&&◌, List, [], ◌∷◌, ◌++◌, length, take, drop, append_assoc}
 use Rattle.std.proofs.Common.{not, append-nil, length-append, length-drop, Option, Some, None, refl, sym, ap, ap₂, subst, ◌∙◌, arith}
-use Rattle.std.proofs.Common.{is_some}
+use Rattle.std.proofs.Common.{is_some, map}
 use Rattle.std.proofs.Common.{true≢false}
 use Rattle.std.specs.Prelude.{IsSome, slice_get}
 use Rattle.std.proofs.lemmas.List.{drop-append-le, drop-drop, drop_all, length-take-le, take-append-drop, take_all}
-use Rattle.std.proofs.lemmas.List.Sums.{sum_by-append}
+use Rattle.std.proofs.lemmas.List.Sums.{sum_by-append, sum_by-cons}
 use Rattle.std.proofs.Math.Seq.{take-add}
 use Rattle.sf_base.specs.Bytes.{is_white}
 use Rattle.sf_base.specs.stores.Kept.{Opened, text_of}
@@ -15,7 +15,7 @@ use Rattle.sf_format.specs.declared.directive.Shape.{Shape}
 use Rattle.sf_format.specs.Leads.{is_strict_lead}
 use Rattle.sf_format.specs.declared.directive.Conversion.{Conversion}
 use Rattle.sf_format.specs.declared.directive.Directive.{Directive}
-use Rattle.sf_format.specs.declared.directive.Directive.TheVariants.{Space, Byte, Percent, Conv}
+use Rattle.sf_format.specs.declared.directive.Directive.TheVariants.{Space, Byte, Percent, Conv, Opens}
 use Rattle.sf_format.specs.Proper.{AreProper}
 use Rattle.sf_item.specs.Tests.{can_take}
 use Rattle.sf_run.specs.declared.directive.Finished.{Finished}
@@ -24,16 +24,16 @@ use Rattle.sf_run.specs.declared.directive.Run.{Run}
 use Rattle.sf_run.specs.declared.directive.Phase.TheVariants as phase
 use Rattle.sf_report.specs.declared.outcome.Status.{Status}
 use Rattle.sf_report.specs.Steps.{StepEnd, Fails, Passes, Stores, Misses}
-use Rattle.sf_report.specs.Runs.{Ran, used}
+use Rattle.sf_report.specs.Runs.{Ran, left_out, over, used}
 use Rattle.sf_report.specs.Limits.{IsCut}
 use Rattle.sf_report.specs.Machine.{Stage, Skipping, Item, item_stepped, shape_skips}
-use Rattle.sf_report.specs.Computed.{go_on, part_of, ran_of, skip, skip_under, skip_before, step_of}
+use Rattle.sf_report.specs.Computed.{go_on, part_of, ran_of, ran_past, skip, skip_under, skip_before, step_of}
 use Rattle.sf_report.specs.Residual.{Part, Tally, choose, one_from, stepped_all}
 use Rattle.sf_run.specs.Phases.{Brings, Shows, end_of, slot_in, stage_of}
 use Rattle.sf_run.specs.Pieces.{IsEnd}
 use Rattle.sf_run.specs.Standing.{Advances, Comes, ComesBy, Ends, IsTextBy, IsTextUnderWay, IsUnderWay, LedFirst, ShowsFirst, Standing}
 use Rattle.sf_run.specs.Standing.{TakesAll, text_begun}
-use Rattle.sf_run.specs.Standing.{Passes as Passed}
+use Rattle.sf_run.specs.Standing.{Passes as Passed, passed_with}
 use Rattle.sf_run.specs.Texts.{IsNextSlot, closing_text, item_of, opened_for, opened_with, text_slot}
 use Rattle.sf_report.proofs.Joined.{all-append, one_from-all}
 use Rattle.sf_report.proofs.Machines.{some_is}
@@ -42,7 +42,8 @@ use Rattle.sf_report.proofs.Openness.{counted-used}
 use Rattle.sf_report.proofs.RunLaws.{ran_at, steps_only}
 use Rattle.sf_report.proofs.StepLaws.{skip_before_is}
 use Rattle.sf_run.proofs.Columns.{column_item, column_stage, stepped_plain}
-use Rattle.sf_run.proofs.Moves.{Reaches, closed_text, drop_at, opened_grown, reaches_taken, shows_fresh}
+use Rattle.sf_run.proofs.Groups.{as_many, drop_at, others, place_is, ran_from, used_nothing}
+use Rattle.sf_run.proofs.Moves.{Reaches, closed_text, opened_grown, reaches_taken, shows_fresh}
 use Rattle.sf_run.proofs.Pieces.{parted, same_part}
 
 -- what has come so far, by the fields
@@ -143,15 +144,16 @@ ran_one d k f = record { directive = d; bytes = k; end = f }
 
 by_parts : (d : Directive) (ds : List Directive) (r : ℕ × StepEnd) (w l : List ℕ) (u k : ℕ) (f : StepEnd) → r.0 ≡ k → drop r.0 w ≡ l
     → r.1 ≡ f
-    → ran_one d r.0 r.1 ∷ go_on r.1 (ran_of ds (drop r.0 w) (u + r.0)) ≡ ran_one d k f ∷ go_on f (ran_of ds l (u + k))
+    → ran_one d r.0 r.1 ∷ go_on r.1 (ran_past (over d r.1) ds (drop r.0 w) (u + r.0))
+    ≡ ran_one d k f ∷ go_on f (ran_past (over d f) ds l (u + k))
 by_parts d ds r w l u k f size rest end =
-    ap (λ (y : List ℕ). ran_one d r.0 r.1 ∷ go_on r.1 (ran_of ds y (u + r.0))) rest
-    ∙ ap₂ (λ (n : ℕ) (e : StepEnd). ran_one d n e ∷ go_on e (ran_of ds l (u + n))) size end
+    ap (λ (y : List ℕ). ran_one d r.0 r.1 ∷ go_on r.1 (ran_past (over d r.1) ds y (u + r.0))) rest
+    ∙ ap₂ (λ (n : ℕ) (e : StepEnd). ran_one d n e ∷ go_on e (ran_past (over d e) ds l (u + n))) size end
 
 -- the step that the machine makes
 made_step : (d : Directive) (ds : List Directive) (w l : List ℕ) (u k : ℕ) (f : StepEnd)
     → one_from d Skipping u w ≡ record { used = u + k; left = l; end = f }
-    → ran_of (d ∷ ds) w u ≡ ran_one d k f ∷ go_on f (ran_of ds l (u + k))
+    → ran_of (d ∷ ds) w u ≡ ran_one d k f ∷ go_on f (ran_past (over d f) ds l (u + k))
 made_step d ds w l u k f is =
     let same : part_of u w (step_of d w u) ≡ record { used = u + k; left = l; end = f } = sym (one_made d w u) ∙ is in
     let bytes : u + (step_of d w u).0 ≡ u + k = ap (λ (p : Part). p.used) same in
@@ -162,11 +164,12 @@ pub passes_on : (ds : List Directive) (p : ℕ) (d : Directive) → slice_get ds
     → ComesBy ds p current opened n x y → (k : ℕ) (f : StepEnd) → ((status : Status) → f ≡ Fails status → ⊥) → k ≤ length y
     → ((q : Stage) → Shows d current q → opened ≡ opened_for d q → (z : List ℕ)
     → one_from d q n (y ++ z) ≡ record { used = n + k; left = drop k y ++ z; end = f })
-    → ComesBy ds (p + 1) phase.Skipping None (n + k) (x ++ take k y) (drop k y)
+    → ComesBy ds (passed_with ds p d f) phase.Skipping None (n + k) (x ++ take k y) (drop k y)
 passes_on ds p d at current opened n x y h k f ok within takes = record {
-  before = h.before ++ own ∷ [];
+  before = h.before ++ ends;
   stage = Skipping;
-  count = (let c = h.count in omega (arith, c, length-append h.before (own ∷ [])));
+  count = (let c = h.count in
+      omega (arith, c, place_is ds p d at f, as_many (others ds p d at f), length-append h.before ends));
   consumed_is = whole;
   within = (let a = all in let w = whole in omega (arith, a, w));
   steps = λ z.
@@ -175,14 +178,17 @@ passes_on ds p d at current opened n x y h k f ok within takes = record {
       ∙ ap (λ (rest : List Directive). h.before ++ ran_of rest (bytes ++ (y ++ z)) (used h.before)) (drop_at ds p d at)
       ∙ ap (λ (l : List Ran). h.before ++ l) (made_step d (drop (p + 1) ds) (bytes ++ (y ++ z)) (drop k y ++ z) (used h.before)
       (length bytes + k) f (step z)
-      ∙ ap (λ (l : List Ran). own ∷ l) (go_ok f _ ok))
-      ∙ sym (append_assoc h.before (own ∷ []) (ran_of (drop (p + 1) ds) (drop k y ++ z) (used h.before + (length bytes + k))))
-      ∙ ap₂ (λ (l : List ℕ) (m : ℕ). (h.before ++ own ∷ []) ++ ran_of (drop (p + 1) ds) (l ++ (drop k y ++ z)) m) (sym nothing)
+      ∙ ap (λ (l : List Ran). own ∷ l) (go_ok f _ ok ∙ ran_from ds p d at f (drop k y ++ z) (used h.before + (length bytes + k))))
+      ∙ sym (append_assoc h.before ends (ran_of (drop q ds) (drop k y ++ z) (used h.before + (length bytes + k))))
+      ∙ ap₂ (λ (l : List ℕ) (m : ℕ). (h.before ++ ends) ++ ran_of (drop q ds) (l ++ (drop k y ++ z)) m) (sym nothing)
       (let a = all in let s = bytes_size in omega (arith, a, s));
-  shown = shows_fresh (drop (p + 1) ds);
-  led = subst (λ l. LedFirst (drop (p + 1) ds) l Skipping) (sym nothing) (led_fresh (drop (p + 1) ds));
+  shown = shows_fresh (drop q ds);
+  led = subst (λ l. LedFirst (drop q ds) l Skipping) (sym nothing) (led_fresh (drop q ds));
 }
   where
+    q : ℕ
+    q = passed_with ds p d f
+
     bytes : List ℕ
     bytes = left ds p d at current opened n x y h
 
@@ -192,14 +198,23 @@ passes_on ds p d at current opened n x y h k f ok within takes = record {
     own : Ran
     own = ran_one d (length bytes + k) f
 
-    all : used (h.before ++ own ∷ []) ≡ n + k
-    all = (let s = bytes_size in omega (arith, s, sum_by-append (λ (r : Ran). r.bytes) h.before (own ∷ [])))
+    -- the directive, and those that are missing with it
+    ends : List Ran
+    ends = own ∷ map left_out (others ds p d at f)
+
+    ends_used : used ends ≡ length bytes + k
+    ends_used =
+        let all = sum_by-cons (λ (r : Ran). r.bytes) own (map left_out (others ds p d at f)) in
+        omega (arith, all, used_nothing (others ds p d at f))
+
+    all : used (h.before ++ ends) ≡ n + k
+    all = (let s = bytes_size in omega (arith, s, ends_used, sum_by-append (λ (r : Ran). r.bytes) h.before ends))
 
     whole : n + k ≡ length (x ++ take k y)
     whole = (let c = h.consumed_is in omega (arith, c, length-append x (take k y), length-take-le k y within))
 
-    nothing : drop (used (h.before ++ own ∷ [])) (x ++ take k y) ≡ []
-    nothing = drop_all (used (h.before ++ own ∷ [])) (x ++ take k y) (let a = all in let w = whole in omega (arith, a, w))
+    nothing : drop (used (h.before ++ ends)) (x ++ take k y) ≡ []
+    nothing = drop_all (used (h.before ++ ends)) (x ++ take k y) (let a = all in let w = whole in omega (arith, a, w))
 
     step : (z : List ℕ) → one_from d Skipping (used h.before) (bytes ++ (y ++ z))
         ≡ record { used = used h.before + (length bytes + k); left = drop k y ++ z; end = f }
@@ -249,8 +264,9 @@ ends_advance new mid old d f y n at here used ends within takes x h still = by f
         → one_from d q old.tally.used (y ++ z) ≡ record { used = old.tally.used + n; left = drop n y ++ z; end = g })
         → Comes new (x ++ take n y) (drop n y)
     passes g ok passed takes =
-        same_comes new old.directives (old.passed + 1) phase.Skipping None (old.tally.used + n) (x ++ take n y) (drop n y)
-        (passed.keeps.directives ∙ here.keeps.directives) (passed.passed ∙ ap (λ p. p + 1) here.passed) passed.phase passed.opened
+        same_comes new old.directives (passed_with old.directives old.passed d g) phase.Skipping None (old.tally.used + n) (x ++ take n y)
+        (drop n y) (passed.keeps.directives ∙ here.keeps.directives)
+        (passed.passed ∙ ap₂ (λ l p. passed_with l p d g) here.keeps.directives here.passed) passed.phase passed.opened
         (ap (λ (t : Tally). t.used) passed.tally ∙ counted-used d g mid.tally ∙ used)
         (passes_on old.directives old.passed d at old.phase old.opened old.tally.used x y h n g ok within takes)
 
@@ -381,6 +397,7 @@ text_at : (d : Directive) (y : List ℕ) (q : Stage) → stepped_all d Skipping 
 text_at Space y q led = refl
 text_at (Byte b) y q led = refl
 text_at Percent y q led = refl
+text_at (Opens o) y q led = refl
 text_at (Conv c) y q led = text_by c c.column refl y q led
 
 -- ---- where it is cut off

@@ -1,11 +1,12 @@
 -- When a run whose values are written as they are read is told.
-use Rattle.std.proofs.Common.{[], ◌≡◌, ◌≢◌, ℕ, ◌+◌, ◌-◌, ◌<◌, ◌≤◌, min, List, ◌++◌, length, take, drop, Some, sym, ap, subst, ◌∙◌, arith}
+use Rattle.std.proofs.Common.{[], ◌≡◌, ◌≢◌, ℕ, ◌+◌, ◌-◌, ◌<◌, ◌≤◌, min, false, List, ◌++◌, length, take, drop, Some, sym, ap, subst, ◌∙◌}
+use Rattle.std.proofs.Common.{arith}
 use Rattle.std.proofs.lemmas.List.{append-nil, length-take-le}
 use Rattle.std.specs.Prelude.{slice_get}
 use Rattle.sf_base.specs.Data.{Datum}
 use Rattle.sf_base.specs.stores.Kept.{Kept}
 use Rattle.sf_format.specs.declared.directive.Directive.{Directive}
-use Rattle.sf_format.specs.Proper.{AreProper}
+use Rattle.sf_format.specs.Proper.{AreProper, has_group}
 use Rattle.sf_run.specs.Texts.{AreSound}
 use Rattle.sf_report.specs.Limits.{RunWithin}
 use Rattle.sf_report.specs.Machine.{Skipping}
@@ -32,16 +33,17 @@ pub next_written : (text : Datum → List ℕ) (spare : ℕ) (ds all : List Dire
     → front ≡ take most piece → length front ≡ most → most ≡ min limit (length piece)
     → Counted ds front rest p (record { assigned = 0; converted = 0 }) kept
     → n ≡ length front - length rest → kept.room ≡ capacity → end ≤ length room → take end room ≡ texts_by text kept.values
-    → (done : IsDoneWithin all limit piece capacity) → length (texts_by text done.report.values) + spare ≤ length room
+    → has_group all ≡ false → (done : IsDoneWithin all limit piece capacity)
+    → length (texts_by text done.report.values) + spare ≤ length room
     → (free : ℕ) × IsWrittenSurely text d n rest free × (end + free + spare ≤ length room)
 next_written text spare ds all same sound limit most n piece front rest p d kept capacity end room at is long least h begins roomy
     place written =
-    subst (λ (l : List Directive). (done : IsDoneWithin l limit piece capacity)
+    subst (λ (l : List Directive). has_group l ≡ false → (done : IsDoneWithin l limit piece capacity)
     → length (texts_by text done.report.values) + spare ≤ length room
-    → (free : ℕ) × IsWrittenSurely text d n rest free × (end + free + spare ≤ length room)) same (λ done fits.
+    → (free : ℕ) × IsWrittenSurely text d n rest free × (end + free + spare ≤ length room)) same (λ alone done fits.
     let next = next_of ds sound.0 limit most n piece front rest p d (record { assigned = 0; converted = 0 }) kept capacity at is long
     least h begins (omega (arith, roomy)) (ended_of done) in
-    let passes = next_passes ds sound limit most n piece front rest p d kept capacity at is h begins done in
+    let passes = next_passes ds sound limit most n piece front rest p d kept capacity at is h begins alone done in
     let after : List ℕ = drop most piece in
     let whole : length (take end room) ≡ end = length-take-le end room place in
     let texts : length (take end room) ≡ length (texts_by text kept.values) = ap length written in

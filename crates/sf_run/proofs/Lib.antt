@@ -36,4 +36,6 @@ pub mod WholeColumns
 pub mod ColumnNumbers
 pub mod StrictRows
 pub mod Following
+pub mod Groups
+pub mod Openers
 pub mod Ordered

@@ -1,11 +1,11 @@
 -- How the rest of a run changes with each move of the scanner.
 use Rattle.std.proofs.lemmas.Grind.{common_steps}
 use Rattle.std.proofs.Common.{◌≡◌, ℕ, ◌+◌, ◌≤◌, ◌<◌, Bool, true, false, cond, ltb, List, [], ◌∷◌, ◌++◌, length, take, drop}
-use Rattle.std.proofs.Common.{length-append, Option, Some, None, is_some, inl, inr, refl, sym, ap, subst, ◌∙◌, arith}
+use Rattle.std.proofs.Common.{length-append, Option, Some, None, is_some, inl, inr, refl, sym, ap, ap₂, subst, ◌∙◌, arith}
 use Rattle.std.specs.Prelude.{slice_get, IfNone, IsSome}
 use Rattle.std.specs.List.{AllByRecursion}
-use Rattle.std.proofs.lemmas.Option.{slice_get_within, slice_get_cases, get_or_from_slice_get}
-use Rattle.std.proofs.lemmas.List.{drop_more, drop_all, length-take-le}
+use Rattle.std.proofs.lemmas.Option.{slice_get_cases}
+use Rattle.std.proofs.lemmas.List.{drop_all, length-take-le}
 use Rattle.std.proofs.lemmas.Bool.{lt-ltb}
 use Rattle.sf_base.specs.stores.Kept.{Opened, text_of}
 use Rattle.sf_format.specs.declared.directive.Directive.{Directive}
@@ -19,28 +19,25 @@ use Rattle.sf_report.specs.declared.outcome.Status.{Status}
 use Rattle.sf_report.specs.declared.outcome.Status.TheVariants.{Done, TooLong}
 use Rattle.sf_run.specs.declared.scanner.Stop.{Stop}
 use Rattle.sf_report.specs.Steps.{StepEnd, Passes, Stores, Misses, Fails}
-use Rattle.sf_report.specs.Runs.{RunReport}
+use Rattle.sf_report.specs.Runs.{RunReport, over}
 use Rattle.sf_report.specs.Machine.{Stage, Skipping, stepped, finished}
 use Rattle.sf_run.specs.Phases.{Shows, ShowsItem, GrowsBy, Brings, end_of, is_failing, slot_closed, slot_in}
 use Rattle.sf_run.specs.Pieces.{IsEnd}
 use Rattle.sf_run.specs.Places.{is_destination, places_left}
-use Rattle.sf_report.specs.Residual.{Tally, stepped_all, one_from, with_used, counted, out_of, by_end, run_of, run_from}
+use Rattle.sf_report.specs.Residual.{Tally, stepped_all, one_from, with_used, counted, out_of, by_end, run_of, run_past, run_from}
 use Rattle.sf_run.specs.Stopping.{is_no_memory}
 use Rattle.sf_run.specs.Standing.{Standing, ShowsFirst, DoesBy, Does, Ends, Follows, Keeps, Stops, TakesAll, Refuses, RefusesIn}
-use Rattle.sf_run.specs.Standing.{Passes as Passed}
+use Rattle.sf_run.specs.Standing.{Passes as Passed, passed_with}
 use Rattle.sf_run.specs.Texts.{AreSound, IsNextSlot, IsSound, closing_text, item_of, opened_for, opened_slot, opened_with}
 use Rattle.sf_run.specs.Texts.{text_begun, text_slot, text_taken}
 use Rattle.sf_report.proofs.Openness.{counted-used}
 use Rattle.sf_report.proofs.Machines.{grows}
 use Rattle.sf_report.proofs.Joined.{one_from-all}
 use Rattle.sf_run.proofs.Columns.{none_begun, some_begun}
+use Rattle.sf_run.proofs.Groups.{drop_at, past_from}
 use Rattle.sf_run.proofs.Pieces.{parted, same_part}
 
 -- ---- the directive at a place
-
--- the rest of a list from an element on
-pub drop_at : {A : Type 0} (xs : List A) (i : ℕ) (x : A) → slice_get xs i ≡ Some x → drop i xs ≡ x ∷ drop (i + 1) xs
-drop_at xs i x h = drop_more xs i x (slice_get_within xs i x h) ∙ ap (λ y. y ∷ drop (i + 1) xs) (get_or_from_slice_get xs i x x h)
 
 all_behind : {A : Type 0} (P : A → Type 0) (xs : List A) (i : ℕ) → AllByRecursion P xs → AllByRecursion P (drop i xs)
 all_behind P xs i h = grind (arith, common_steps)
@@ -89,7 +86,8 @@ shows_fresh ds = grind arith
 ended_part : (k : ℕ) (d : Directive) (ds : List Directive) (q : Stage) (at : ℕ) (t u : Tally) (y z : List ℕ) (f : StepEnd) → u.used ≤ k
     → u ≡ with_used u.used t
     → one_from d q t.used y ≡ record { used = u.used; left = z; end = f }
-    → run_from (Some k) (d ∷ ds) q at t y ≡ by_end f (run_of (Some k) ds (at + 1) (counted d f u) z) (λ status. out_of status at u)
+    → run_from (Some k) (d ∷ ds) q at t y
+    ≡ by_end f (run_past (Some k) ds (at + 1) (over d f) (counted d f u) z) (λ status. out_of status at u)
 ended_part k d ds q at t u y z f le same e = grind arith
 
 -- it would take more than the limit allows
@@ -113,18 +111,22 @@ module _ (ds : List Directive) (p : ℕ) (d : Directive) (at : slice_get ds p �
   module _ (u : Tally) (z : List ℕ) (f : StepEnd) (within : u.used ≤ k) (same : u ≡ with_used u.used t)
       (takes : (q : Stage) → Shows d current q → opened ≡ opened_for d q
       → one_from d q t.used y ≡ record { used = u.used; left = z; end = f }) where
-    ended : report ≡ by_end f (run_of (Some k) (drop (p + 1) ds) (p + 1 + 1) (counted d f u) z) (λ status. out_of status (p + 1) u)
+    ended : report
+        ≡ by_end f (run_past (Some k) (drop (p + 1) ds) (p + 1 + 1) (over d f) (counted d f u) z) (λ status. out_of status (p + 1) u)
     ended = went ∙ ended_part k d (drop (p + 1) ds) does.0 (p + 1) t u y z f within same (takes does.0 shows.0 shows.1)
 
-    pub close_passes : ((status : Status) → f ≡ Fails status → ⊥) → DoesBy None ds (p + 1) phase.Skipping None (counted d f u) k z report
-    close_passes ok = (
-      Skipping,
-      shows_fresh (drop (p + 1) ds),
-      ended ∙ passes f _ _ ok ∙ sym (fresh (Some k) (drop (p + 1) ds) (p + 1 + 1) (counted d f u) z),
-    )
+    pub close_passes : ((status : Status) → f ≡ Fails status → ⊥)
+        → DoesBy None ds (passed_with ds p d f) phase.Skipping None (counted d f u) k z report
+    close_passes ok =
+        let q : ℕ = passed_with ds p d f in (
+          Skipping,
+          shows_fresh (drop q ds),
+          ended ∙ passes f _ _ ok ∙ past_from ds p d at (Some k) f (counted d f u) z
+              ∙ sym (fresh (Some k) (drop q ds) (q + 1) (counted d f u) z),
+        )
 
     pub close_fails : (status : Status) → f ≡ Fails status → report ≡ out_of status (p + 1) u
-    close_fails status e = ended ∙ ap (λ g. by_end g (run_of (Some k) (drop (p + 1) ds) (p + 1 + 1) (counted d f u) z)
+    close_fails status e = ended ∙ ap (λ g. by_end g (run_past (Some k) (drop (p + 1) ds) (p + 1 + 1) (over d f) (counted d f u) z)
         (λ s. out_of s (p + 1) u)) e
 
 slice_get_none : {A : Type 0} (xs : List A) (i : ℕ) → slice_get xs i ≡ None → length xs ≤ i
@@ -265,9 +267,9 @@ passes_follows : (new mid old : Standing) (d : Directive) (f : StepEnd) (y z : L
     → one_from d q old.tally.used y ≡ record { used = mid.tally.used; left = z; end = f }) → Follows new old z y
 passes_follows new mid old d f y z at waits here passes ok takes k report low high does =
     let u : new.tally.used ≡ mid.tally.used = ap (λ (t : Tally). t.used) passes.tally ∙ counted-used d f mid.tally in
-    same_does new None old.directives (old.passed + 1) phase.Skipping None (counted d f mid.tally) k z report
+    same_does new None old.directives (passed_with old.directives old.passed d f) phase.Skipping None (counted d f mid.tally) k z report
     (passes.ended ∙ here.ended ∙ waits) (passes.keeps.directives ∙ here.keeps.directives)
-    (passes.passed ∙ ap (λ n. n + 1) here.passed) passes.phase passes.opened passes.tally
+    (passes.passed ∙ ap₂ (λ l n. passed_with l n d f) here.keeps.directives here.passed) passes.phase passes.opened passes.tally
     (close_passes old.directives old.passed d at old.phase old.opened old.tally k y report
     (waiting old k y report waits does) mid.tally z f (omega (arith, low, u)) here.tally takes ok)
 

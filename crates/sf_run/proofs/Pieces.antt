@@ -25,7 +25,7 @@ use Rattle.sf_format.specs.declared.directive.Conversion.{Conversion}
 use Rattle.sf_format.specs.declared.directive.Directive.{Directive}
 use Rattle.sf_format.specs.declared.directive.Shape.{Shape}
 use Rattle.sf_format.specs.declared.directive.Shape.TheVariants.{Int, Text, Set, Chars, Float, Count}
-use Rattle.sf_format.specs.declared.directive.Directive.TheVariants.{Space, Byte, Percent, Conv}
+use Rattle.sf_format.specs.declared.directive.Directive.TheVariants.{Space, Byte, Percent, Conv, Opens}
 use Rattle.sf_format.specs.Proper.{IsProper, IsProperShape}
 use Rattle.sf_item.specs.declared.item.ItemScan.{ItemScan}
 use Rattle.sf_item.specs.declared.whole.WholeInteger.{WholeInteger}
@@ -170,6 +170,7 @@ stores_anywhere (Conv c) u v b plain h =
 stores_anywhere Space u v b plain h = h
 stores_anywhere (Byte a) u v b plain h = h
 stores_anywhere Percent u v b plain h = h
+stores_anywhere (Opens o) u v b plain h = h
 
 pub answers_behind : (d : Directive) → is_column d ≡ false → (n w : ℕ) (piece : List ℕ) (run : Run) → w ≤ length piece
     → run.before + run.item ≤ length (drop w piece) → stepped_all d Skipping (take w piece) ≡ Some Skipping

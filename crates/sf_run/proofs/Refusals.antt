@@ -1,6 +1,7 @@
 -- Runs for which memory was refused.
 use Rattle.std.proofs.lemmas.Grind.{common_steps}
-use Rattle.std.proofs.Common.{◌≡◌, ℕ, suc, ◌+◌, ◌-◌, ◌<◌, ◌≤◌, ◌&&◌, inl, inr, Bool, true, false, cond, List, [], ◌∷◌, ◌++◌, length, take}
+use Rattle.std.proofs.Common.{zero, ◌≡◌, ℕ, suc, ◌+◌, ◌-◌, ◌<◌, ◌≤◌, ◌&&◌, inl, inr, Bool, true, false, cond, List, [], ◌∷◌, ◌++◌, length}
+use Rattle.std.proofs.Common.{take}
 use Rattle.std.proofs.Common.{drop}
 use Rattle.std.proofs.Common.{Option, Some, get_or}
 use Rattle.std.proofs.Common.{None, is_some, refl, sym, ap, subst, ◌∙◌, arith, true≢false, append_assoc, length-append}
@@ -16,7 +17,7 @@ use Rattle.sf_format.specs.declared.directive.Lead.TheVariants.{Any, Minus, Noth
 use Rattle.sf_format.specs.declared.directive.Shape.{Shape}
 use Rattle.sf_format.specs.declared.directive.Shape.TheVariants.{Int, Text, Set, Chars, Float, Count}
 use Rattle.sf_format.specs.declared.directive.Directive.{Directive}
-use Rattle.sf_format.specs.declared.directive.Directive.TheVariants.{Space, Byte, Percent, Conv}
+use Rattle.sf_format.specs.declared.directive.Directive.TheVariants.{Space, Byte, Percent, Conv, Opens}
 use Rattle.sf_format.specs.Proper.{AreProper}
 use Rattle.sf_item.specs.Tests.{integer_at, matches}
 use Rattle.sf_item.specs.ColumnTests.{column_text, fills}
@@ -31,7 +32,7 @@ use Rattle.sf_report.specs.Limits.{Stores as StoresAt, StoresBy, StoresColumn, S
 use Rattle.sf_report.specs.Machine.{Stage, Skipping, Taken, Item, stepped, finished, number_end, integer_end, real_at, real_end, stored_end}
 use Rattle.sf_report.specs.Machine.{passed_end, item_end, column_end, column_finished, conversion_finished, empty_end, finished_by}
 use Rattle.sf_report.specs.Machine as start
-use Rattle.sf_report.specs.Residual.{Tally, nothing_yet, out_of, by_end, one_from, run_of, stepped_all, with_used}
+use Rattle.sf_report.specs.Residual.{Tally, nothing_yet, out_of, by_end, one_from, run_of, run_past, stepped_all, with_used}
 use Rattle.sf_run.specs.Phases.{Shows}
 use Rattle.sf_run.specs.Standing.{Standing, Keeps, Advances, After, Comes, Does, DoesBy, Follows, Gives, Refuses, RefusesIn, RunsOut}
 use Rattle.sf_run.specs.Standing.{StoresAfter, ran_out, report_by}
@@ -151,9 +152,14 @@ end_fine : (end : StepEnd) (y : RunReport) (f : Status → RunReport) → own_en
     → is_memory_status (by_end end y f).status ≡ false
 end_fine end y f own h same = grind (arith, own_status)
 
+past_fine : (m : Option ℕ) (ds : List Directive) (at k : ℕ) (t : Tally) (x : List ℕ)
+    → is_memory_status (run_past m ds at k t x).status ≡ false
+past_fine m [] at k t x = refl
+past_fine m (d ∷ ds) at zero t x = grind (arith, end_fine, one_own, past_fine m ds)
+past_fine m (d ∷ ds) at (suc k) t x = past_fine m ds (at + 1) k t x
+
 pub run_fine : (m : Option ℕ) (ds : List Directive) (at : ℕ) (t : Tally) (x : List ℕ) → is_memory_status (run_of m ds at t x).status ≡ false
-run_fine m [] at t x = refl
-run_fine m (d ∷ ds) at t x = grind (arith, end_fine, one_own, run_fine m ds)
+run_fine m ds at t x = past_fine m ds at 0 t x
 
 -- a scanner that is after some bytes has not run out
 pub after_fine : (ds : List Directive) (m : ℕ) (s : Standing) (x : List ℕ) → After ds m s x → ran_out s ≡ false
@@ -233,6 +239,7 @@ stores_at (Conv c) b u v j h all = stores_by c c.column h.0 b u v j h.1 h.2 all
 stores_at Space b u v j h all = absurd h
 stores_at (Byte a) b u v j h all = absurd h
 stores_at Percent b u v j h all = absurd h
+stores_at (Opens o) b u v j h all = absurd h
 
 -- ---- the report
 

@@ -8,7 +8,7 @@ use Rattle.sf_format.specs.declared.directive.Directive.{Directive}
 use Rattle.sf_format.specs.declared.layout.Row.{Row}
 use Rattle.sf_format.specs.Layout.{row_of}
 use Rattle.sf_run.specs.Texts.{slot_of}
-use Rattle.sf_run.proofs.Moves.{drop_at}
+use Rattle.sf_run.proofs.Groups.{drop_at}
 
 -- a format has as many rows as directives
 pub as_many : (rows : List Row) (ds all : List Directive) → rows ≡ map row_of all → ds ≡ all → length rows ≡ length ds

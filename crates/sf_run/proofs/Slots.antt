@@ -22,7 +22,7 @@ use Rattle.sf_report.specs.Memory.{capacity_of}
 use Rattle.sf_base.specs.declared.number.Number.{Number}
 use Rattle.sf_format.specs.declared.directive.Conversion.{Conversion}
 use Rattle.sf_format.specs.declared.directive.Directive.{Directive}
-use Rattle.sf_format.specs.declared.directive.Directive.TheVariants.{Space, Byte, Percent, Conv}
+use Rattle.sf_format.specs.declared.directive.Directive.TheVariants.{Space, Byte, Percent, Conv, Opens}
 use Rattle.sf_format.specs.declared.directive.Shape.{Shape}
 use Rattle.sf_format.specs.declared.directive.Shape.TheVariants.{Int, Text, Set, Chars, Float, Count}
 use Rattle.sf_format.specs.Slots.{AreDistinct}
@@ -41,7 +41,7 @@ use Rattle.sf_run.specs.Places.{is_destination}
 use Rattle.sf_run.specs.Texts.{IsNextSlot, closing_text, is_cut, slot_of, slot_of_text, text_slot, opened_slot, slots_in}
 use Rattle.sf_run.specs.Phases.{slot_in}
 use Rattle.sf_run.proofs.Columns.{closing_front, closing_length}
-use Rattle.sf_run.proofs.Moves.{drop_at}
+use Rattle.sf_run.proofs.Groups.{drop_at}
 
 -- ---- the slots of a list of directives
 
@@ -370,10 +370,12 @@ width_before d (phase.Column o s) slot none e h = ap (λ t. Some (column_room t 
 width_before Space phase.Skipping slot none e h = absurd cc
 width_before (Byte b) phase.Skipping slot none e h = absurd cc
 width_before Percent phase.Skipping slot none e h = absurd cc
+width_before (Opens o) phase.Skipping slot none e h = absurd cc
 width_before (Conv c) phase.Skipping slot none e h = conversion_width c slot e h
 width_before Space (phase.Item s) slot none e h = absurd cc
 width_before (Byte b) (phase.Item s) slot none e h = absurd cc
 width_before Percent (phase.Item s) slot none e h = absurd cc
+width_before (Opens o) (phase.Item s) slot none e h = absurd cc
 width_before (Conv c) (phase.Item s) slot none e h = conversion_width c slot e h
 
 -- and of one that has
@@ -449,6 +451,7 @@ no_width : (d : Directive) → text_slot d ≡ None → unwrap_or (stored_width 
 no_width Space none = refl
 no_width (Byte b) none = refl
 no_width Percent none = refl
+no_width (Opens o) none = refl
 no_width (Conv c) none = by c.slot c.shape none
   where
     by : (slot : Option ℕ) (shape : Shape) → slot_of_text shape slot ≡ None

@@ -14,7 +14,9 @@ use Rattle.sf_format.specs.declared.directive.Shape.{Shape}
 use Rattle.sf_format.specs.declared.directive.Shape.TheVariants.{Int, Text, Set, Chars, Float, Count}
 use Rattle.sf_format.specs.declared.directive.Conversion.{Conversion}
 use Rattle.sf_format.specs.declared.directive.Directive.{Directive}
-use Rattle.sf_format.specs.declared.directive.Directive.TheVariants.{Space, Byte, Percent, Conv}
+use Rattle.sf_format.specs.declared.directive.Directive.TheVariants.{Space, Byte, Percent, Conv, Opens}
+use Rattle.sf_format.specs.declared.directive.Literal.{Literal}
+use Rattle.sf_format.specs.declared.directive.Literal.TheVariants as literal
 use Rattle.sf_format.specs.Proper.{IsColumned, IsProper, IsProperShape, TakesColumn}
 use Rattle.sf_item.specs.Matching.{IsInteger, Matches, ShapeMatches}
 use Rattle.sf_item.specs.Scan.{HoldsNumber}
@@ -73,6 +75,12 @@ pub skipping_open : (d : Directive) → IsProper d → counts_bytes d ≡ false 
 skipping_open Space proper other = not_full Space Skipping 32 Skipping (lit< tt) refl
 skipping_open (Byte a) proper other = not_full (Byte a) Skipping a Taken proper (ap (λ v. cond v (Some Taken) None) (same_test a))
 skipping_open Percent proper other = not_full Percent Skipping 37 Taken (lit< tt) refl
+skipping_open (Opens o) proper other = by o.literal refl
+  where
+    by : (l : Literal) → o.literal ≡ l → is_full (Opens o) Skipping ≡ false
+    by (literal.Byte a) e =
+        not_full (Opens o) Skipping a Taken (rw e at proper) (rw e (ap (λ v. cond v (Some Taken) None) (same_test a)))
+    by literal.Percent e = not_full (Opens o) Skipping 37 Taken (lit< tt) (rw e refl)
 skipping_open (Conv c) proper other = false_from_ne_true (is_full (Conv c) Skipping) (item_not_full c proper (has_item c.shape other))
 
 pub count_full : (c : Conversion) → c.column ≡ false → c.shape ≡ Count → is_full (Conv c) Skipping ≡ true

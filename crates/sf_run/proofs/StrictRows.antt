@@ -7,7 +7,7 @@ use Rattle.sf_format.specs.declared.directive.Shape.{Shape}
 use Rattle.sf_format.specs.declared.directive.Shape.TheVariants.{Int, Text, Set, Chars, Float, Count}
 use Rattle.sf_format.specs.declared.directive.Conversion.{Conversion}
 use Rattle.sf_format.specs.declared.directive.Directive.{Directive}
-use Rattle.sf_format.specs.declared.directive.Directive.TheVariants.{Space, Byte, Percent, Conv}
+use Rattle.sf_format.specs.declared.directive.Directive.TheVariants.{Space, Byte, Percent, Conv, Opens}
 use Rattle.sf_format.specs.declared.layout.Row.{Row}
 use Rattle.sf_format.specs.declared.layout.Way.TheVariants as ways
 use Rattle.sf_format.specs.Leads.{is_strict_lead}
@@ -67,4 +67,5 @@ pub strict_text_row : (d : Directive) → (row_of d).way ≡ ways.StrictText →
 strict_text_row Space e = absurd cc
 strict_text_row (Byte b) e = absurd cc
 strict_text_row Percent e = absurd cc
+strict_text_row (Opens o) e = absurd cc
 strict_text_row (Conv c) e = conversion_row c e

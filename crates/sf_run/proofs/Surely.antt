@@ -1,5 +1,6 @@
 -- When a run that begins and passes within a piece is told.
-use Rattle.std.proofs.Common.{◌≡◌, ℕ, zero, suc, ◌+◌, ◌-◌, ◌<◌, ◌≤◌, min, Bool, true, cond, List, [], ◌∷◌, ◌++◌, length, take, drop}
+use Rattle.std.proofs.Common.{◌≡◌, ℕ, zero, suc, ◌+◌, ◌-◌, ◌<◌, ◌≤◌, ◌||◌, min, Bool, true, false, cond, List, [], ◌∷◌, ◌++◌, length}
+use Rattle.std.proofs.Common.{take, drop}
 use Rattle.std.proofs.Common.{Option, Some, None, refl, sym, ap, subst, ◌∙◌, arith, length-append, length-drop}
 use Rattle.std.specs.Prelude.{slice_get}
 use Rattle.std.specs.List.{list_any}
@@ -10,7 +11,7 @@ use Rattle.sf_base.specs.Data.{Assigned, Datum}
 use Rattle.sf_base.specs.stores.Kept.{Kept, texts_in, text_of, Opened, buffer_of}
 use Rattle.sf_format.specs.declared.directive.Directive.{Directive}
 use Rattle.sf_format.specs.Layout.{items_taken, takes_item}
-use Rattle.sf_format.specs.Proper.{AreProper, IsColumned, has_optional, is_optional}
+use Rattle.sf_format.specs.Proper.{AreProper, IsColumned, has_group, has_optional, is_opener, is_optional, more_of}
 use Rattle.sf_report.specs.declared.outcome.Ending.{Ending}
 use Rattle.sf_report.specs.declared.outcome.Status.{Status}
 use Rattle.sf_report.specs.declared.outcome.Status.TheVariants.{Done}
@@ -20,17 +21,18 @@ use Rattle.sf_report.specs.Limits.{RunWithin}
 use Rattle.sf_report.specs.Memory.{capacity_of}
 use Rattle.sf_run.specs.Quick.{IsDoneWithin, IsEndedWithin, IsSure, text_stored}
 use Rattle.sf_run.specs.declared.quick.Missing.{Missing}
-use Rattle.sf_report.specs.Residual.{Part, Tally, by_end, counted, nothing_yet, one_from, out_of, run_of, with_used}
-use Rattle.sf_report.specs.Runs.{RunReport, passed}
+use Rattle.sf_report.specs.Residual.{Part, Tally, by_end, counted, nothing_yet, one_from, out_of, run_of, run_past, with_used}
+use Rattle.sf_report.specs.Runs.{RunReport, over, passed}
 use Rattle.sf_report.specs.Steps.{StepEnd, Passes, Stores, Misses, Fails}
 use Rattle.sf_run.specs.Tallies.{tally_of}
 use Rattle.sf_run.specs.Written.{text_given, texts_by}
 use Rattle.sf_run.specs.Counting.{Counted, Going}
 use Rattle.sf_run.proofs.AtOnce.{one_misses, used_is}
-use Rattle.sf_run.proofs.Moves.{drop_at, sound_at}
+use Rattle.sf_run.proofs.Groups.{drop_at}
+use Rattle.sf_run.proofs.Moves.{sound_at}
 use Rattle.sf_run.specs.Texts.{AreSound}
 use Rattle.sf_report.proofs.Machines.{some_is}
-use Rattle.sf_report.proofs.Openness.{counted-used, uses_more}
+use Rattle.sf_report.proofs.Openness.{counted-used, past_uses_more}
 use Rattle.sf_run.proofs.Refusals.{never_done}
 use Rattle.sf_run.proofs.Slots.{texts-push}
 use Rattle.sf_run.proofs.Writing.{text_after}
@@ -41,10 +43,11 @@ use Rattle.sf_report.proofs.Told.{one_report, run_told}
 texts_counted : (d : Directive) (end : StepEnd) (t : Tally) → texts_in (counted d end t).values ≡ texts_in t.values ++ text_stored end
 texts_counted d end t = grind (arith, append-nil, texts-push)
 
-texts_more : (ds : List Directive) (at : ℕ) (t : Tally) (x : List ℕ)
-    → length (texts_in t.values) ≤ length (texts_in (run_of None ds at t x).values)
-texts_more [] at t x = omega arith
-texts_more (d ∷ ds) at t x = grind (arith, texts_counted, length-append, texts_more ds)
+texts_more : (ds : List Directive) (at k : ℕ) (t : Tally) (x : List ℕ)
+    → length (texts_in t.values) ≤ length (texts_in (run_past None ds at k t x).values)
+texts_more [] at k t x = omega arith
+texts_more (d ∷ ds) at zero t x = grind (arith, texts_counted, length-append, texts_more ds)
+texts_more (d ∷ ds) at (suc k) t x = texts_more ds (at + 1) k t x
 
 -- ---- what is written of a run
 
@@ -55,10 +58,11 @@ by_counted text d (Stores slot v) t = text_after text (Stores slot v) t.values
 by_counted text d Misses t = sym (append-nil (texts_by text t.values))
 by_counted text d (Fails status) t = sym (append-nil (texts_by text t.values))
 
-written_more : (text : Datum → List ℕ) (ds : List Directive) (at : ℕ) (t : Tally) (x : List ℕ)
-    → length (texts_by text t.values) ≤ length (texts_by text (run_of None ds at t x).values)
-written_more text [] at t x = omega arith
-written_more text (d ∷ ds) at t x = grind (arith, by_counted, length-append, written_more text ds)
+written_more : (text : Datum → List ℕ) (ds : List Directive) (at k : ℕ) (t : Tally) (x : List ℕ)
+    → length (texts_by text t.values) ≤ length (texts_by text (run_past None ds at k t x).values)
+written_more text [] at k t x = omega arith
+written_more text (d ∷ ds) at zero t x = grind (arith, by_counted, length-append, written_more text ds)
+written_more text (d ∷ ds) at (suc k) t x = written_more text ds (at + 1) k t x
 
 -- ---- what a run counts
 
@@ -72,10 +76,11 @@ counted_most : (d : Directive) (end : StepEnd) (t : Tally) → (counted d end t)
 counted_most d end t = grind arith
 
 -- no more conversions than there are
-converted_most : (ds : List Directive) (at : ℕ) (t : Tally) (x : List ℕ)
-    → (run_of None ds at t x).converted ≤ t.converted + items_taken ds
-converted_most [] at t x = omega arith
-converted_most (d ∷ ds) at t x = grind (arith, counted_most, items-cons, converted_most ds)
+converted_most : (ds : List Directive) (at k : ℕ) (t : Tally) (x : List ℕ)
+    → (run_past None ds at k t x).converted ≤ t.converted + items_taken ds
+converted_most [] at k t x = omega arith
+converted_most (d ∷ ds) at zero t x = grind (arith, counted_most, items-cons, converted_most ds)
+converted_most (d ∷ ds) at (suc k) t x = let rest = converted_most ds (at + 1) k t x in omega (arith, rest, items-cons d ds)
 
 -- ---- the next directive of a run
 
@@ -88,19 +93,21 @@ record FirstOf (d : Directive) (t : Tally) (x : List ℕ) (r : RunReport) : Type
 
 -- the rest of a run after its first directive, which ends so
 abbrev behind : Directive → List Directive → ℕ → Tally → Part → StepEnd → RunReport
-behind d ds at t p end = by_end end (run_of None ds (at + 1) (counted d end (with_used p.used t)) p.left)
+behind d ds at t p end = by_end end (run_past None ds (at + 1) (over d end) (counted d end (with_used p.used t)) p.left)
     (λ status. out_of status at (with_used p.used t))
 
 -- where all are counted that a run may count, its first directive isn't missing
-none_missing : (d : Directive) → IsColumned d → (ds : List Directive) (at : ℕ) (t : Tally) (x : List ℕ)
+none_missing : (d : Directive) → IsColumned d → is_opener d ≡ false → (ds : List Directive) (at : ℕ) (t : Tally) (x : List ℕ)
     → (is_optional d ≡ true → (run_of None (d ∷ ds) at t x).converted ≡ t.converted + items_taken (d ∷ ds))
     → (one_from d Skipping t.used x).end ≡ Misses → ⊥
-none_missing d sound ds at t x whole is =
+none_missing d sound alone ds at t x whole is =
     let p : Part = one_from d Skipping t.used x in
-    let (optional, takes) = one_misses d sound Skipping t.used x is in
+    let own = one_misses d sound Skipping t.used x is in
+    let optional = own.0 in
+    let takes = own.1 alone in
     let all = whole optional in
     let same = ap (λ (r : RunReport). r.converted) (ap (behind d ds at t p) is) in
-    let most = converted_most ds (at + 1) (with_used p.used t) p.left in
+    let most = converted_most ds (at + 1) (more_of d) (with_used p.used t) p.left in
     let more = items-cons d ds ∙ ap (λ v. one_if v + items_taken ds) takes in
     omega (arith, all, same, most, more)
 
@@ -108,36 +115,37 @@ first_of : (d : Directive) (ds : List Directive) (at : ℕ) (t : Tally) (x : Lis
 first_of d ds at t x = by_case (one_from d Skipping t.used x).end refl
   where
     more : (end : StepEnd) → (one_from d Skipping t.used x).end ≡ end
-        → behind d ds at t (one_from d Skipping t.used x) end ≡ run_of None ds (at + 1)
+        → behind d ds at t (one_from d Skipping t.used x) end ≡ run_past None ds (at + 1) (over d end)
         (counted d end (with_used (one_from d Skipping t.used x).used t)) (one_from d Skipping t.used x).left
         → FirstOf d t x (run_of None (d ∷ ds) at t x)
     more end is same =
         let p : Part = one_from d Skipping t.used x in
         let u : Tally = counted d end (with_used p.used t) in
-        let whole : run_of None (d ∷ ds) at t x ≡ run_of None ds (at + 1) u p.left = ap (behind d ds at t p) is ∙ same in
-        let used' : (run_of None (d ∷ ds) at t x).used ≡ (run_of None ds (at + 1) u p.left).used = ap (λ (r : RunReport). r.used) whole in
-        let texts' : length (texts_in (run_of None (d ∷ ds) at t x).values) ≡ length (texts_in (run_of None ds (at + 1) u p.left).values) =
+        let whole : run_of None (d ∷ ds) at t x ≡ run_past None ds (at + 1) (over d end) u p.left = ap (behind d ds at t p) is ∙ same in
+        let rest : RunReport = run_past None ds (at + 1) (over d end) u p.left in
+        let used' : (run_of None (d ∷ ds) at t x).used ≡ rest.used = ap (λ (r : RunReport). r.used) whole in
+        let texts' : length (texts_in (run_of None (d ∷ ds) at t x).values) ≡ length (texts_in rest.values) =
         ap (λ (r : RunReport). length (texts_in r.values)) whole in
         let same' : length (texts_in u.values) ≡ length (texts_in t.values ++ text_stored end) =
         ap length (texts_counted d end (with_used p.used t)) in
         let long = length-append (texts_in t.values) (text_stored end) in
         let own : length (text_stored p.end) ≡ length (text_stored end) = ap (λ (e : StepEnd). length (text_stored e)) is in
         let on = counted-used d end (with_used p.used t) in
-        let later = uses_more ds (at + 1) u p.left in
-        let longer = texts_more ds (at + 1) u p.left in
+        let later = past_uses_more ds (at + 1) (over d end) u p.left in
+        let longer = texts_more ds (at + 1) (over d end) u p.left in
         record {
           early = omega (arith, used', on, later);
           texts = omega (arith, texts', same', long, own, longer);
           written = λ text.
               let all : length (texts_by text (run_of None (d ∷ ds) at t x).values)
-              ≡ length (texts_by text (run_of None ds (at + 1) u p.left).values) =
+              ≡ length (texts_by text (run_past None ds (at + 1) (over d end) u p.left).values) =
               ap (λ (r : RunReport). length (texts_by text r.values)) whole in
               let with : length (texts_by text u.values) ≡ length (texts_by text t.values ++ text_given text end) =
               ap length (by_counted text d end (with_used p.used t)) in
               let both = length-append (texts_by text t.values) (text_given text end) in
               let one : length (text_given text p.end) ≡ length (text_given text end) =
               ap (λ (e : StepEnd). length (text_given text e)) is in
-              let more = written_more text ds (at + 1) u p.left in
+              let more = written_more text ds (at + 1) (over d end) u p.left in
               omega (arith, all, with, both, one, more);
         }
 
@@ -165,23 +173,34 @@ first_of d ds at t x = by_case (one_from d Skipping t.used x).end refl
     by_case (Fails status) is = over status is
 
 -- where the run is Done, and counts all that it may count, it passes
-first_passes : (d : Directive) → IsColumned d → (ds : List Directive) (at : ℕ) (t : Tally) (x : List ℕ)
+first_passes : (d : Directive) → IsColumned d → is_opener d ≡ false → (ds : List Directive) (at : ℕ) (t : Tally) (x : List ℕ)
     → (run_of None (d ∷ ds) at t x).status ≡ Done
     → (is_optional d ≡ true → (run_of None (d ∷ ds) at t x).converted ≡ t.converted + items_taken (d ∷ ds))
     → passed (one_from d Skipping t.used x).end ≡ true
-first_passes d sound ds at t x done whole = by_case (one_from d Skipping t.used x).end refl
+first_passes d sound alone ds at t x done whole = by_case (one_from d Skipping t.used x).end refl
   where
     by_case : (end : StepEnd) → (one_from d Skipping t.used x).end ≡ end → passed (one_from d Skipping t.used x).end ≡ true
-    by_case Misses is = absurd (none_missing d sound ds at t x whole is)
+    by_case Misses is = absurd (none_missing d sound alone ds at t x whole is)
     by_case Passes is = ap passed is
     by_case (Stores slot v) is = ap passed is
     by_case (Fails status) is = absurd (never_done d Skipping t.used x status is
         (ap (λ (r : RunReport). r.status) (sym (ap (behind d ds at t (one_from d Skipping t.used x)) is)) ∙ done))
 
+or_false : (a b : Bool) → (a || b) ≡ false → (a ≡ false) × (b ≡ false)
+or_false true b e = absurd cc
+or_false false b e = (refl, e)
+
 optional_at : (ds : List Directive) (p : ℕ) (d : Directive) → slice_get ds p ≡ Some d → is_optional d ≡ true → has_optional ds ≡ true
 optional_at [] p d at is = absurd cc
 optional_at (e ∷ ds) zero d at is = or_left (is_optional e) (list_any is_optional ds) (ap is_optional (some_is e d at) ∙ is)
 optional_at (e ∷ ds) (suc p) d at is = or_right (is_optional e) (list_any is_optional ds) (optional_at ds p d at is)
+
+-- where no directive opens a group, this one doesn't
+alone_at : (ds : List Directive) (p : ℕ) (d : Directive) → slice_get ds p ≡ Some d → has_group ds ≡ false → is_opener d ≡ false
+alone_at [] p d at none = absurd cc
+alone_at (e ∷ ds) zero d at none =
+    ap is_opener (sym (some_is e d at)) ∙ (or_false (is_opener e) (list_any is_opener ds) none).0
+alone_at (e ∷ ds) (suc p) d at none = alone_at ds p d at (or_false (is_opener e) (list_any is_opener ds) none).1
 
 -- those that take an item are among the first so many, or after them
 items_split : (ds : List Directive) (p : ℕ) → items_taken ds ≡ items_taken (take p ds) + items_taken (drop p ds)
@@ -236,12 +255,13 @@ next_at ds front rest p d t kept capacity at h early fits roomy =
 passes_at : (ds : List Directive) (front rest : List ℕ) (p : ℕ) (d : Directive) (t : code.Tally) (kept : Kept) → IsColumned d
     → slice_get ds p ≡ Some d
     → Going ds front p t kept → (run_of None ds 1 nothing_yet (front ++ rest)).status ≡ Done → t.converted ≡ items_taken (take p ds)
-    → (has_optional ds ≡ true → (run_of None ds 1 nothing_yet (front ++ rest)).converted ≡ items_taken ds)
+    → has_group ds ≡ false → (has_optional ds ≡ true → (run_of None ds 1 nothing_yet (front ++ rest)).converted ≡ items_taken ds)
     → passed (one_from d Skipping t.used (drop t.used front ++ rest)).end ≡ true
-passes_at ds front rest p d t kept sound at h done counts all =
+passes_at ds front rest p d t kept sound at h done counts alone all =
     let u : Tally = tally_of t kept.values in
     let whole = whole_at ds front rest p d t kept at h in
-    first_passes d sound (drop (p + 1) ds) (p + 1) u (drop t.used front ++ rest) (sym (ap (λ (r : RunReport). r.status) whole) ∙ done)
+    first_passes d sound (alone_at ds p d at alone) (drop (p + 1) ds) (p + 1) u (drop t.used front ++ rest)
+    (sym (ap (λ (r : RunReport). r.status) whole) ∙ done)
     (λ is. sym (ap (λ (r : RunReport). r.converted) whole) ∙ all (optional_at ds p d at is) ∙ items_split ds p
     ∙ ap (λ n. n + items_taken (drop p ds)) (sym counts) ∙ ap (λ l. t.converted + items_taken l) (drop_at ds p d at))
 
@@ -294,9 +314,9 @@ next_of ds proper limit most n piece front rest p d missing kept capacity at is 
 pub next_passes : (ds : List Directive) → AreSound ds → (limit most n : ℕ) (piece front rest : List ℕ) (p : ℕ) (d : Directive)
     (kept : Kept) (capacity : ℕ) → slice_get ds p ≡ Some d → front ≡ take most piece
     → Counted ds front rest p (record { assigned = 0; converted = 0 }) kept
-    → n ≡ length front - length rest → IsDoneWithin ds limit piece capacity
+    → n ≡ length front - length rest → has_group ds ≡ false → IsDoneWithin ds limit piece capacity
     → passed (one_from d Skipping n (rest ++ drop most piece)).end ≡ true
-next_passes ds sound limit most n piece front rest p d kept capacity at is h begins done =
+next_passes ds sound limit most n piece front rest p d kept capacity at is h begins alone done =
     let same = on_front ds sound.0 limit most piece front capacity is (ended_of done) in
     let here : h.tally.used ≡ n = used_is ds front rest p (record { assigned = 0; converted = 0 }) kept h ∙ sym begins in
     let counts = h.converted in
@@ -304,7 +324,7 @@ next_passes ds sound limit most n piece front rest p d kept capacity at is h beg
     (subst (λ y. passed (one_from d Skipping h.tally.used (y ++ drop most piece)).end ≡ true) (sym h.rest)
     (passes_at ds front (drop most piece) p d h.tally kept (sound_at ds p d sound at).1 at h.going (ap (λ (r : RunReport). r.status) same
     ∙ done.done)
-    (omega (arith, counts)) (λ is. ap (λ (r : RunReport). r.converted) same ∙ done.whole is)))
+    (omega (arith, counts)) alone (λ is. ap (λ (r : RunReport). r.converted) same ∙ done.whole is)))
 
 pub sure_next : (ds : List Directive) → AreProper ds → (limit most n : ℕ) (piece front rest : List ℕ) (p : ℕ) (d : Directive)
     (missing : Missing) (kept : Kept) (capacity : ℕ) → slice_get ds p ≡ Some d

@@ -40,7 +40,8 @@ use Rattle.sf_report.proofs.Machines.{some_is, can_take_one, IsReal, item_byte, 
 use Rattle.sf_run.proofs.Columns.{column_is_full, column_takes, stage_begun, stepped_plain}
 use Rattle.sf_run.proofs.FloatTexts.{float_alike}
 use Rattle.sf_run.proofs.Coming.{came, item_of_cut, text_of_cut}
-use Rattle.sf_run.proofs.Moves.{drop_at, proper_at, ended_does, waiting, byte_took, byte_past}
+use Rattle.sf_run.proofs.Groups.{drop_at}
+use Rattle.sf_run.proofs.Moves.{proper_at, ended_does, waiting, byte_took, byte_past}
 use Rattle.sf_report.proofs.Openness.{uses_within, within_limit, run_not_too_long, over_is_too_long, rest_too_long_at, rest_uses_nothing}
 use Rattle.sf_report.proofs.Told.{run_told, told_exists, told_is, uses_is, uses_from, within_met, met_within}
 

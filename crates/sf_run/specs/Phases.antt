@@ -94,6 +94,11 @@ abbrev pub is_missing : Finished → Bool
 is_missing finish.Misses = true
 is_missing _ = false
 
+-- of a directive that may be missing: it is, where it fails
+abbrev pub or_missing : Finished → Finished
+or_missing (finish.Fails status) = finish.Misses
+or_missing end = end
+
 abbrev pub is_failing : Finished → Bool
 is_failing (finish.Fails status) = true
 is_failing _ = false

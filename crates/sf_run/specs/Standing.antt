@@ -1,17 +1,17 @@
 -- Where a run stands, and of what input.
 use Rattle.std.specs.Prelude.{ℕ, suc, ◌+◌, ◌-◌, ◌≡◌, ◌<◌, ◌≤◌, Bool, true, false, List, [], ◌∷◌, ◌++◌, length, take, drop, slice_get}
-use Rattle.std.specs.Prelude.{Option, Some, None, IfNone, is_some}
+use Rattle.std.specs.Prelude.{Option, Some, None, IfNone, is_some, min}
 use Rattle.sf_base.specs.stores.Kept.{Opened}
 use Rattle.sf_format.specs.declared.directive.Conversion.{Conversion}
 use Rattle.sf_format.specs.declared.directive.Directive.{Directive}
 use Rattle.sf_format.specs.declared.directive.Directive.TheVariants.{Conv}
-use Rattle.sf_format.specs.Proper.{AreColumned, AreProper, IsProper}
+use Rattle.sf_format.specs.Proper.{AreColumned, AreProper, IsProper, more_of}
 use Rattle.sf_run.specs.declared.directive.Phase.{Phase}
 use Rattle.sf_run.specs.declared.directive.Phase.TheVariants.{Skipping}
 use Rattle.sf_report.specs.declared.outcome.Ending.{Ending}
 use Rattle.sf_report.specs.declared.outcome.Status.TheVariants.{TooLong, NoMemory}
 use Rattle.sf_run.specs.declared.scanner.Stop.{Stop}
-use Rattle.sf_report.specs.Steps.{StepEnd, Fails, IsSkipBefore}
+use Rattle.sf_report.specs.Steps.{StepEnd, Misses, Fails, IsSkipBefore}
 use Rattle.sf_report.specs.Runs.{RunReport, Ran, assigned, converted, used, values}
 use Rattle.sf_report.specs.Limits.{IsCut, RunTold, TellsWithin}
 use Rattle.sf_report.specs.Computed.{ran_of}
@@ -94,11 +94,16 @@ Advances new old y n = (x : List ℕ) → Comes old x y → new.ended ≡ None �
 
 -- ---- moves
 
+-- how many directives have passed with this one, which ends so after as many others: it, and those that are missing with it
+abbrev pub passed_with : List Directive → ℕ → Directive → StepEnd → ℕ
+passed_with ds passed d Misses = min (passed + 1 + more_of d) (length ds)
+passed_with ds passed d end = passed + 1
+
 -- the directive under way has passed with this end
 pub record Passes (new old : Standing) (d : Directive) (end : StepEnd) : Type 0 where
   pub keeps : Keeps new old
   pub ended : new.ended ≡ old.ended
-  pub passed : new.passed ≡ old.passed + 1
+  pub passed : new.passed ≡ passed_with old.directives old.passed d end
   pub phase : new.phase ≡ Skipping
   pub opened : new.opened ≡ None
   pub tally : new.tally ≡ counted d end old.tally

@@ -1,9 +1,9 @@
 -- Runs whose values are written as they are read.
-use Rattle.std.specs.Prelude.{◌≡◌, ◌≢◌, ℕ, ◌+◌, ◌<◌, ◌≤◌, true, List, [], ◌∷◌, ◌++◌, length, drop}
+use Rattle.std.specs.Prelude.{◌≡◌, ◌≢◌, ℕ, ◌+◌, ◌<◌, ◌≤◌, true, false, List, [], ◌∷◌, ◌++◌, length, drop}
 use Rattle.std.specs.List.{flat_map}
 use Rattle.sf_base.specs.Data.{Assigned, Datum}
 use Rattle.sf_format.specs.declared.directive.Directive.{Directive}
-use Rattle.sf_format.specs.Proper.{slots_of}
+use Rattle.sf_format.specs.Proper.{has_group, slots_of}
 use Rattle.sf_report.specs.declared.outcome.Ending.{Ending}
 use Rattle.sf_report.specs.Limits.{RunWithin}
 use Rattle.sf_report.specs.Machine.{Skipping}
@@ -91,9 +91,10 @@ pub record IsWrittenSurely (text : Datum → List ℕ) (d : Directive) (n : ℕ)
   pub fits : length (text_given text (one_from d Skipping n (piece ++ after)).end) ≤ room
 
 -- The run on the rest is Done before a byte of it, or one that the limit allows, is lacking, and no item of it is missing. It used a
--- byte and has a value, and the room has the texts of its values, and so many bytes more.
+-- byte and has a value, and the room has the texts of its values, and so many bytes more. The format has no group.
 pub record CanFollow (text : Datum → List ℕ) (spare : ℕ) (ds : List Directive) (limit : ℕ) (rest : List ℕ) (room : ℕ) : Type 0 where
   pub capacity : ℕ
+  pub apart : has_group ds ≡ false
   pub run : IsDoneWithin ds limit rest capacity
   pub some : 0 < run.report.used
   pub valued : run.report.values ≢ []

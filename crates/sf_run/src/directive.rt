@@ -36,7 +36,7 @@ ghost use Rattle.sf_run.specs.Texts.{IsNextSlot, text_begun, text_slot};
 ghost use Rattle.sf_run.specs.Holding.{FallsBy, left_before};
 ghost use Rattle.sf_run.specs.Phases.{ShowsItem, Shows, CanAll, IsNumberGiven, end_of, is_failing, is_memory_failure};
 ghost use Rattle.sf_run.specs.Phases.{is_in_column, stage_of};
-ghost use Rattle.sf_run.specs.Phases.{is_missing, passed_number, slot_closed, slot_given, slot_in};
+ghost use Rattle.sf_run.specs.Phases.{is_missing, or_missing, passed_number, slot_closed, slot_given, slot_in};
 ghost use Rattle.sf_run.specs.Pieces.{Answers, EndsAt, EndsAtOnce, EndsWithAll, IsEnd, IsEndIn, IsEndOf, IsNumberRow};
 ghost use Rattle.sf_run.specs.Pieces.{IsSetItem, IsTextRow, StaysAt, Suits, run_of};
 ghost use Rattle.sf_run.specs.Quick.{IsSure};
@@ -45,7 +45,9 @@ ghost use Rattle.sf_run.specs.Stopping.{is_memory_status};
 use crate::number::{decimal_real, number_of};
 use sf_base::{Kind, Number, Real, digit_value, is_space, space_run, trimmed_end};
 use sf_float_read::numeral_within;
-use sf_format::{Base, Conversion, Directive, Lead, Numeral, Row, ScanFormat, Shape};
+use sf_format::{
+    Base, Conversion, Directive, Lead, Literal, Numeral, Opener, Row, ScanFormat, Shape,
+};
 use sf_item::{
     ColumnScan, ItemEnd, ItemScan, WholeInteger, characters_item, decimal_within, hex_within,
     members_item, text_item, until_item, whole_auto, whole_decimal, whole_hex,
@@ -497,6 +499,7 @@ pub(crate) fn finish(directive: &Directive, phase: Phase<'_>, used: u32) -> Fini
         Directive::Space => Finished::Passes,
         Directive::Byte(_) | Directive::Percent => Finished::Fails(Status::InputFailure),
         Directive::Conv(conversion) => finish_conversion(conversion, phase, used),
+        Directive::Opens(_) => Finished::Misses,
     }
 }
 
@@ -868,6 +871,34 @@ fn run_percent<'f>(piece: &[u8]) -> Run<'f>
     behind(before, run_byte(b'%', rest))
 }
 
+/// The same answer, where the directive is missing if it fails.
+fn or_missing<'f>(run: Run<'f>) -> Run<'f>
+    ensures { result ≡ record run.entry { ends = option_map or_missing run.entry.ends } }
+{
+    match run.ends {
+        Some(Finished::Fails(_)) => Run {
+            before: run.before,
+            item: run.item,
+            phase: run.phase,
+            ends: Some(Finished::Misses),
+        },
+        _ => run,
+    }
+}
+
+/// A literal that opens a group: where its byte doesn't stand next, it is missing.
+#[inline(never)]
+fn run_opener<'f>(opener: Opener, piece: &[u8]) -> Run<'f>
+    ensures answers { (n : ℕ) → Answers (directive.Opens opener) Skipping n piece.now result }
+    ensures suits { Suits (directive.Opens opener) phase.Skipping piece.now result }
+    ensures phase { result.phase ≡ phase.Skipping }
+{
+    match opener.literal {
+        Literal::Byte(due) => or_missing(run_byte(due, piece)),
+        Literal::Percent => or_missing(run_percent(piece)),
+    }
+}
+
 /// Hands the directive, which has come so far, the piece, which comes so many bytes into the run.
 #[inline(always)]
 pub(crate) fn run_on<'f>(
@@ -886,6 +917,7 @@ pub(crate) fn run_on<'f>(
         Directive::Byte(due) => run_byte(*due, piece),
         Directive::Percent => run_percent(piece),
         Directive::Conv(conversion) => run_conversion(conversion, phase, piece, used),
+        Directive::Opens(opener) => run_opener(*opener, piece),
     }
 }
 
@@ -1334,7 +1366,7 @@ fn seen_at_once(directive: &Directive, piece: &[u8]) -> Option<Ended>
                 finished: ended.finished,
             })
         }
-        Directive::Space | Directive::Percent => None,
+        Directive::Space | Directive::Percent | Directive::Opens(_) => None,
     }
 }
 

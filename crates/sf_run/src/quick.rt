@@ -1,11 +1,12 @@
 //! Runs that begin and pass within a piece of the input, read at once.
-ghost use Rattle.std.specs.Prelude.{◌≡◌, ◌≢◌, ◌<◌, ◌≤◌, ◌+◌, ◌-◌, ◌^◌, ◌++◌, ℕ, List, length, slice_get, take, drop};
+ghost use Rattle.std.specs.Prelude.{suc, ◌≡◌, ◌≢◌, ◌<◌, ◌≤◌, ◌+◌, ◌-◌, ◌^◌, ◌++◌, ℕ, List, length, slice_get, take};
+ghost use Rattle.std.specs.Prelude.{drop};
 ghost use Rattle.std.specs.Prelude.{None, Some, IfErr, IfOk, IfSome, IsNone, IsSome, is_some, if◌then◌else◌};
 ghost use Rattle.sf_format.specs.declared.directive.Directive.{Directive};
 ghost use Rattle.sf_base.specs.Data.{Assigned};
 ghost use Rattle.sf_base.specs.stores.Kept.{buffer_of, nothing_kept};
 ghost use Rattle.sf_format.specs.Layout.{assigns_item, items_assigned, items_taken, row_of};
-ghost use Rattle.sf_format.specs.Proper.{destinations_of};
+ghost use Rattle.sf_format.specs.Proper.{destinations_of, more_of};
 ghost use Rattle.sf_report.specs.declared.outcome.Ending.{Ending};
 ghost use Rattle.sf_report.specs.declared.outcome.Status.TheVariants as statuses;
 ghost use Rattle.sf_report.specs.Limits.{RunWithin};
@@ -74,23 +75,30 @@ struct Place {
 }
 
 impl Missing {
-    /// With the item of this directive.
+    /// With the items of these directives.
     #[inline(always)]
-    fn with(self, directive: &Directive) -> Missing
-        requires assigned { self.assigned < 2 ^ 8 - 1 }
-        requires converted { self.converted < 2 ^ 16 - 1 }
-        ensures assigned { result.assigned ≡ self.assigned + (if is_some (slot_of directive.now) then 1 else 0) }
-        ensures converted { result.converted ≡ self.converted + 1 }
+    fn with(self, directives: &[Directive]) -> Missing
+        requires short { length directives.now ≤ 4096 }
+        requires few { items_assigned directives.now ≤ 32 }
+        requires assigned { self.assigned + items_assigned directives.now < 2 ^ 8 }
+        requires converted { self.converted + items_taken directives.now < 2 ^ 16 }
+        ensures assigned { result.assigned ≡ self.assigned + items_assigned directives.now }
+        ensures converted { result.converted ≡ self.converted + items_taken directives.now }
     {
-        let assigned = match directive {
-            Directive::Conv(conversion) if conversion.slot.is_some() => self.assigned + 1,
-            _ => self.assigned,
-        };
         Missing {
-            assigned,
-            converted: self.converted + 1,
+            assigned: self.assigned + items_assigned(directives),
+            converted: self.converted + items_taken(directives),
         }
     }
+}
+
+/// Those of the directives that are missing with the first of them, which is this one, and may be.
+fn missed<'d>(first: &Directive, directives: &'d [Directive]) -> &'d [Directive]
+    ensures { result.now ≡ take (suc (more_of first.now)) directives.now }
+{
+    let count = directives.len().min(first.more() as usize + 1);
+    let (missed, _) = directives.split_at(count);
+    missed
 }
 
 /// Gives a store without an opened text what a directive gives that ends so within the piece. Answers whether that is
@@ -515,15 +523,21 @@ fn run_rest<S: Store>(
         let (_, rest) = front.split_at(come.used);
         let passage = pass_whole(store, directive, rest, come.used as u32)?;
         let used = come.used + passage.taken;
+        let mut ended = 1;
         match passage.end {
             PassageEnd::Passes => {}
-            PassageEnd::Misses => missing = missing.with(directive),
+            PassageEnd::Misses => {
+                let (_, others) = directives.split_at(at);
+                let missed = missed(directive, others);
+                missing = missing.with(missed);
+                ended = missed.len();
+            }
             PassageEnd::Fails(status) => {
                 return Some(failed(format, at, missing, used as u32, status));
             }
         }
         let next = Place {
-            left: come.left - 1,
+            left: come.left - ended,
             used,
         };
         come = run_rows(store, format, front, next);

@@ -206,14 +206,14 @@ impl<'f, S: Store> Scanner<'f, S> {
         self.phase = Phase::Skipping;
     }
 
-    /// The directive under way is missing, and stores nothing.
+    /// The directive under way is missing, and so are those that are missing with it: they store nothing.
     fn pass_over(&mut self, directive: &Directive)
         requires current { slice_get self.old.directives.now self.old.passed ≡ Some directive.now }
         requires no_text { slot_in self.old.phase ≡ None }
         ensures { Passes (standing self.new) (standing self.old) directive.now StepEnd.Misses }
     {
-        let _directive = directive;
-        self.passed += 1;
+        let passed = self.passed + 1 + directive.more() as usize;
+        self.passed = passed.min(self.directives.len());
         self.phase = Phase::Skipping;
     }
 

@@ -24,8 +24,8 @@ pub(crate) fn is_conversion(directive: &Directive) -> bool
     ensures item { result ≡ takes_item directive.now }
 {
     match directive {
-        Directive::Space | Directive::Byte(_) | Directive::Percent => false,
         Directive::Conv(conversion) => !matches!(conversion.shape, Shape::Count),
+        _ => false,
     }
 }
 

@@ -1,10 +1,10 @@
 //! Runs that begin and pass within a piece of the input, read at once, whose values are written as they are read.
 ghost use Rattle.std.specs.Prelude.{◌≡◌, ◌≢◌, ◌↔◌, ◌<◌, ◌≤◌, ◌+◌, ◌-◌, ◌++◌, ℕ, List, [], length, slice_get, take};
-ghost use Rattle.std.specs.Prelude.{drop, true, Some, IfSome, IsSome};
+ghost use Rattle.std.specs.Prelude.{drop, true, false, Some, IfSome, IsSome};
 ghost use Rattle.sf_base.specs.Data.{Assigned, Bytes, Datum, Real as RealOf, datum_of_number};
 ghost use Rattle.sf_format.specs.declared.directive.Directive.{Directive};
 ghost use Rattle.sf_format.specs.Layout.{row_of};
-ghost use Rattle.sf_format.specs.Proper.{AreInOrder};
+ghost use Rattle.sf_format.specs.Proper.{AreInOrder, has_group};
 ghost use Rattle.sf_report.specs.Runs.{passed};
 ghost use Rattle.sf_report.specs.Steps.{StepEnd};
 ghost use Rattle.sf_run.specs.Phases.{IsNumberGiven, end_of};
@@ -319,7 +319,8 @@ fn write_values<W: ValueWriter>(
     ensures run { IfSome result (λ run. IsWritten W.text format.now limit piece.now run.used (take run.end room.new)) }
     ensures used { IfSome result (λ run. run.used ≤ length piece.now) }
     ensures place { IfSome result (λ run. run.end ≤ length room.new) }
-    ensures answers { (capacity : ℕ) (done : IsDoneWithin format.now limit piece.now capacity)
+    ensures answers { has_group format.now ≡ false
+        → (capacity : ℕ) (done : IsDoneWithin format.now limit piece.now capacity)
         → length (texts_by W.text done.report.values) + W.spare ≤ length room.old → IsSome result }
 {
     let most = (limit as usize).min(piece.len());

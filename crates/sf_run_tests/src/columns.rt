@@ -103,6 +103,7 @@ fn is_column(row: &Row) -> Result<(), Fail> {
         width: Some(4),
         slot: None,
         optional: false,
+        opens: None,
         column: true,
     };
     let full = before.saturating_add(*count) == 4;

@@ -68,6 +68,7 @@ fn conversion_of(shape: Shape, width: Option<u16>) -> Conversion
         width,
         slot: None,
         optional: false,
+        opens: None,
         column: false,
     }
 }

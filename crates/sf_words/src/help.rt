@@ -135,7 +135,7 @@ white space or none, %% a percent sign, and any other text itself.
 
   N$          the place of the value: '%2$d %1$d'          1
   *           drops what it takes: '%*s'                   1
-  ?           what may be missing: '%d,%?d'                3
+  ?           what may be missing: '%d,%?d'                3    %?(,%d%): as one
   =           a column of WIDTH bytes, blanks too: '%=8d'  3
   !           no space, plus or 0x before it: '%!d'        3
   WIDTH       the most bytes that it takes: '%3d'          1

@@ -1,7 +1,7 @@
 -- What is said behind the line of a fault, where the words ask for more.
-use Rattle.std.specs.Prelude.{◌≡◌, ◌⊎◌, ◌-◌, ◌++◌, ℕ, Bool, true, false, List, [], ◌∷◌, Option, Some, None, Ok, Err, codes, map, option_map}
+use Rattle.std.specs.Prelude.{◌≡◌, ◌⊎◌, ◌++◌, ℕ, Bool, true, false, List, [], ◌∷◌, Option, Some, None, Ok, Err, codes, map, option_map}
 use Rattle.std.specs.Prelude.{slice_get, string_bytes, unwrap_or}
-use Rattle.std.specs.Option.{option_and_then, option_map_or}
+use Rattle.std.specs.Option.{option_and_then}
 use Rattle.sf_format.specs.declared.directive.Directive.{Directive}
 use Rattle.sf_format.specs.declared.directive.Profile.{Profile}
 use Rattle.sf_format.specs.declared.fault.FormatFault.{FormatFault}
@@ -37,7 +37,7 @@ use Rattle.sf_arguments.specs.declared.argument_fault.ArgumentFault.{ArgumentFau
 use Rattle.sf_arguments.specs.declared.argument_fault.ArgumentFault.TheVariants as argument
 use Rattle.sf_arguments.specs.Escapes.{IsBadEscape, Unescapes}
 use Rattle.sf_arguments.specs.answer.Answers.{IsUnpaired}
-use Rattle.sf_messages.specs.shown.Shown.{directive_text}
+use Rattle.sf_messages.specs.shown.Shown.{shown_at}
 
 -- ---- the words of formats
 
@@ -77,10 +77,6 @@ SaysFormat fault word notes =
     ((text : List ℕ) × Unescapes word text × (notes ≡ format_notes text fault))
     ⊎ ((at : ℕ) × IsBadEscape word at × (notes ≡ []))
 
--- how the directive with this number is shown, if there is one
-abbrev pub shown_at : List Directive → ℕ → List ℕ
-shown_at ds number = option_map_or directive_text (slice_get ds (number - 1)) []
-
 -- how it is told: its own text, as it stands in the format, between quotes, and how it is shown
 abbrev pub told_at : List Piece → List Directive → ℕ → List ℕ
 told_at pieces ds number = quoted (unwrap_or (text_at number pieces) []) ++ (codes ", " ++ shown_at ds number)
@@ -113,7 +109,7 @@ pub record TellsFailed (strict : Bool) (profile : Profile) (number : ℕ) (outco
   pub ds : List Directive
   pub format : IsFormat (Scan profile) pieces
   pub text_is : text ≡ text_of pieces
-  pub mean : MeanAll (Means profile) 1 pieces own
+  pub mean : MeanAll (Means profile) false 1 pieces own
   pub read : ds ≡ as_read strict own
   pub notes_are : notes ≡ failed_notes ds (told_at pieces ds outcome.at) number outcome place rest
 
@@ -165,7 +161,7 @@ pub record SaysPair (profile : Profile) (print scan notes : List ℕ) : Type 0 w
   pub ds : List Directive
   pub format : IsFormat (Scan profile) pieces
   pub text_is : text ≡ text_of pieces
-  pub mean : MeanAll (Means profile) 1 pieces ds
+  pub mean : MeanAll (Means profile) false 1 pieces ds
   pub says : SaysVerdict us pieces ds notes
 
 -- why no scan format reads back what a word's print format prints; width: that of texts

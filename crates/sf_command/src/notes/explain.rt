@@ -19,7 +19,7 @@ ghost use Rattle.sf_command.specs.notes.Explains.{AreSpansOf, Explains, MaySay, 
 ghost use Rattle.sf_command.specs.notes.Explains.{SaysAlone, SaysFormat, SaysMore, SaysMoreOfRefused, SaysPair};
 ghost use Rattle.sf_command.specs.notes.Explains.{SaysRefused};
 ghost use Rattle.sf_command.specs.notes.Explains.{IsMoreOfLine, is_strict_of};
-ghost use Rattle.sf_command.specs.notes.Explains.{shown_at, told_at, told_of_line, value_number, value_word};
+ghost use Rattle.sf_command.specs.notes.Explains.{told_at, told_of_line, value_number, value_word};
 ghost use Rattle.sf_command.specs.notes.Explains.{verdict_notes};
 ghost use Rattle.sf_command.specs.notes.Explains.{word_by};
 
@@ -116,20 +116,6 @@ pub fn notes_of_refused(alloc: Global, explain: bool, refused: RefusedWord<'_>) 
     }
 }
 
-/// How the directive with this number is shown, if there is one.
-fn shown_at(alloc: Global, format: &ScanFormat, number: u16) -> Result<Vec<u8>, AllocError>
-    ensures { IfOk result (λ shown. shown.items ≡ shown_at format.now number) }
-{
-    let mut shown = Vec::new(alloc);
-    if let Some(directive) = format
-        .directives()
-        .get(usize::from(number).saturating_sub(1))
-    {
-        push_directive(alloc, &mut shown, directive)?;
-    }
-    Ok(shown)
-}
-
 /// Where the directives stand in the bytes of a format, where that is asked for and memory is there.
 pub fn known_spans(alloc: Global, explain: bool, profile: Profile, text: &[u8]) -> Option<Spans>
     ensures { ForSome result (AreSpansOf profile text.now) }
@@ -177,7 +163,7 @@ fn told_at(
     let own = own_text(profile, spans, text, number).unwrap_or(&[]);
     push_quoted(&mut told, own)?;
     told.extend_from_slice(b", ")?;
-    told.extend_from_slice(&shown_at(alloc, format, number)?)?;
+    push_directive(alloc, &mut told, format.directives(), number)?;
     Ok(told)
 }
 

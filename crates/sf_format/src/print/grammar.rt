@@ -1,11 +1,11 @@
 //! The parts of a print format.
+ghost use Rattle.sf_format.specs.PrintGrammar.{PrintsApart};
 ghost use Rattle.sf_format.specs.Language.{Print};
-ghost use Rattle.sf_format.specs.PrintGrammar.{Prints};
 
-use crate::directive::Profile;
+use crate::directive::{Literal, Profile};
 use crate::fault::{FormatFault, FormatWhy};
 use crate::fronts::{Class, mark, number, size, split_front};
-use crate::grammar::{Grammar, Literal, Passed};
+use crate::grammar::{Grammar, Passed};
 use crate::opening::{Written, capped, is_no_slot};
 use crate::print::letter::{conversion, print_converted};
 use crate::print::opening::digits_behind;
@@ -24,12 +24,19 @@ impl Grammar for PrintGrammar {
 
     ghost language = { λ grammar. Print grammar.profile };
 
-    ghost means = { λ grammar. Prints grammar.profile };
+    ghost means = { λ grammar. PrintsApart grammar.profile };
 
     /// None: each byte of white space is a part.
     fn run(self, _first: u8) -> Option<Unit> {
         None
     }
+
+    fn has_groups(self) -> bool {
+        false
+    }
+
+    /// Nothing: there are no groups.
+    fn open_group(self, _part: &mut Unit, _more: u16) {}
 
     fn literal(self, literal: Literal) -> Unit {
         match literal {
@@ -88,6 +95,7 @@ impl Grammar for PrintGrammar {
         let (slot, slots) = pushed(slots, written, percent)?;
         let conversion = conversion(written, found, kind, slot.unwrap());
         Ok(Passed {
+            role: written.role(letter),
             part: Some(Unit::Conv(conversion)),
             slot,
             rest: text,

@@ -185,6 +185,7 @@ pub fn conversion(
         width: width_of(letter, written.width),
         slot,
         optional: written.optional,
+        opens: None,
         column: written.column,
     }))
 }

@@ -6,10 +6,10 @@ ghost use Rattle.sf_format.specs.Pieces.{star_text, optional_text, column_text, 
 ghost use Rattle.sf_format.specs.Language.{Scan};
 ghost use Rattle.sf_format.specs.Grammar.{Means};
 
-use crate::directive::{Directive, Profile};
+use crate::directive::{Directive, Literal, Opener, Profile};
 use crate::fault::{FormatFault, FormatWhy};
 use crate::fronts::{Class, mark, number, size, split_front};
-use crate::grammar::{Grammar, Literal, Passed};
+use crate::grammar::{Grammar, Passed};
 use crate::letter::has_doubles;
 use crate::opening::{Written, capped, is_no_slot, is_zero, number_len};
 use crate::rule_table::{fault_by, rule};
@@ -87,11 +87,29 @@ impl Grammar for ScanGrammar {
         }
     }
 
+    fn has_groups(self) -> bool {
+        has_doubles(self.profile)
+    }
+
     fn literal(self, literal: Literal) -> Directive {
         match literal {
             Literal::Byte(b) => Directive::Byte(b),
             Literal::Percent => Directive::Percent,
         }
+    }
+
+    fn open_group(self, part: &mut Directive, more: u16) {
+        let literal = match part {
+            Directive::Conv(conversion) => {
+                conversion.optional = true;
+                conversion.opens = Some(more);
+                return;
+            }
+            Directive::Byte(b) => Literal::Byte(*b),
+            Directive::Percent => Literal::Percent,
+            Directive::Space | Directive::Opens(_) => return,
+        };
+        *part = Directive::Opens(Opener { literal, more });
     }
 
     fn cut_opening(self, text: &[u8]) -> (Written, &[u8]) {
@@ -149,6 +167,7 @@ impl Grammar for ScanGrammar {
         let list = list_behind(found, at, text)?;
         let (slot, slots) = pushed(slots, written, percent)?;
         Ok(Passed {
+            role: written.role(letter),
             part: conversion(wanted, found, kind, written, slot, &list),
             slot,
             rest: list.rest,

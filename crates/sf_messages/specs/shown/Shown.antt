@@ -1,5 +1,7 @@
 -- The lines that show a scan format.
-use Rattle.std.specs.Prelude.{ℕ, ◌+◌, Bool, true, false, List, [], ◌∷◌, ◌++◌, length, Option, Some, None, codes}
+use Rattle.std.specs.Prelude.{ℕ, zero, suc, ◌+◌, ◌-◌, ◌&&◌, ◌||◌, nat_lt, Bool, true, false, List, [], ◌∷◌, ◌++◌, length, Option, Some}
+use Rattle.std.specs.Prelude.{None, codes, is_none, slice_get, if◌then◌else◌}
+use Rattle.std.specs.Option.{option_map_or}
 use Rattle.std.specs.Fmt.{decimal}
 use Rattle.sf_base.specs.declared.values.Kind.{Kind}
 use Rattle.sf_base.specs.declared.values.Kind.TheVariants as kind
@@ -10,9 +12,11 @@ use Rattle.sf_format.specs.declared.directive.Shape.{Shape}
 use Rattle.sf_format.specs.declared.directive.Shape.TheVariants as shape
 use Rattle.sf_format.specs.declared.directive.Conversion.{Conversion}
 use Rattle.sf_format.specs.declared.directive.Directive.{Directive}
-use Rattle.sf_format.specs.declared.directive.Directive.TheVariants.{Space, Byte, Percent, Conv}
+use Rattle.sf_format.specs.declared.directive.Directive.TheVariants.{Space, Byte, Percent, Conv, Opens}
+use Rattle.sf_format.specs.declared.directive.Literal.{Literal}
+use Rattle.sf_format.specs.declared.directive.Literal.TheVariants as literal
 use Rattle.sf_format.specs.Leads.{is_strict}
-use Rattle.sf_format.specs.Proper.{destinations_of}
+use Rattle.sf_format.specs.Proper.{destinations_of, is_opener, more_of}
 use Rattle.sf_arguments.specs.Names.{kind_text}
 use Rattle.sf_forms.specs.Quotes.{quoted}
 
@@ -52,7 +56,7 @@ abbrev pub members_text : Shape → List ℕ
 members_text (shape.Set members) = codes " members " ++ decimal (count_below (has_byte members) 256)
 members_text _ = []
 
--- after all, whether the conversion may be missing
+-- after all, whether the conversion has a ?
 abbrev pub missing_mark : Bool → List ℕ
 missing_mark true = codes " optional"
 missing_mark false = []
@@ -68,7 +72,7 @@ strict_mark true = codes " strict"
 strict_mark false = []
 
 abbrev pub marks_text : Conversion → List ℕ
-marks_text c = missing_mark c.optional ++ (column_mark c.column ++ strict_mark (is_strict c.shape))
+marks_text c = missing_mark (c.optional && is_none c.opens) ++ (column_mark c.column ++ strict_mark (is_strict c.shape))
 
 -- the letter, and the kind
 abbrev pub head_text : Conversion → List ℕ
@@ -81,25 +85,61 @@ abbrev pub conversion_text : Conversion → List ℕ
 conversion_text c = head_text c ++ (field_text (codes " width ") c.width
     ++ (field_text (codes " slot ") c.slot ++ (members_text c.shape ++ marks_text c)))
 
+-- a byte that stands there, or a percent sign
+abbrev pub literal_text : Literal → List ℕ
+literal_text (literal.Byte b) = codes "byte " ++ quoted (b ∷ [])
+literal_text literal.Percent = codes "percent"
+
 abbrev pub directive_text : Directive → List ℕ
 directive_text Space = codes "space"
-directive_text (Byte b) = codes "byte " ++ quoted (b ∷ [])
-directive_text Percent = codes "percent"
+directive_text (Byte b) = literal_text (literal.Byte b)
+directive_text Percent = literal_text literal.Percent
 directive_text (Conv c) = conversion_text c
+directive_text (Opens o) = literal_text o.literal
 
 -- ---- lines
 
-abbrev pub line_text : ℕ → Directive → List ℕ
-line_text k d = decimal k ++ (codes " " ++ (directive_text d ++ 10 ∷ []))
+-- of a directive in the group with this number
+abbrev pub group_mark : Option ℕ → List ℕ
+group_mark None = []
+group_mark (Some g) = codes " group " ++ decimal g
 
--- the directives, each with its number, from this one on
-abbrev pub directive_lines : ℕ → List Directive → List ℕ
-directive_lines k [] = []
-directive_lines k (d ∷ ds) = line_text k d ++ directive_lines (k + 1) ds
+abbrev pub line_text : ℕ → Directive → Option ℕ → List ℕ
+line_text k d group = decimal k ++ (codes " " ++ (directive_text d ++ (group_mark group ++ 10 ∷ [])))
+
+-- how many groups have begun with this directive, where so many had before it
+abbrev pub begun_with : Directive → ℕ → ℕ
+begun_with d begun = if is_opener d then begun + 1 else begun
+
+-- how many directives of its group come after it, where it is one of so many that are left of the group before it
+abbrev pub left_after : Directive → ℕ → ℕ
+left_after d left = if is_opener d then more_of d else left - 1
+
+-- the group of the directive, if it is in one
+abbrev pub group_of : Directive → ℕ → ℕ → Option ℕ
+group_of d begun left = if is_opener d || nat_lt 0 left then Some (begun_with d begun) else None
+
+-- the group of the directive at this place, counted from 0, if it is in one, where so many groups have begun, and so many directives are
+-- left of the last
+abbrev pub group_from : ℕ → ℕ → List Directive → ℕ → Option ℕ
+group_from begun left [] place = None
+group_from begun left (d ∷ ds) zero = group_of d begun left
+group_from begun left (d ∷ ds) (suc n) = group_from (begun_with d begun) (left_after d left) ds n
+
+-- how the directive with this number is shown, if there is one, and its group
+abbrev pub shown_at : List Directive → ℕ → List ℕ
+shown_at ds number =
+    option_map_or directive_text (slice_get ds (number - 1)) [] ++ group_mark (group_from 0 0 ds (number - 1))
+
+-- the directives, each with its number, from this one on, where so many groups have begun, and so many directives are left of the last
+abbrev pub directive_lines : ℕ → ℕ → ℕ → List Directive → List ℕ
+directive_lines k begun left [] = []
+directive_lines k begun left (d ∷ ds) =
+    line_text k d (group_of d begun left) ++ directive_lines (k + 1) (begun_with d begun) (left_after d left) ds
 
 abbrev pub summary_text : ℕ → Option ℕ → List ℕ
 summary_text destinations sum =
     field_text (codes "destinations ") (Some destinations) ++ (field_text (codes ", width sum ") sum ++ 10 ∷ [])
 
 abbrev pub show_text : List Directive → Option ℕ → List ℕ
-show_text ds sum = directive_lines 1 ds ++ summary_text (length (destinations_of ds)) sum
+show_text ds sum = directive_lines 1 0 0 ds ++ summary_text (length (destinations_of ds)) sum

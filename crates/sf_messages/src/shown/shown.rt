@@ -3,14 +3,14 @@ ghost use Rattle.std.specs.Prelude.{◌≡◌, ◌++◌, ◌≤◌, OnErr, OnOk,
 ghost use Rattle.std.specs.Fmt.{decimal};
 ghost use Rattle.sf_messages.specs.shown.Shown.{base_letter, letter_text, optional_text, members_text, missing_mark};
 ghost use Rattle.sf_messages.specs.shown.Shown.{column_mark, head_text, marks_text, strict_mark};
-ghost use Rattle.sf_messages.specs.shown.Shown.{field_text};
+ghost use Rattle.sf_messages.specs.shown.Shown.{field_text, group_mark, literal_text};
 ghost use Rattle.sf_messages.specs.shown.Shown.{conversion_text, directive_text, line_text, directive_lines};
-ghost use Rattle.sf_messages.specs.shown.Shown.{summary_text};
-ghost use Rattle.sf_messages.specs.shown.Shown.{show_text};
+ghost use Rattle.sf_messages.specs.shown.Shown.{show_text, shown_at, summary_text};
 
+use crate::shown::groups::{NO_GROUPS, group_at};
 use sf_arguments::kind_text;
 use sf_base::Kind;
-use sf_format::{Base, Conversion, Directive, Numeral, ScanFormat, Shape};
+use sf_format::{Base, Conversion, Directive, Literal, Numeral, ScanFormat, Shape};
 use sf_forms::push_quoted;
 use std::alloc::{AllocError, Global};
 use std::io::Write;
@@ -78,7 +78,7 @@ fn push_members(output: &mut Vec<u8>, shape: &Shape) -> Result<(), AllocError>
     Ok(())
 }
 
-/// Appends the mark of a conversion that may be missing.
+/// Appends the mark of a conversion with a `?`.
 fn push_mark(output: &mut Vec<u8>, optional: bool) -> Result<(), AllocError>
     ensures { OnOk result (output.new.items ≡ output.old.items ++ missing_mark optional) }
 {
@@ -112,7 +112,7 @@ fn push_strict(output: &mut Vec<u8>, strict: bool) -> Result<(), AllocError>
 fn push_marks(output: &mut Vec<u8>, conversion: &Conversion) -> Result<(), AllocError>
     ensures { OnOk result (output.new.items ≡ output.old.items ++ marks_text conversion.now) }
 {
-    push_mark(output, conversion.optional)?;
+    push_mark(output, conversion.optional && conversion.opens.is_none())?;
     push_column(output, conversion.column)?;
     push_strict(output, conversion.shape.is_strict())
 }
@@ -143,41 +143,75 @@ fn push_conversion(output: &mut Vec<u8>, conversion: &Conversion) -> Result<(), 
     push_marks(output, conversion)
 }
 
+fn push_literal(output: &mut Vec<u8>, literal: Literal) -> Result<(), AllocError>
+    ensures { OnOk result (output.new.items ≡ output.old.items ++ literal_text literal) }
+{
+    match literal {
+        Literal::Byte(b) => {
+            push_text(output, "byte ")?;
+            push_quoted(output, &[b])
+        }
+        Literal::Percent => push_text(output, "percent"),
+    }
+}
+
 /// Appends how a directive is shown; where memory is refused, a part of that.
 fn push_shown(output: &mut Vec<u8>, directive: &Directive) -> Result<(), AllocError>
     ensures { OnOk result (output.new.items ≡ output.old.items ++ directive_text directive.now) }
 {
     match directive {
         Directive::Space => push_text(output, "space"),
-        Directive::Byte(b) => {
-            push_text(output, "byte ")?;
-            push_quoted(output, &[*b])
-        }
-        Directive::Percent => push_text(output, "percent"),
+        Directive::Byte(b) => push_literal(output, Literal::Byte(*b)),
+        Directive::Percent => push_literal(output, Literal::Percent),
         Directive::Conv(conversion) => push_conversion(output, conversion),
+        Directive::Opens(opener) => push_literal(output, opener.literal),
     }
 }
 
-/// Appends how a directive is shown. Where memory is refused, the list is as it was.
+/// Appends the mark of a directive in the group with the number.
+fn push_group(output: &mut Vec<u8>, group: Option<u16>) -> Result<(), AllocError>
+    ensures { OnOk result (output.new.items ≡ output.old.items ++ group_mark group) }
+{
+    if let Some(number) = group {
+        push_text(output, " group ")?;
+        push_number(output, u32::from(number))?;
+    }
+    Ok(())
+}
+
+/// Appends how the directive with the number is shown, if there is one, and its group. Where memory is refused, the
+/// list is as it was.
 pub fn push_directive(
     alloc: Global,
     output: &mut Vec<u8>,
-    directive: &Directive,
+    directives: &[Directive],
+    number: u16,
 ) -> Result<(), AllocError>
-    ensures pushed { OnOk result (output.new.items ≡ output.old.items ++ directive_text directive.now) }
+    requires { length directives.now ≤ 4096 }
+    ensures pushed { OnOk result (output.new.items ≡ output.old.items ++ shown_at directives.now number) }
     ensures refused { OnErr result (output.new.items ≡ output.old.items) }
 {
+    let place = usize::from(number).saturating_sub(1);
     let mut text = Vec::new(alloc);
-    push_shown(&mut text, directive)?;
+    if let Some(directive) = directives.get(place) {
+        push_shown(&mut text, directive)?;
+    }
+    push_group(&mut text, group_at(directives, place))?;
     output.extend_from_slice(&text)
 }
 
-fn push_line(output: &mut Vec<u8>, number: u32, directive: &Directive) -> Result<(), AllocError>
-    ensures { OnOk result (output.new.items ≡ output.old.items ++ line_text number directive.now) }
+fn push_line(
+    output: &mut Vec<u8>,
+    number: u32,
+    directive: &Directive,
+    group: Option<u16>,
+) -> Result<(), AllocError>
+    ensures { OnOk result (output.new.items ≡ output.old.items ++ line_text number directive.now group) }
 {
     push_number(output, number)?;
     push_text(output, " ")?;
     push_shown(output, directive)?;
+    push_group(output, group)?;
     push_text(output, "\n")
 }
 
@@ -192,11 +226,13 @@ fn push_summary(output: &mut Vec<u8>, destinations: u8, sum: Option<u32>) -> Res
 
 fn push_directives(output: &mut Vec<u8>, directives: &[Directive]) -> Result<(), AllocError>
     requires { length directives.now ≤ 4096 }
-    ensures { OnOk result (output.new.items ≡ output.old.items ++ directive_lines 1 directives.now) }
+    ensures { OnOk result (output.new.items ≡ output.old.items ++ directive_lines 1 0 0 directives.now) }
 {
-    let mut number = 1;
+    let mut number: u32 = 1;
+    let mut groups = NO_GROUPS;
     for directive in directives {
-        push_line(output, number, directive)?;
+        let group = groups.pass(directive);
+        push_line(output, number, directive, group)?;
         number += 1;
     }
     Ok(())

@@ -131,7 +131,7 @@ column_first c read =
 
 -- it reads nothing
 abbrev pub no_conversion : Conversion
-no_conversion = record { shape = shape.Count; kind = kind.Text; width = None; slot = None; optional = false; column = false }
+no_conversion = record { shape = shape.Count; kind = kind.Text; width = None; slot = None; optional = false; opens = None; column = false }
 
 -- the next directive, where that is an assigned conversion
 abbrev pub reads : Option Directive → Conversion

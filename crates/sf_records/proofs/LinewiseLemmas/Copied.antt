@@ -8,11 +8,12 @@ use Rattle.sf_base.specs.Data.{Assigned, Datum}
 use Rattle.sf_base.specs.declared.values.Kind.TheVariants as kind
 use Rattle.sf_format.specs.declared.directive.Conversion.{Conversion}
 use Rattle.sf_format.specs.declared.directive.Directive.{Directive}
+use Rattle.sf_format.specs.declared.directive.Directive.TheVariants.{Space, Byte, Percent, Conv, Opens}
 use Rattle.sf_format.specs.declared.directive.Shape.TheVariants.{Set}
 use Rattle.sf_format.specs.declared.unit.Unit.{Unit as PrintUnit}
-use Rattle.sf_format.specs.Proper.{AreProper, destinations_of}
+use Rattle.sf_format.specs.Proper.{AreProper, destinations_of, has_optional, is_optional}
 use Rattle.sf_pair.specs.Fits.{Fit, FitsIsFit, fits}
-use Rattle.sf_pair.specs.Laws.{AlignedSlotsAgree, RoundTrip, read_back}
+use Rattle.sf_pair.specs.Laws.{AlignedIsWhole, AlignedSlotsAgree, RoundTrip, read_back}
 use Rattle.sf_print.specs.Printed.{printed}
 use Rattle.sf_read.specs.line.Cut.{IsLine, joined, lines_of}
 use Rattle.sf_read.specs.line.Laws.{LinesAreJoined}
@@ -22,7 +23,8 @@ use Rattle.sf_run.specs.outcome.Status.TheVariants.{Done}
 use Rattle.sf_run.specs.outcome.Outcome.{Outcome}
 use Rattle.sf_run.specs.Rows.{AreRowOf}
 use Rattle.sf_run.specs.Steps.{StepEnd, Passes, Stores, Misses, Fails, EmptyItem, ItemEnds, Step}
-use Rattle.sf_run.specs.Runs.{Ran, GoesOn, Steps, RunReport, used, values, value_stored, failure_of, status_of, place_of_failure, report_of}
+use Rattle.sf_run.specs.Runs.{Ran, GoesOn, Steps, StepsPast, over, RunReport, used, values, value_stored, failure_of, status_of}
+use Rattle.sf_run.specs.Runs.{place_of_failure, report_of}
 use Rattle.sf_run.specs.Limits.{RunWithin}
 use Rattle.sf_run.specs.Laws.{EachHasOneReport, EachRunIsComputed, EachDoneRunStays}
 use Rattle.sf_forms.specs.makers.Works.{Work, outcome_of}
@@ -91,7 +93,8 @@ empty_fails (b ∷ y) end e none = true≢false (sym (ap (λ (d : StepEnd). is_s
 
 -- its conversion
 abbrev one_of : List Bool → Conversion
-one_of members = record { shape = Set members; kind = kind.Text; width = Some 1; slot = None; optional = false; column = false }
+one_of members =
+    record { shape = Set members; kind = kind.Text; width = Some 1; slot = None; optional = false; opens = None; column = false }
 
 passes_one : (members : List Bool) (x : List ℕ) (n bytes : ℕ) (end : StepEnd) → Step (reads_one members) x n bytes end
     → is_some (failure_of end) ≡ false → (bytes ≡ 1) × (end ≡ Passes)
@@ -109,7 +112,21 @@ none_stored r e = rw e refl
 none_of : (r : Ran) → value_stored r ≡ None → values (r ∷ []) ≡ []
 none_of r e = rw e refl
 
--- ---- a run of directives and then of that one
+-- ---- a run of directives, none of which may be missing, and then of that one
+
+-- none is missing with one of these
+alone : (d : Directive) (end : StepEnd) → is_optional d ≡ false → over d end ≡ 0
+alone d Passes needed = refl
+alone d (Stores slot v) needed = refl
+alone d (Fails status) needed = refl
+alone (Conv c) Misses needed = rw needed refl
+alone (Opens o) Misses needed = absurd cc
+alone Space Misses needed = refl
+alone (Byte b) Misses needed = refl
+alone Percent Misses needed = refl
+
+needed_parts : (d : Directive) (ds : List Directive) → has_optional (d ∷ ds) ≡ false → (is_optional d ≡ false) × (has_optional ds ≡ false)
+needed_parts d ds e = or_false (is_optional d) (has_optional ds) e
 
 record Fronted (front : List Directive) (x : List ℕ) (n : ℕ) (ran : List Ran) : Type 0 where
   pub before : List Ran
@@ -119,9 +136,9 @@ record Fronted (front : List Directive) (x : List ℕ) (n : ℕ) (ran : List Ran
   pub values_are : values ran ≡ values before
 
 fronted : (front : List Directive) (members : List Bool) (x : List ℕ) (n : ℕ) (ran : List Ran)
-    → Steps (front ++ reads_one members ∷ []) x n ran → fails ran ≡ false → Fronted front x n ran
-fronted [] members x n [] h none = absurd h
-fronted [] members x n (r ∷ []) h none =
+    → has_optional front ≡ false → Steps (front ++ reads_one members ∷ []) x n ran → fails ran ≡ false → Fronted front x n ran
+fronted [] members x n [] needed h none = absurd h
+fronted [] members x n (r ∷ []) needed h none =
     let each = or_false (is_some (failure_of r.end)) false none in
     let one = passes_one members x n r.bytes r.end h.1 each.0 in
     record {
@@ -131,20 +148,25 @@ fronted [] members x n (r ∷ []) h none =
       used_is = omega (arith, one.0, sum_by-cons (λ (s : Ran). s.bytes) r []);
       values_are = none_of r (none_stored r one.1);
     }
-fronted [] members x n (r ∷ q ∷ ran) h none =
+fronted [] members x n (r ∷ q ∷ ran) needed h none =
     let each = or_false (is_some (failure_of r.end)) (fails (q ∷ ran)) none in
-    absurd (goes r.end (Steps [] (drop r.bytes x) (n + r.bytes) (q ∷ ran)) (q ∷ ran) each.0 h.2)
-fronted (d ∷ front) members x n [] h none = absurd h
-fronted (d ∷ front) members x n (r ∷ ran) h none =
+    absurd (goes r.end (StepsPast (over (reads_one members) r.end) [] (drop r.bytes x) (n + r.bytes) (q ∷ ran)) (q ∷ ran) each.0 h.2)
+fronted (d ∷ front) members x n [] needed h none = absurd h
+fronted (d ∷ front) members x n (r ∷ ran) needed h none =
     let each = or_false (is_some (failure_of r.end)) (fails ran) none in
-    let later = fronted front members (drop r.bytes x) (n + r.bytes) ran
-    (goes r.end (Steps (front ++ reads_one members ∷ []) (drop r.bytes x) (n + r.bytes) ran) ran each.0 h.2) each.1 in
+    let parts = needed_parts d front needed in
+    let k : over d r.end ≡ 0 = alone d r.end parts.0 in
+    let rest = front ++ reads_one members ∷ [] in
+    let later = fronted front members (drop r.bytes x) (n + r.bytes) ran parts.1
+    (subst (λ m. StepsPast m rest (drop r.bytes x) (n + r.bytes) ran) k
+    (goes r.end (StepsPast (over d r.end) rest (drop r.bytes x) (n + r.bytes) ran) ran each.0 h.2)) each.1 in
     record {
       before = r ∷ later.before;
       steps = (
         h.0,
         h.1,
-        goes_so r.end (Steps front (drop r.bytes x) (n + r.bytes) later.before) later.before each.0 later.steps,
+        goes_so r.end (StepsPast (over d r.end) front (drop r.bytes x) (n + r.bytes) later.before) later.before each.0
+            (subst (λ m. StepsPast m front (drop r.bytes x) (n + r.bytes) later.before) (sym k) later.steps),
       );
       none = ap₂ (λ a b. a || b) each.0 later.none;
       used_is = omega (
@@ -159,6 +181,11 @@ fronted (d ∷ front) members x n (r ∷ ran) h none =
 proper_front : (front : List Directive) (d : Directive) → AreProper (front ++ d ∷ []) → AreProper front
 proper_front [] d h = tt
 proper_front (e ∷ front) d h = (h.0, proper_front front d h.1)
+
+needed_front : (front : List Directive) (d : Directive) → has_optional (front ++ d ∷ []) ≡ false → has_optional front ≡ false
+needed_front [] d h = refl
+needed_front (e ∷ front) d h =
+    let parts = needed_parts e (front ++ d ∷ []) h in rw parts.0 (needed_front front d parts.1)
 
 -- ---- a line that is used whole
 
@@ -192,7 +219,8 @@ and_left true b e = refl
 and_left false b e = absurd (true≢false (sym e))
 
 module _ (back : RoundTrip) (agree : AlignedSlotsAgree) (tests : FitsIsFit) (one : EachHasOneReport) (computed : EachRunIsComputed)
-    (stays : EachDoneRunStays) (units : List PrintUnit) (ds front : List Directive) (members : List Bool) (pair : IsPair units ds)
+    (whole : AlignedIsWhole) (stays : EachDoneRunStays) (units : List PrintUnit) (ds front : List Directive) (members : List Bool)
+    (pair : IsPair units ds)
     (ends : ds ≡ front ++ reads_one members ∷ []) (options : LinesOptions) (skip : options.skip ≡ 0)
     (telling : ℕ → List ℕ → LineFault → List ℕ) where
   abbrev w : LineWork
@@ -203,6 +231,10 @@ module _ (back : RoundTrip) (agree : AlignedSlotsAgree) (tests : FitsIsFit) (one
 
   proper : AreProper front
   proper = proper_front front (reads_one members) (subst AreProper ends pair.scanned.proper)
+
+  needed : has_optional front ≡ false
+  needed = needed_front front (reads_one members) (subst (λ (l : List Directive). has_optional l ≡ false) ends
+      (whole units ds pair.aligned))
 
   -- ---- a line is read back
 
@@ -219,7 +251,7 @@ module _ (back : RoundTrip) (agree : AlignedSlotsAgree) (tests : FitsIsFit) (one
       let x = line ++ 10 ∷ [] in
       let run = back units ds pair.printed pair.scanned pair.aligned row fit [] End in
       let same : printed units row ++ [] ≡ x = append-nil (printed units row) ∙ text in
-      let f = fronted front members x 0 run.0
+      let f = fronted front members x 0 run.0 needed
       (subst (λ (y : List ℕ). Steps (front ++ reads_one members ∷ []) y 0 run.0) same
       (subst (λ (d : List Directive). Steps d (printed units row ++ []) 0 run.0) ends run.1))
       (none_failed run.0 (ap (λ (r : RunReport). r.at) run.4)) in
@@ -389,10 +421,10 @@ module _ (back : RoundTrip) (agree : AlignedSlotsAgree) (tests : FitsIsFit) (one
         all = (refl, later.all);
       }
 
-pub copied_twice : RoundTrip → AlignedSlotsAgree → FitsIsFit → EachHasOneReport → EachRunIsComputed → EachDoneRunStays → LinesAreJoined
-    → CopyingLinesTwice
-copied_twice back agree tests one computed stays joins units ds front members pair ends options skip telling n lines turns are each =
-    let l = lined back agree tests one computed stays units ds front members pair ends options skip telling n lines turns are each in
+pub copied_twice : RoundTrip → AlignedSlotsAgree → FitsIsFit → EachHasOneReport → EachRunIsComputed → AlignedIsWhole → EachDoneRunStays
+    → LinesAreJoined → CopyingLinesTwice
+copied_twice back agree tests one computed whole stays joins units ds front members pair ends options skip telling n lines turns are each =
+    let l = lined back agree tests one computed whole stays units ds front members pair ends options skip telling n lines turns are each in
     record {
       again = l.again;
       are = subst (λ (ls : List (List ℕ)). AreTurns (copying_lines options units ds front telling) 0 ls l.again)

@@ -4,7 +4,7 @@ use Rattle.std.proofs.Common.{arith}
 use Rattle.std.specs.Prelude.{unwrap_or}
 use Rattle.std.proofs.lemmas.List.{take_more}
 use Rattle.sf_format.specs.declared.directive.Directive.{Directive}
-use Rattle.sf_format.specs.declared.directive.Directive.TheVariants.{Space, Byte, Percent, Conv}
+use Rattle.sf_format.specs.declared.directive.Directive.TheVariants.{Space, Byte, Percent, Conv, Opens}
 use Rattle.sf_format.specs.Proper.{destinations_of}
 use Rattle.sf_format.specs.Widths.{add_widths, width_sum}
 use Rattle.sf_records.specs.by_lines.Rooms.{most_width, width_of}
@@ -14,6 +14,7 @@ no_sum [] none = refl
 no_sum (Space ∷ ds) none = ap (add_widths (Some 0)) (no_sum ds none)
 no_sum (Byte b ∷ ds) none = ap (add_widths (Some 0)) (no_sum ds none)
 no_sum (Percent ∷ ds) none = ap (add_widths (Some 0)) (no_sum ds none)
+no_sum (Opens o ∷ ds) none = ap (add_widths (Some 0)) (no_sum ds none)
 no_sum (Conv c ∷ ds) none = by c.slot refl (λ rest. no_sum ds rest)
   where
     by : (slot : Option ℕ) → c.slot ≡ slot → (length (destinations_of ds) ≡ 0 → width_sum ds ≡ Some 0) → width_sum (Conv c ∷ ds) ≡ Some 0

@@ -16,7 +16,8 @@ use Rattle.sf_records.specs.by_lines.Turns.{LineWork, Turn, work_of}
 
 -- reads one byte of the set, and stores nothing, as `%*1[\n]` does
 abbrev pub reads_one : List Bool → Directive
-reads_one members = Conv (record { shape = Set members; kind = kind.Text; width = Some 1; slot = None; optional = false; column = false })
+reads_one members =
+    Conv (record { shape = Set members; kind = kind.Text; width = Some 1; slot = None; optional = false; opens = None; column = false })
 
 -- the values of each line, read by the one format, are printed by the units, if they fit these and the directives
 abbrev pub copying_lines : LinesOptions → List PrintUnit → List Directive → List Directive → (ℕ → List ℕ → LineFault → List ℕ) → LineWork

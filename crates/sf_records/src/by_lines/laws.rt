@@ -4,7 +4,7 @@ ghost use Rattle.sf_records.specs.by_lines.Laws.{LinesHaveOneTurn};
 ghost use Rattle.sf_records.specs.by_lines.ReadingBack.{LinesReadBack};
 
 use sf_forms::laws::{missing_values_read_back, names_read_back, records_are_given};
-use sf_pair::laws::{fits_is_fit, round_trip, slots_agree};
+use sf_pair::laws::{aligned_is_whole, fits_is_fit, round_trip, slots_agree};
 use sf_read::Source;
 pub use sf_read::line::laws::{lines_are_cut, lines_are_joined, texts_are_cut};
 use sf_run::laws::{done_runs_have_rows, done_runs_stay, one_report, runs_are_computed};
@@ -38,6 +38,7 @@ pub fn lines_copied_twice()
     fits_is_fit();
     one_report();
     runs_are_computed();
+    aligned_is_whole();
     done_runs_stay();
     lines_are_joined();
 }

@@ -1,5 +1,5 @@
 use Rattle.std.proofs.Common.{◌≡◌, ◌∙◌, ◌≤◌, ◌<◌, ◌+◌, ◌-◌, ◌++◌, ◌∷◌, [], ℕ, List, true, ap, arith, drop, inl, inr, length, length-append}
-use Rattle.std.proofs.Common.{length-drop, refl, subst, sym, take, true≢false}
+use Rattle.std.proofs.Common.{refl, subst, sym, take, true≢false}
 use Rattle.std.proofs.lemmas.List.{take_rest}
 use Rattle.sf_run.specs.Runs.{RunReport}
 use Rattle.sf_c.specs.declared.records.SfDone.{SfDone}

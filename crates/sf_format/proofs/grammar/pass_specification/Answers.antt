@@ -12,9 +12,5 @@ returns-then-found g c =
       c.literal.ensures (1 + length earlier),
       rw append-nil holds,
       refl,
+      refl,
     )
-
-pub returns : goal.returns
-returns g c =
-    λ earlier holds.
-    rw (begins_mark c.args.text.now ∙ sym c.mark-found.ensures.found ∙ c.if-found.false) (c.pass_conversion.ensures earlier holds)

@@ -1,8 +1,7 @@
 use Rattle.std.proofs.Common.{sym, ◌∙◌, ap}
 use Rattle.sf_format.specs.Language.{Scan}
 use Rattle.sf_format.specs.Reading.{judged}
-use Rattle.sf_format.proofs.Numbers.{slots_alike}
-use Rattle.sf_format.proofs.WholeTexts.{parts_read}
+use Rattle.sf_format.proofs.WholeTexts.{format_read}
 use Rattle.sf_format.proofs.Judgements.{format_judged, judged_short, no_fault}
 use Rattle.sf_format.proofs.part_text.directive_text.Goals as goal
 
@@ -16,7 +15,7 @@ part_text-requires c = judged_short (Scan c.args.profile) c.args.text.now c.in-O
 
 pub returns-clause-text : goal.returns-clause-text
 returns-clause-text c = λ pieces is e.
-    c.part_text.ensures pieces (rw e (parts_read (Scan c.args.profile) pieces is.each is.apart (slots_alike pieces is.slots)))
+    c.part_text.ensures pieces (rw e (format_read (Scan c.args.profile) pieces is))
 
 pub returns-clause-refused : goal.returns-clause-refused
 returns-clause-refused c = λ at why fault. no_fault (Scan c.args.profile) c.args.text.now _ at why c.in-Ok.ensures.judged fault

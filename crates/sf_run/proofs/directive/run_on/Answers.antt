@@ -21,3 +21,6 @@ returns-in-Byte-clause-suits c = grind (arith, suits_any)
 
 pub returns-in-Percent-clause-suits : goal.returns-in-Percent-clause-suits
 returns-in-Percent-clause-suits c = grind (arith, suits_any)
+
+pub returns-in-Opens-clause-suits : goal.returns-in-Opens-clause-suits
+returns-in-Opens-clause-suits c = grind (arith, suits_any)

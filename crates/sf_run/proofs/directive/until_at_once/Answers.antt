@@ -4,7 +4,7 @@ use Rattle.sf_base.specs.Kinds.{bounds_of}
 use Rattle.sf_base.specs.Sets.{lone_lack}
 use Rattle.sf_format.specs.declared.directive.Base.{Base}
 use Rattle.sf_format.specs.declared.directive.Lead.{Lead}
-use Rattle.sf_format.specs.declared.directive.Directive.TheVariants.{Space, Byte, Percent, Conv}
+use Rattle.sf_format.specs.declared.directive.Directive.TheVariants.{Space, Byte, Percent, Conv, Opens}
 use Rattle.sf_format.specs.declared.directive.Shape.{Shape}
 use Rattle.sf_format.specs.declared.directive.Shape.TheVariants.{Int, Text, Set, Chars, Float, Count}
 use Rattle.sf_format.specs.declared.layout.Row.{Row}
@@ -57,6 +57,7 @@ pub returns : goal.returns
 returns c Space is way n = absurd (no_space (sym (ap (λ (r : Row). r.way) is) ∙ way))
 returns c (Byte b) is way n = absurd (no_byte (sym (ap (λ (r : Row). r.way) is) ∙ way))
 returns c Percent is way n = absurd (no_other (sym (ap (λ (r : Row). r.way) is) ∙ way))
+returns c (Opens o) is way n = absurd (no_other (sym (ap (λ (r : Row). r.way) is) ∙ way))
 returns c (Conv k) is way n =
     let piece = c.args.piece.now in
     let placed : way_placed k.column k.shape (is_some (bounds_of k.kind)) ≡ ways.Until = sym (ap (λ (r : Row). r.way) is) ∙ way in

@@ -1,17 +1,18 @@
 use Rattle.std.proofs.Common.{◌≡◌, ◌<◌, ◌≤◌, ◌+◌, ◌-◌, ℕ, List, length, take, drop}
-use Rattle.std.proofs.Common.{◌++◌, refl, sym, ap, Some, arith, subst, get_or}
+use Rattle.std.proofs.Common.{suc, ◌∙◌, ◌++◌, refl, sym, ap, Some, arith, subst, get_or}
 use Rattle.std.proofs.lemmas.Option.{slice_get_read}
 use Rattle.std.specs.Prelude.{slice_get}
 use Rattle.sf_base.specs.stores.Kept.{Kept}
 use Rattle.sf_format.specs.declared.directive.Directive.{Directive}
 use Rattle.sf_format.specs.Layout.{items_assigned, items_taken}
+use Rattle.sf_format.specs.Proper.{more_of}
 use Rattle.sf_report.specs.declared.outcome.Outcome.{Outcome}
 use Rattle.sf_report.specs.Limits.{RunWithin}
 use Rattle.sf_report.specs.Views.{report_by}
 use Rattle.sf_run.specs.Counting.{HasCome}
 use Rattle.sf_run.specs.Quick.{EndsSo, IsEndedWithin, IsSure}
 use Rattle.sf_run.specs.declared.quick.Place.{Place}
-use Rattle.sf_run.proofs.AtOnce.{after_place, come_done, come_failed, come_on, free_at, placed}
+use Rattle.sf_run.proofs.AtOnce.{after_place, come_done, come_failed, come_on, free_at, gone_fits, placed}
 use Rattle.sf_run.proofs.Moves.{sound_at, sound_of}
 use Rattle.sf_run.proofs.Slots.{apart_from}
 use Rattle.sf_run.proofs.Surely.{sure_next}
@@ -89,20 +90,22 @@ run_rows-come-requires-clause-come g c =
     let old : Kept = g.S.Store.kept c.loop-come.store in
     let new : Kept = g.S.Store.kept c.pass_whole.new.store in
     let passage = c.in_ok-passage.passage in
-    let next : Place = record { left = come.left - 1; used = come.used + passage.taken } in
+    let m = c.match-passage in
+    let next : Place = record { left = come.left - m.ended; used = come.used + passage.taken } in
     let at = at_place ds.result.now come.left d c.loop-come-test.true c.loop-come.invariant.short c.index-directives-at.is in
     let sound = sound_at ds.result.now _ d (sound_of ds.result.now _ ds.ensures.value ds.ensures.proper ds.ensures.accepted) at in
-    let on = come_on ds.result.now front come next d c.loop-come.missing old new passage sound.1 at c.loop-come-test.true
+    let on = come_on ds.result.now front come next d c.loop-come.missing old new passage m.ended at c.loop-come-test.true
     c.loop-come.invariant.short c.loop-come.invariant.low c.loop-come.invariant.come
     (subst (λ (y : List ℕ). EndsSo d come.used y passage old new) c.split_at-in-loop-come.ensures.back
     (c.in_ok-passage.ensures.ends sound)) refl refl in
-    let m = c.match-passage in
     let here : HasCome c.args.format.now front next m.missing new =
     subst (λ (l : List Directive). HasCome l front next m.missing new) ds.ensures.value (elim m.branch [
-      | in-Passes w ↦ subst (λ x. HasCome ds.result.now front next x new) (sym w.missing-is) (on.0 w.in-Passes.is)
+      | in-Passes w ↦ subst (λ x. HasCome ds.result.now front next x new) (sym w.missing-is) (on.0 w.in-Passes.is w.ended-is)
       | in-Misses w ↦
           subst (λ x. HasCome ds.result.now front next x new) (sym w.missing-is)
-          (on.1 w.with-missing.result w.in-Misses.is w.with-missing.ensures.assigned w.with-missing.ensures.converted)
+          (on.1 w.with-missing.result w.missed-missed.result.now w.in-Misses.is w.ended-is
+          (w.missed-missed.ensures ∙ ap (take (suc (more_of d))) w.split_at-in-Misses.ensures.back)
+          w.with-missing.ensures.assigned w.with-missing.ensures.converted)
     ]) in
     (m.missing, here)
 
@@ -115,20 +118,22 @@ loop-come-preserved g c =
     let old : Kept = g.S.Store.kept c.loop-come.store in
     let new : Kept = g.S.Store.kept c.pass_whole.new.store in
     let passage = c.in_ok-passage.passage in
-    let next : Place = record { left = come.left - 1; used = come.used + passage.taken } in
+    let m = c.match-passage in
+    let next : Place = record { left = come.left - m.ended; used = come.used + passage.taken } in
     let at = at_place ds.result.now come.left d c.loop-come-test.true c.loop-come.invariant.short c.index-directives-at.is in
     let sound = sound_at ds.result.now _ d (sound_of ds.result.now _ ds.ensures.value ds.ensures.proper ds.ensures.accepted) at in
-    let on = come_on ds.result.now front come next d c.loop-come.missing old new passage sound.1 at c.loop-come-test.true
+    let on = come_on ds.result.now front come next d c.loop-come.missing old new passage m.ended at c.loop-come-test.true
     c.loop-come.invariant.short c.loop-come.invariant.low c.loop-come.invariant.come
     (subst (λ (y : List ℕ). EndsSo d come.used y passage old new) c.split_at-in-loop-come.ensures.back
     (c.in_ok-passage.ensures.ends sound)) refl refl in
-    let m = c.match-passage in
     let here : HasCome c.args.format.now front next m.missing new =
     subst (λ (l : List Directive). HasCome l front next m.missing new) ds.ensures.value (elim m.branch [
-      | in-Passes w ↦ subst (λ x. HasCome ds.result.now front next x new) (sym w.missing-is) (on.0 w.in-Passes.is)
+      | in-Passes w ↦ subst (λ x. HasCome ds.result.now front next x new) (sym w.missing-is) (on.0 w.in-Passes.is w.ended-is)
       | in-Misses w ↦
           subst (λ x. HasCome ds.result.now front next x new) (sym w.missing-is)
-          (on.1 w.with-missing.result w.in-Misses.is w.with-missing.ensures.assigned w.with-missing.ensures.converted)
+          (on.1 w.with-missing.result w.missed-missed.result.now w.in-Misses.is w.ended-is
+          (w.missed-missed.ensures ∙ ap (take (suc (more_of d))) w.split_at-in-Misses.ensures.back)
+          w.with-missing.ensures.assigned w.with-missing.ensures.converted)
     ]) in
     let short = c.loop-come.invariant.short in
     let fewer = c.run_rows-come.ensures.left in
@@ -159,3 +164,68 @@ returns-clause-run g c = λ z ending.
     (subst (λ (l : List Directive). o.converted ≡ items_taken l - c.loop-come.missing.converted) (sym ds.ensures.value)
     c.done.ensures.converted)
     c.done.ensures.met z ending)
+
+pub with-missing-requires-clause-short : goal.with-missing-requires-clause-short
+with-missing-requires-clause-short g c =
+    let ds = c.directives-directives in
+    let come = c.loop-come.come in
+    let fits = gone_fits ds.result.now c.split_at.result.0.now come c.index-directives-at.result c.loop-come.missing
+    (g.S.Store.kept c.loop-come.store) c.missed-missed.result.now c.loop-come.invariant.short
+    (c.missed-missed.ensures ∙ ap (take (suc (more_of c.index-directives-at.result))) c.split_at-in-Misses.ensures.back)
+    c.loop-come.invariant.come in
+    let few = fits.0 in
+    let most = c.loop-come.invariant.short in
+    let short = ds.ensures.short in
+    omega (arith, few, most, short)
+
+pub with-missing-requires-clause-few : goal.with-missing-requires-clause-few
+with-missing-requires-clause-few g c =
+    let ds = c.directives-directives in
+    let come = c.loop-come.come in
+    let fits = gone_fits ds.result.now c.split_at.result.0.now come c.index-directives-at.result c.loop-come.missing
+    (g.S.Store.kept c.loop-come.store) c.missed-missed.result.now c.loop-come.invariant.short
+    (c.missed-missed.ensures ∙ ap (take (suc (more_of c.index-directives-at.result))) c.split_at-in-Misses.ensures.back)
+    c.loop-come.invariant.come in
+    let all = fits.1 in
+    omega (arith, all)
+
+pub with-missing-requires-clause-assigned : goal.with-missing-requires-clause-assigned
+with-missing-requires-clause-assigned g c =
+    let ds = c.directives-directives in
+    let come = c.loop-come.come in
+    let fits = gone_fits ds.result.now c.split_at.result.0.now come c.index-directives-at.result c.loop-come.missing
+    (g.S.Store.kept c.loop-come.store) c.missed-missed.result.now c.loop-come.invariant.short
+    (c.missed-missed.ensures ∙ ap (take (suc (more_of c.index-directives-at.result))) c.split_at-in-Misses.ensures.back)
+    c.loop-come.invariant.come in
+    let all = fits.1 in
+    omega (arith, all)
+
+pub with-missing-requires-clause-converted : goal.with-missing-requires-clause-converted
+with-missing-requires-clause-converted g c =
+    let ds = c.directives-directives in
+    let come = c.loop-come.come in
+    let fits = gone_fits ds.result.now c.split_at.result.0.now come c.index-directives-at.result c.loop-come.missing
+    (g.S.Store.kept c.loop-come.store) c.missed-missed.result.now c.loop-come.invariant.short
+    (c.missed-missed.ensures ∙ ap (take (suc (more_of c.index-directives-at.result))) c.split_at-in-Misses.ensures.back)
+    c.loop-come.invariant.come in
+    let all = fits.2 in
+    let short = ds.ensures.short in
+    omega (arith, all, short)
+
+pub overflow_sub-next : goal.overflow_sub-next
+overflow_sub-next g c =
+    let ds = c.directives-directives in
+    let come = c.loop-come.come in
+    let d : Directive = c.index-directives-at.result in
+    let m = c.match-passage in
+    let some = c.loop-come-test.true in
+    elim m.branch [
+      | in-Passes w ↦ (let one = w.ended-is in omega (arith, one, some))
+      | in-Misses w ↦
+          (let fits = gone_fits ds.result.now c.split_at.result.0.now come d c.loop-come.missing (g.S.Store.kept c.loop-come.store)
+          w.missed-missed.result.now c.loop-come.invariant.short
+          (w.missed-missed.ensures ∙ ap (take (suc (more_of d))) w.split_at-in-Misses.ensures.back) c.loop-come.invariant.come in
+          let few = fits.0 in
+          let one = w.ended-is in
+          omega (arith, few, one))
+    ]

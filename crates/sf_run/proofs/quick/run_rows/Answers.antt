@@ -113,7 +113,7 @@ loop-row-preserved g c =
       low = omega (arith, low, less);
       counted = λ missing come.
           subst (λ k. Counted ds.result.now front on k missing new) next
-          ((counting ds.result.now front rest on i d n missing old new _ sound.1 at' (c.loop-row.invariant.counted missing come) refl
+          ((counting ds.result.now front rest on i d n missing old new _ at' (c.loop-row.invariant.counted missing come) refl
           (c.in-Some-pass.ensures.passes sound) back).0 refl);
       room = (let before = c.loop-row.invariant.room in let more = c.pass.ensures.room in omega (arith, before, more));
     }

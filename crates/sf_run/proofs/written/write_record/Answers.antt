@@ -5,7 +5,7 @@ use Rattle.sf_run.proofs.written.write_record.Goals as goal
 
 pub returns-in_err-run-clause-answers : goal.returns-in_err-run-clause-answers
 returns-in_err-run-clause-answers g c follows =
-    absurd (let some = c.in_err-run.ensures.answers follows.capacity follows.run follows.fits in cc)
+    absurd (let some = c.in_err-run.ensures.answers follows.apart follows.capacity follows.run follows.fits in cc)
 
 pub returns-then-run-eq0-clause-answers : goal.returns-then-run-eq0-clause-answers
 returns-then-run-eq0-clause-answers g c follows =

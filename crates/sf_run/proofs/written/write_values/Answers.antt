@@ -133,7 +133,7 @@ loop-row-preserved g c =
     }
 
 pub returns-in_err-passed-in-Some-ended_at_once-clause-answers : goal.returns-in_err-passed-in-Some-ended_at_once-clause-answers
-returns-in_err-passed-in-Some-ended_at_once-clause-answers g c capacity done fits =
+returns-in_err-passed-in-Some-ended_at_once-clause-answers g c alone capacity done fits =
     let ds = c.directives-directives in
     let rows : List Row = c.rows-rows.result.now in
     let left : List Row = c.loop-row.left.now in
@@ -152,11 +152,11 @@ returns-in_err-passed-in-Some-ended_at_once-clause-answers g c capacity done fit
     (sound_of ds.result.now _ ds.ensures.value ds.ensures.proper ds.ensures.accepted) c.args.limit c.min-most.result (length front - length
     rest) c.args.piece.now front rest i d so_far.0 capacity c.loop-row.end
     c.loop-row.room at c.split_at.ensures.front c.split_at.ensures.front_len c.min-most.ensures so_far.1 refl so_far.3
-    c.loop-row.invariant.place so_far.2 done (omega (arith, fits, wide)) in
+    c.loop-row.invariant.place so_far.2 alone done (omega (arith, fits, wide)) in
     absurd (let r = c.in_err-passed-in-Some-ended_at_once.ensures.sure sound h.0 h.1 h.2 in cc)
 
 pub returns-in_err-passed-in-None-clause-answers : goal.returns-in_err-passed-in-None-clause-answers
-returns-in_err-passed-in-None-clause-answers g c capacity done fits =
+returns-in_err-passed-in-None-clause-answers g c alone capacity done fits =
     let ds = c.directives-directives in
     let rows : List Row = c.rows-rows.result.now in
     let left : List Row = c.loop-row.left.now in
@@ -175,7 +175,7 @@ returns-in_err-passed-in-None-clause-answers g c capacity done fits =
     (sound_of ds.result.now _ ds.ensures.value ds.ensures.proper ds.ensures.accepted) c.args.limit c.min-most.result (length front - length
     rest) c.args.piece.now front rest i d so_far.0 capacity c.loop-row.end
     c.loop-row.room at c.split_at.ensures.front c.split_at.ensures.front_len c.min-most.ensures so_far.1 refl so_far.3
-    c.loop-row.invariant.place so_far.2 done (omega (arith, fits, wide)) in
+    c.loop-row.invariant.place so_far.2 alone done (omega (arith, fits, wide)) in
     let later : slice_get c.args.format.now (length c.args.format.now - length left) ≡ Some d =
     from_end rows ds.result.now c.args.format.now (length left) d c.rows-rows.ensures ds.ensures.value at in
     absurd (let r = c.in_err-passed-in-None.ensures.sure d later sound h.0 h.1 h.2 in cc)

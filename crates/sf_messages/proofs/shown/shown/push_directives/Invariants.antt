@@ -1,4 +1,4 @@
-use Rattle.std.proofs.Common.{◌≡◌, ◌+◌, ◌++◌, drop}
+use Rattle.std.proofs.Common.{◌≡◌, ◌+◌, ◌≤◌, ◌++◌, drop}
 use Rattle.sf_messages.specs.shown.Shown.{directive_lines}
 use Rattle.sf_messages.proofs.shown.shown.push_directives.Given as goal
 
@@ -6,6 +6,7 @@ use Rattle.sf_messages.proofs.shown.shown.push_directives.Given as goal
 abbrev pub invariant-loop-directive : goal.invariant-loop-directive
 invariant-loop-directive l = record {
   number : l.number ≡ l.directive-index + 1;
-  written : l.output.items ++ directive_lines l.number (drop l.directive-index l.directives)
-      ≡ l.fn.output.items ++ directive_lines 1 l.directives;
+  few : l.groups.begun ≤ l.directive-index;
+  written : l.output.items ++ directive_lines l.number l.groups.begun l.groups.left (drop l.directive-index l.directives)
+      ≡ l.fn.output.items ++ directive_lines 1 0 0 l.directives;
 }

@@ -52,4 +52,5 @@ returns c =
       ),
       held,
       placed ∙ slot_there (1 + length earlier) o,
+      c.role.ensures,
     )

@@ -1,4 +1,4 @@
-use Rattle.std.proofs.Common.{◌+◌, ◌++◌, length, sym, ap, ◌∙◌, subst}
+use Rattle.std.proofs.Common.{◌+◌, ◌++◌, length, inl, sym, ap, ◌∙◌, subst}
 use Rattle.std.proofs.lemmas.Result.{err_from_is_err_and}
 use Rattle.sf_format.specs.Slots.{slot_of}
 use Rattle.sf_format.specs.Language.{Scan}
@@ -8,6 +8,7 @@ use Rattle.sf_format.specs.Passing.{opening_of, fault_of, is_set, rest_behind, s
 use Rattle.sf_format.proofs.Destinations.{slot_there}
 use Rattle.sf_format.proofs.Suits.{bracket_is}
 use Rattle.sf_format.proofs.Passages.{first_left, rest_first, number_bound, listed_forward, letter_rest, letter_destination, match_map}
+use Rattle.sf_format.proofs.Passages.{letter_role, match_none, width_bound}
 use Rattle.sf_format.proofs.Passages.{made_means}
 use Rattle.sf_format.proofs.scan.grammar.ScanGrammarGrammar.pass_letter.Goals as goal
 
@@ -43,6 +44,9 @@ returns-in_err-slot c =
     c.in_ok-found.found c.in_ok-found.ensures.0 c.in_ok-found.ensures.1
     ∙ rw (c.in_ok-list.ensures.0) (c.in_err-slot.ensures.pushed earlier holds))
 
+pub conversion-requires-clause-bound : goal.conversion-requires-clause-bound
+conversion-requires-clause-bound c = width_bound c.args.self.profile c.args.percent (opening_of c.args.written.now) c.requires.opening
+
 pub conversion-requires-clause-forward : goal.conversion-requires-clause-forward
 conversion-requires-clause-forward c = λ e.
     listed_forward (is_set c.in_ok-found.found) c.args.at c.args.text.now c.in_ok-list.list e c.in_ok-list.ensures.0 c.in_ok-list.ensures.1
@@ -64,7 +68,8 @@ returns c =
           (λ d made. made_means c.args.self.profile (1 + length earlier) c.args.at c.args.letter c.args.text.now o letter _
           c.in_ok-slot.slot
           c.in_ok-list.list d found known fault is placed made)
-          c.conversion.result c.conversion.ensures,
+          c.conversion.result (match_none _ c.conversion.result (λ e. inl e) c.conversion.ensures),
       subst (λ os. Holds c.in_ok-slot.slots (earlier ++ os)) (sym there) held,
       placed ∙ slot_there (1 + length earlier) o ∙ ap (slot_at (1 + length earlier)) (sym there),
+      c.role.ensures ∙ letter_role o c.args.letter c.args.text.now,
     )
