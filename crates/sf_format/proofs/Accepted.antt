@@ -1,7 +1,7 @@
 -- What holds of the directives of each spelled scan format, and of the units of each print format.
 use Rattle.std.proofs.Common.{◌≡◌, ◌≢◌, ℕ, ◌<◌, Bool, true, false, List, [], ◌∷◌, Option, None, refl, lit<, arith, Some, ◌≤◌, sym, ◌∙◌}
 use Rattle.std.proofs.lemmas.Bool.Decides.{nat_tests}
-use Rattle.std.specs.Prelude.{IsSome}
+use Rattle.std.specs.Prelude.{IsSome, is_some, length, ◌+◌, ◌||◌}
 use Rattle.std.specs.List.{AllByRecursion}
 use Rattle.sf_format.specs.Scanlist.{Scanlist, IsScanlist, is_listed, is_chosen, is_member, backward_range}
 use Rattle.sf_base.specs.declared.values.Kind.{Kind}
@@ -14,13 +14,14 @@ use Rattle.sf_format.specs.Language.{Scan, Print}
 use Rattle.sf_format.specs.declared.letter.Letter.{Letter}
 use Rattle.sf_format.specs.declared.letter.Letter.TheVariants.{Signed, Unsigned, Chars, Text, Set, Count, Float}
 use Rattle.sf_format.specs.declared.letter.Length.{Length}
-use Rattle.sf_format.specs.Letters.{kind_of}
+use Rattle.sf_format.specs.Letters.{kind_of, has_doubles}
 use Rattle.sf_format.specs.Digits.{IsOptionalNumber, optional_number}
-use Rattle.sf_format.specs.Pieces.{Opening, Piece, WhiteSpace, Ordinary, Plain, Bracket, Percents}
-use Rattle.sf_format.specs.Grammar.{IsScanPiece, SuitsColumn, shape_of, width_of, literal_that, Means, Spells}
+use Rattle.sf_format.specs.Pieces.{Opening, Piece, WhiteSpace, Ordinary, Plain, Bracket, Percents, GroupStart, GroupEnd}
+use Rattle.sf_format.specs.Grammar.{IsScanPiece, SuitsColumn, shape_of, width_of, literal_that, destinations, Means, MeanAll, Spells}
 use Rattle.sf_format.specs.Grammar.{SpellsPrint}
 use Rattle.sf_format.specs.Proper.{HasItsKind, IsKinded, HasItsWidth, IsSized, IsProperShape, IsProperWidth, IsProperLiteral, IsProper}
 use Rattle.sf_format.specs.Proper.{AreProper, AreSized, AreKinded, TakesColumn, IsColumned, AreColumned, IsAccepted}
+use Rattle.sf_format.specs.Proper.{is_opener, is_optional, has_group, has_optional}
 use Rattle.sf_format.proofs.Suits.{text_kinded, float_kinded}
 use Rattle.sf_format.proofs.Meanings.{scan_slots, mean_each, print_slots}
 use Rattle.sf_format.proofs.PartSlots.{all_short, format_few, slots_good, slots_count}
@@ -118,6 +119,86 @@ proper profile text ds (pieces, is, e, means) =
       few = omega (arith, slots_count (scan_slots profile) pieces ds means, format_few (Scan profile) pieces is);
       slots = slots_good (scan_slots profile) pieces ds is means;
     }
+
+-- ---- groups
+
+-- what opens a group may be missing
+abbrev MissesWithGroup : Directive → Type 0
+MissesWithGroup d = is_opener d ≡ true → is_optional d ≡ true
+
+or_later : (a b : Bool) → b ≡ true → (a || b) ≡ true
+or_later true b e = refl
+or_later false b e = e
+
+misses_literal : (opens : Option ℕ) (l : Literal) → MissesWithGroup (literal_that opens l)
+misses_literal None (literal.Byte b) = λ e. e
+misses_literal None literal.Percent = λ e. e
+misses_literal (Some more) l = λ e. refl
+
+misses_one : (profile : Profile) (opens : Option ℕ) (place : ℕ) (piece : Piece) (d : Directive) → IsScanPiece profile piece
+    → Means profile opens place piece d → MissesWithGroup d
+misses_one profile opens place (WhiteSpace bs) d is h = rw h (λ e. e)
+misses_one profile opens place (Ordinary b) d is h = rw h (misses_literal opens (literal.Byte b))
+misses_one profile opens place Percents d is h = rw h (misses_literal opens literal.Percent)
+misses_one profile opens place (Plain o b) d is h =
+    rw (h.5, h.3.opens, h.3.optional) (λ e. or_later o.optional (is_some opens) e)
+misses_one profile opens place (Bracket o list) d is h =
+    rw (h.5, h.2.opens, h.2.optional) (λ e. or_later o.optional (is_some opens) e)
+misses_one profile opens place _ d is h = absurd h
+
+either : (a b p q : Bool) → (a ≡ true → p ≡ true) → (b ≡ true → q ≡ true) → (a || b) ≡ true → (p || q) ≡ true
+either true b p q f g e = rw (f refl) refl
+either false b p q f g e = or_later p q (g e)
+
+misses_some : (ds : List Directive) → AllByRecursion MissesWithGroup ds → has_group ds ≡ true → has_optional ds ≡ true
+misses_some [] h e = e
+misses_some (d ∷ ds) h e = either (is_opener d) (has_group ds) (is_optional d) (has_optional ds) h.0 (misses_some ds h.1) e
+
+never : (a : Bool) → (a ≡ true → ⊥) → a ≡ false
+never true h = absurd (h refl)
+never false h = refl
+
+-- so a format of which nothing may be missing has no group
+pub no_group : (profile : Profile) (text : List ℕ) (ds : List Directive) → Spells profile text ds → has_optional ds ≡ false
+    → has_group ds ≡ false
+no_group profile text ds (pieces, is, e, means) none =
+    never (has_group ds) (λ some.
+    let misses = mean_each MissesWithGroup (misses_one profile) false 1 pieces ds is.each means in
+    let f = sym (misses_some ds misses some) ∙ none in
+    cc)
+
+-- ---- below profile 3
+
+lacks_mark : (v a : Bool) → (a ≡ true → v ≡ true) → v ≡ false → a ≡ false
+lacks_mark v true h low = absurd (let e = sym (h refl) ∙ low in cc)
+lacks_mark v false h low = refl
+
+needed_one : (profile : Profile) → has_doubles profile ≡ false → (place : ℕ) (piece : Piece) (d : Directive) → IsScanPiece profile piece
+    → Means profile None place piece d → is_optional d ≡ false
+needed_one profile low place (WhiteSpace bs) d is h = rw h refl
+needed_one profile low place (Ordinary b) d is h = rw h refl
+needed_one profile low place Percents d is h = rw h refl
+needed_one profile low place (Plain o b) d is h =
+    let none = lacks_mark (has_doubles profile) o.optional is.1.2.optional low in rw (h.5, h.3.optional, none) refl
+needed_one profile low place (Bracket o list) d is h =
+    let none = lacks_mark (has_doubles profile) o.optional is.0.optional low in rw (h.5, h.2.optional, none) refl
+needed_one profile low place _ d is h = absurd h
+
+needed_each : (profile : Profile) → has_doubles profile ≡ false → (place : ℕ) (pieces : List Piece) (ds : List Directive)
+    → AllByRecursion (IsScanPiece profile) pieces → MeanAll (Means profile) false place pieces ds → has_optional ds ≡ false
+needed_each profile low place [] [] each h = refl
+needed_each profile low place [] (d ∷ ds) each h = absurd h
+needed_each profile low place (GroupStart ∷ pieces) ds each h = absurd (let e = sym each.0 ∙ low in cc)
+needed_each profile low place (GroupEnd ∷ pieces) ds each h = absurd (let e = sym each.0 ∙ low in cc)
+needed_each profile low place (piece ∷ pieces) [] each h = absurd h
+needed_each profile low place (piece ∷ pieces) (d ∷ ds) each h =
+    rw (needed_one profile low place piece d each.0 h.0)
+    (needed_each profile low (place + length (destinations (piece ∷ []))) pieces ds each.1 h.1)
+
+-- nothing may be missing
+pub all_needed : (profile : Profile) (text : List ℕ) (ds : List Directive) → Spells profile text ds → has_doubles profile ≡ false
+    → has_optional ds ≡ false
+all_needed profile text ds (pieces, is, e, means) low = needed_each profile low 1 pieces ds is.each means
 
 -- ---- letters
 

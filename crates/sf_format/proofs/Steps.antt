@@ -1,11 +1,13 @@
 -- One part passed after others: its own rules, and then where it stands.
-use Rattle.std.proofs.Common.{◌≡◌, ℕ, zero, suc, ◌+◌, ◌-◌, ◌<◌, ◌≤◌, true, false, List, [], ◌∷◌, ◌++◌, length, Option, Some, None}
+use Rattle.std.proofs.Common.{◌≡◌, ℕ, zero, suc, ◌+◌, ◌-◌, ◌<◌, ◌≤◌, Bool, true, false, List, [], ◌∷◌, ◌++◌, length, Option, Some, None}
+use Rattle.std.specs.Prelude.{Ok}
 use Rattle.std.proofs.Common.{refl, sym, ap, ◌∙◌, subst, arith, length-append, slice_index_or, slice_set}
 use Rattle.sf_format.specs.Language.{Language}
 use Rattle.sf_format.specs.declared.fault.FormatWhy.{FormatWhy}
 use Rattle.sf_format.specs.declared.fault.FormatWhy.TheVariants.{BadGroup}
 use Rattle.sf_format.specs.declared.fault.FormatFault.{FormatFault}
 use Rattle.sf_format.specs.declared.grammar.Before.{Before}
+use Rattle.sf_format.specs.declared.grammar.Passed.{Passed}
 use Rattle.sf_format.specs.declared.slots.Slots.{Slots}
 use Rattle.sf_format.specs.declared.groups.Group.{Group}
 use Rattle.sf_format.specs.declared.groups.Role.{Role}
@@ -16,7 +18,7 @@ use Rattle.sf_format.specs.Cut.{part_at}
 use Rattle.sf_format.specs.Grammar.{destinations}
 use Rattle.sf_format.specs.Rules.{first_of}
 use Rattle.sf_format.specs.Faults.{part_rules, group_rules, next_rules}
-use Rattle.sf_format.specs.Passing.{Holds, IsOpened, Precedes, fault_of, started}
+use Rattle.sf_format.specs.Passing.{Holds, IsJoined, IsOpened, PassesBy, Precedes, StepsBy, fault_of, started}
 use Rattle.sf_format.proofs.Rules.{first_append}
 use Rattle.sf_format.proofs.Passages.{first_left}
 use Rattle.sf_format.proofs.Destinations.{destinations_push}
@@ -75,6 +77,22 @@ precedes_more done piece at before slots group role place precedes same holds st
       let here : 0 + length (text_of done) ≡ length (text_of done) = omega arith in
       rw (start, precedes.start, same, ← place) (sym (rw here at (start_push 0 0 done piece)));
 }
+
+-- both at once
+pub stepped : {D : Type 0} (wanted : Bool) (means : Option ℕ → ℕ → Piece → D → Type 0) (language : Language) (done : List Piece)
+    (x : List ℕ) (at : ℕ) (before : Before) (passed : Passed D) (group : Group) → length (text_of done) ≡ at → Precedes before done
+    → PassesBy wanted means (part_rules language (destinations done) at x) (destinations done) (part_at language x) (Ok passed)
+    → IsJoined before.group passed.role at (Ok group)
+    → StepsBy wanted means language done x
+    (Ok (record { passed = passed; before = record { slots = passed.slots; group = group } }))
+stepped wanted means language done x at before passed group place precedes passes joined = (
+  no_fault language done x at before passed.role place precedes passes.5 passes.0 joined.0,
+  passes.1,
+  passes.2,
+  precedes_more done (part_at language x).piece at before passed.slots group passed.role place precedes passes.5 passes.3 joined.1 joined.2,
+  passes.4,
+  passes.5,
+)
 
 -- ---- the end of a group
 

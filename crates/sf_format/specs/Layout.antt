@@ -15,6 +15,8 @@ use Rattle.sf_format.specs.declared.directive.Shape.{Shape}
 use Rattle.sf_format.specs.declared.directive.Shape.TheVariants.{Int, Text, Set, Chars, Float, Count}
 use Rattle.sf_format.specs.declared.directive.Directive.{Directive}
 use Rattle.sf_format.specs.declared.directive.Directive.TheVariants.{Space, Byte, Percent, Conv, Opens}
+use Rattle.sf_format.specs.declared.directive.Literal.{Literal}
+use Rattle.sf_format.specs.declared.directive.Literal.TheVariants as literal
 use Rattle.sf_format.specs.Leads.{is_strict_lead}
 use Rattle.sf_format.specs.declared.layout.Row.{Row}
 use Rattle.sf_format.specs.declared.layout.Way.{Way}
@@ -75,12 +77,17 @@ greatest_in kind = elim (bounds_of kind) [ None ↦ 0 | Some bounds ↦ bounds.1
 abbrev pub plain_row : Way → ℕ → Row
 plain_row way due = record { way = way; due = due; signed = false; kind = kinds.Text; slot = None; width = 0; greatest = 0 }
 
+-- the row of a literal that opens a group
+abbrev pub row_of_literal : Literal → Row
+row_of_literal (literal.Byte b) = plain_row ways.Byte b
+row_of_literal literal.Percent = plain_row ways.Another 0
+
 -- what a run asks of the directive
 abbrev pub row_of : Directive → Row
 row_of Space = plain_row ways.Space 0
 row_of (Byte due) = plain_row ways.Byte due
 row_of Percent = plain_row ways.Another 0
-row_of (Opens o) = plain_row ways.Another 0
+row_of (Opens o) = row_of_literal o.literal
 row_of (Conv c) = record {
   way = way_placed c.column c.shape (is_some (bounds_of c.kind));
   due = stop_of c.shape;

@@ -141,8 +141,8 @@ fn opening<G: Grammar>(grammar: G, text: &[u8]) -> (Written, &[u8])
 }
 
 /// Passes the conversion specification whose `%` stands at the place, after these destinations or values. The text is
-/// what follows the `%`. It stands apart: what it passes is then copied once, and not at each return of its callers.
-#[inline(never)]
+/// what follows the `%`.
+#[inline(always)]
 fn pass_conversion<'a, G: Grammar>(
     grammar: G,
     text: &'a [u8],
@@ -183,7 +183,9 @@ fn group_mark(text: &[u8]) -> Option<(Role, &[u8])>
     }
 }
 
-/// Passes what follows the `%` at the place.
+/// Passes what follows the `%` at the place. It stands apart: what it passes is then copied once, and not at each
+/// return of its callers.
+#[inline(never)]
 fn pass_specification<'a, G: Grammar>(
     grammar: G,
     text: &'a [u8],
@@ -368,11 +370,14 @@ pub fn walk<G: Grammar>(
     let mut before = NOTHING;
     let mut count: u16 = 0;
     while !rest.is_empty() {
-        let step = pass(grammar, rest, at, before, parts.is_some())?;
-        let passed = step.passed;
+        let passed = pass_part(grammar, rest, at, before.slots, parts.is_some())?;
+        let group = before.group.joined(passed.role, at)?;
         rest = passed.rest;
         at = (text.len() - rest.len()) as u16;
-        before = step.before;
+        before = Before {
+            slots: passed.slots,
+            group,
+        };
         parts = with_passed(grammar, parts, count, passed.role, passed.part);
         count = count_after(count, passed.role);
     }

@@ -101,6 +101,10 @@ impl Group {
     pub fn joined(self, role: Role, at: u16) -> Result<Group, FormatFault>
         ensures { IsJoined self role at result }
     {
+        // first what stands in no group, so that a format without one costs a single look
+        if matches!(self.stage, Stage::Outside) && !role.is_mark() {
+            return Ok(self);
+        }
         if !self.stage.may_stand(role) {
             return Err(FormatFault {
                 at: self.place_told(role, at),

@@ -1,10 +1,11 @@
 //! A scan format laid out: a flat row beside each directive, and what its runs count.
 ghost use Rattle.std.specs.Prelude.{◌≡◌, ◌≤◌, length, map, IfOk};
-ghost use Rattle.sf_format.specs.Layout.{assigns_item, items_assigned, items_taken, plain_row, row_of, takes_item};
+ghost use Rattle.sf_format.specs.Layout.{assigns_item, items_assigned, items_taken, plain_row, row_of, row_of_literal};
+ghost use Rattle.sf_format.specs.Layout.{takes_item};
 ghost use Rattle.sf_format.specs.Layout.{stop_of, way_of, way_of_integer, way_placed};
 ghost use Rattle.sf_format.specs.Proper.{destinations_of};
 
-use crate::directive::{Base, Conversion, Directive, Lead, Numeral, Shape};
+use crate::directive::{Base, Conversion, Directive, Lead, Literal, Numeral, Shape};
 use sf_base::Kind;
 use std::alloc::{AllocError, Global};
 
@@ -112,6 +113,16 @@ fn plain_row(way: Way, due: u8) -> Row
     }
 }
 
+/// The row of a literal that opens a group.
+fn row_of_literal(literal: Literal) -> Row
+    ensures { result ≡ row_of_literal literal }
+{
+    match literal {
+        Literal::Byte(due) => plain_row(Way::Byte, due),
+        Literal::Percent => plain_row(Way::Another, 0),
+    }
+}
+
 /// The row of a directive.
 fn row_of(directive: &Directive) -> Row
     ensures { result ≡ row_of directive.now }
@@ -119,7 +130,8 @@ fn row_of(directive: &Directive) -> Row
     let conversion = match directive {
         Directive::Space => return plain_row(Way::Space, 0),
         Directive::Byte(due) => return plain_row(Way::Byte, *due),
-        Directive::Percent | Directive::Opens(_) => return plain_row(Way::Another, 0),
+        Directive::Percent => return plain_row(Way::Another, 0),
+        Directive::Opens(opener) => return row_of_literal(opener.literal),
         Directive::Conv(conversion) => conversion,
     };
     let bounds = conversion.kind.bounds();
@@ -176,30 +188,31 @@ fn assigns_item(directive: &Directive) -> bool
     }
 }
 
-/// How many directives take an input item.
-pub(crate) fn items_taken(directives: &[Directive]) -> u16
-    requires { length directives.now ≤ 4096 }
-    ensures { result ≡ items_taken directives.now }
-{
-    let mut count = 0;
-    for directive in directives {
-        if takes_item(directive) {
-            count += 1;
-        }
-    }
-    count
+/// The input items of a run that is Done and misses none.
+#[derive(Clone, Copy)]
+pub(crate) struct Items {
+    /// How many it takes, suppressed ones among them.
+    pub(crate) taken: u16,
+    /// How many it gives to destinations.
+    pub(crate) assigned: u8,
 }
 
-/// How many directives give an input item to a destination.
-pub(crate) fn items_assigned(directives: &[Directive]) -> u8
-    requires { length (destinations_of directives.now) ≤ 32 }
-    ensures { result ≡ items_assigned directives.now }
+/// The input items of the directives.
+pub(crate) fn items_of(directives: &[Directive]) -> Items
+    requires short { length directives.now ≤ 4096 }
+    requires few { length (destinations_of directives.now) ≤ 32 }
+    ensures taken { result.taken ≡ items_taken directives.now }
+    ensures assigned { result.assigned ≡ items_assigned directives.now }
 {
-    let mut count = 0;
+    let mut taken = 0;
+    let mut assigned = 0;
     for directive in directives {
+        if takes_item(directive) {
+            taken += 1;
+        }
         if assigns_item(directive) {
-            count += 1;
+            assigned += 1;
         }
     }
-    count
+    Items { taken, assigned }
 }

@@ -17,7 +17,8 @@ mod scanlist;
 use crate::directive::{Directive, Lead, Profile, Shape};
 use crate::fault::FormatFault;
 use crate::judgement::parse;
-use crate::layout::{Row, items_assigned, items_taken, lay_out, rows_of};
+use crate::layout::{Row, items_of, lay_out, rows_of};
+use crate::letter::has_doubles;
 use crate::scan::grammar::ScanGrammar;
 use sf_base::Kind;
 use std::alloc::Global;
@@ -180,8 +181,9 @@ fn sum_of_widths(directives: &[Directive]) -> Option<u32>
 }
 
 /// Whether the last directive is a conversion without a `?` whose item ends only where a byte doesn't match, in a
-/// format without a group.
-fn ends_unbounded(directives: &[Directive]) -> bool
+/// format without a group. `grouped` says whether there is one.
+fn ends_unbounded(directives: &[Directive], grouped: bool) -> bool
+    requires { grouped ≡ has_group directives.now }
     ensures { IsTrue result ↔ EndsUnbounded directives.now }
 {
     match directives.last() {
@@ -193,7 +195,7 @@ fn ends_unbounded(directives: &[Directive]) -> bool
                     conversion.shape,
                     Shape::Int(_) | Shape::Text(_) | Shape::Set(_)
                 )
-                && !has_group(directives)
+                && !grouped
         }
         _ => false,
     }
@@ -244,18 +246,18 @@ impl ScanFormat {
         let (directives, destinations) = parse(alloc, ScanGrammar { profile }, text)?;
         let rows = rows_of(alloc, &directives)?;
         let widths = sum_of_widths(&directives);
-        let assigned = items_assigned(&directives);
-        let converted = items_taken(&directives);
-        let optional = has_optional(&directives);
+        let items = items_of(&directives);
+        let optional = has_doubles(profile) && has_optional(&directives);
         let reserve = widths.unwrap_or(0);
-        let unbounded = ends_unbounded(&directives);
+        let grouped = optional && has_group(&directives);
+        let unbounded = ends_unbounded(&directives, grouped);
         Ok(ScanFormat {
             directives,
             rows,
             destinations,
             widths,
-            assigned,
-            converted,
+            assigned: items.assigned,
+            converted: items.taken,
             optional,
             reserve,
             unbounded,
@@ -269,7 +271,8 @@ impl ScanFormat {
         let mut format = self;
         make_all_strict(&mut format.directives);
         lay_out(&format.directives, &mut format.rows);
-        format.unbounded = ends_unbounded(&format.directives);
+        let grouped = has_group(&format.directives);
+        format.unbounded = ends_unbounded(&format.directives, grouped);
         format
     }
 

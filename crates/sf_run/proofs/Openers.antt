@@ -1,9 +1,22 @@
 -- A literal that opens a group answers as the literal does elsewhere, and is missing where that fails.
-use Rattle.std.proofs.Common.{◌≡◌, ℕ, ◌+◌, false, List, [], ◌∷◌, ◌++◌, drop, take, Option, Some, None, refl, sym, ap, subst}
+use Rattle.std.proofs.Common.{◌≡◌, ℕ, ◌+◌, ◌<◌, Bool, true, false, cond, List, [], ◌∷◌, ◌++◌, drop, take, length, get_or, Option, Some}
+use Rattle.std.proofs.Common.{None, refl, sym, ap, subst, arith, is_some}
 use Rattle.std.proofs.Common.{◌∙◌}
 use Rattle.std.specs.Prelude.{IfSome}
 use Rattle.std.specs.Option.{option_map}
-use Rattle.sf_format.specs.declared.directive.Directive.TheVariants.{Opens}
+use Rattle.sf_format.specs.declared.directive.Directive.{Directive}
+use Rattle.sf_format.specs.declared.directive.Directive.TheVariants.{Space, Byte, Percent, Conv, Opens}
+use Rattle.sf_format.specs.declared.directive.Base.{Base}
+use Rattle.sf_format.specs.declared.directive.Lead.{Lead}
+use Rattle.sf_format.specs.declared.directive.Shape.{Shape}
+use Rattle.sf_format.specs.declared.directive.Shape.TheVariants.{Int, Text, Set, Chars, Float, Count}
+use Rattle.sf_format.specs.declared.layout.Row.{Row}
+use Rattle.sf_format.specs.declared.layout.Way.{Way}
+use Rattle.sf_format.specs.declared.layout.Way.TheVariants as ways
+use Rattle.sf_format.specs.Leads.{is_strict_lead}
+use Rattle.sf_format.specs.Layout.{plain_row, row_of, row_of_literal, way_led_by, way_of, way_of_set, way_placed}
+use Rattle.sf_base.specs.Kinds.{bounds_of}
+use Rattle.sf_base.specs.Sets.{lone_lack}
 use Rattle.sf_format.specs.declared.directive.Literal.{Literal}
 use Rattle.sf_format.specs.declared.directive.Literal.TheVariants as literal
 use Rattle.sf_format.specs.declared.directive.Opener.{Opener}
@@ -14,11 +27,14 @@ use Rattle.sf_run.specs.declared.directive.Finished.{Finished}
 use Rattle.sf_run.specs.declared.directive.Finished.TheVariants as finish
 use Rattle.sf_run.specs.declared.directive.Phase.TheVariants as phase
 use Rattle.sf_run.specs.declared.directive.Run.{Run}
-use Rattle.sf_run.specs.Phases.{Brings, Shows, end_of, or_missing, slot_closed, slot_in}
-use Rattle.sf_run.specs.Pieces.{Answers, AnswersBy, EndsIn, IsEnd, Suits}
+use Rattle.sf_run.specs.Phases.{Brings, IsNumberGiven, Shows, end_of, is_failing, is_memory_failure, is_missing, or_missing, slot_closed}
+use Rattle.sf_run.specs.Phases.{slot_given, slot_in}
+use Rattle.sf_run.specs.Pieces.{Answers, AnswersBy, EndsAtOnce, EndsIn, IsEnd, Suits, run_of}
+use Rattle.sf_run.specs.declared.directive.Ended.{Ended}
 use Rattle.sf_run.specs.Holding.{LeftAfterAll}
 use Rattle.sf_run.specs.Texts.{IsNextSlot, closing_text, item_of}
 use Rattle.sf_report.proofs.Ones.{opens_plain, plain, plain_stepped, with_missed}
+use Rattle.sf_run.proofs.Pieces.{byte_passes}
 use Rattle.sf_run.proofs.Stages.{skipping_open}
 
 opens_stepped : (o : Opener) (q : Stage) (y : List ℕ) → stepped_all (Opens o) q y ≡ stepped_all (plain o.literal) q y
@@ -133,3 +149,113 @@ module _ (o : Opener) (n : ℕ) (piece : List ℕ) (run : Run) (skips : run.phas
     left = subst (λ p. LeftAfterAll (Opens o) phase.Skipping p run.item) (sym skips) tt;
     end = some_end run.ends s.end;
   }
+
+-- ---- a byte that is seen at once
+
+-- it gives no slot anything
+gives_none : (end : Finished) → (is_failing end ≡ false → is_missing end ≡ false → slot_given end ≡ None) → slot_closed end ≡ None
+gives_none finish.Passes given = refl
+gives_none (finish.Stores slot kind negative magnitude) given = refl
+gives_none (finish.Closes slot) given = absurd (let e = given refl refl in cc)
+gives_none (finish.Reads slot kind) given = absurd (let e = given refl refl in cc)
+gives_none finish.Misses given = refl
+gives_none (finish.Fails status) given = refl
+
+opener_given : (end : Finished) → (is_failing end ≡ false → is_missing end ≡ false → slot_given end ≡ None)
+    → is_failing (or_missing end) ≡ false → is_missing (or_missing end) ≡ false → slot_given (or_missing end) ≡ None
+opener_given finish.Passes given = given
+opener_given (finish.Stores slot kind negative magnitude) given = given
+opener_given (finish.Closes slot) given = given
+opener_given (finish.Reads slot kind) given = given
+opener_given finish.Misses given = given
+opener_given (finish.Fails status) given = λ ok there. absurd cc
+
+opener_number : (end : Finished) → IsNumberGiven end → IsNumberGiven (or_missing end)
+opener_number finish.Passes h = h
+opener_number (finish.Stores slot kind negative magnitude) h = h
+opener_number (finish.Closes slot) h = h
+opener_number (finish.Reads slot kind) h = h
+opener_number finish.Misses h = h
+opener_number (finish.Fails status) h = tt
+
+opener_memory : (end : Finished) → is_memory_failure end ≡ false → is_memory_failure (or_missing end) ≡ false
+opener_memory finish.Passes h = h
+opener_memory (finish.Stores slot kind negative magnitude) h = h
+opener_memory (finish.Closes slot) h = h
+opener_memory (finish.Reads slot kind) h = h
+opener_memory finish.Misses h = h
+opener_memory (finish.Fails status) h = refl
+
+pub opener_ends : (more due n : ℕ) (piece : List ℕ) (e : Ended) → EndsAtOnce (Byte due) n piece e
+    → EndsAtOnce (Opens (record { literal = literal.Byte due; more = more })) n piece
+    (record { before = e.before; item = e.item; finished = or_missing e.finished })
+opener_ends more due n piece e h = record {
+  ends = λ sound. ends (record { literal = literal.Byte due; more = more }) n piece (run_of e) refl e.finished
+      (gives_none e.finished h.fits.given) (h.ends (sound.0, tt));
+  fits = record {
+    within = h.fits.within;
+    given = opener_given e.finished h.fits.given;
+    number = opener_number e.finished h.fits.number;
+    memory = opener_memory e.finished h.fits.memory;
+  };
+}
+
+-- ---- a byte that a row says is due, where it stands
+
+pub byte_ends : (due n : ℕ) (piece : List ℕ) → due < 256 → 0 < length piece → get_or piece 0 0 ≡ due
+    → EndsAtOnce (Byte due) n piece (record { before = 1; item = 0; finished = finish.Passes })
+byte_ends due n piece fits some is = record {
+  ends = λ sound. (byte_passes due n piece fits some is).goes;
+  fits = record { within = omega (arith, some); given = λ ok there. refl; number = tt; memory = refl };
+}
+
+byte_of : (due : ℕ) (row : Row) → row ≡ plain_row ways.Byte due → due ≡ row.due
+byte_of due row is = ap (λ (r : Row). r.due) (sym is)
+
+no_byte : (way : Way) (due : ℕ) (row : Row) → row ≡ plain_row way due → row.way ≡ ways.Byte → way ≡ ways.Byte
+no_byte way due row is byte = ap (λ (r : Row). r.way) (sym is) ∙ byte
+
+-- no conversion is passed so
+no_number : (lead : Lead) (base : Base) → way_led_by lead base ≡ ways.Byte → ⊥
+no_number lead base e = grind arith
+
+no_text : (v : Bool) → cond v ways.StrictText ways.Text ≡ ways.Byte → ⊥
+no_text true e = cc
+no_text false e = cc
+
+no_set : (lone : Option ℕ) → way_of_set lone ≡ ways.Byte → ⊥
+no_set None e = cc
+no_set (Some stop) e = cc
+
+no_shape : (shape : Shape) (numeric : Bool) → way_of shape numeric ≡ ways.Byte → ⊥
+no_shape (Int numeral) true e = no_number numeral.lead numeral.base e
+no_shape (Int numeral) false e = cc
+no_shape (Text lead) numeric e = no_text (is_strict_lead lead) e
+no_shape (Set members) numeric e = no_set (lone_lack members) e
+no_shape Chars numeric e = cc
+no_shape (Float lead) numeric e = cc
+no_shape Count numeric e = cc
+
+no_conversion : (column : Bool) (shape : Shape) (numeric : Bool) → way_placed column shape numeric ≡ ways.Byte → ⊥
+no_conversion true shape numeric e = cc
+no_conversion false shape numeric e = no_shape shape numeric e
+
+opener_row_ends : (more : ℕ) (l : Literal) (row : Row) (n : ℕ) (piece : List ℕ) → row ≡ row_of_literal l → row.way ≡ ways.Byte
+    → row.due < 256 → 0 < length piece → get_or piece 0 0 ≡ row.due
+    → EndsAtOnce (Opens (record { literal = l; more = more })) n piece (record { before = 1; item = 0; finished = finish.Passes })
+opener_row_ends more (literal.Byte b) row n piece is way fits some there =
+    let same = byte_of b row is in
+    opener_ends more b n piece _ (byte_ends b n piece (rw same fits) some (there ∙ sym same))
+opener_row_ends more literal.Percent row n piece is way fits some there = absurd (let e = no_byte ways.Another 0 row is way in cc)
+
+pub row_ends : (d : Directive) (row : Row) (n : ℕ) (piece : List ℕ) → row ≡ row_of d → row.way ≡ ways.Byte → row.due < 256
+    → 0 < length piece → get_or piece 0 0 ≡ row.due
+    → EndsAtOnce d n piece (record { before = 1; item = 0; finished = finish.Passes })
+row_ends Space row n piece is way fits some there = absurd (let e = no_byte ways.Space 0 row is way in cc)
+row_ends (Byte b) row n piece is way fits some there =
+    let same = byte_of b row is in
+    byte_ends b n piece (rw same fits) some (there ∙ sym same)
+row_ends Percent row n piece is way fits some there = absurd (let e = no_byte ways.Another 0 row is way in cc)
+row_ends (Opens o) row n piece is way fits some there = opener_row_ends o.more o.literal row n piece is way fits some there
+row_ends (Conv c) row n piece is way fits some there =
+    absurd (no_conversion c.column c.shape (is_some (bounds_of c.kind)) (ap (λ (r : Row). r.way) (sym is) ∙ way))

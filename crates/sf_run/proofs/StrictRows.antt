@@ -11,7 +11,9 @@ use Rattle.sf_format.specs.declared.directive.Directive.TheVariants.{Space, Byte
 use Rattle.sf_format.specs.declared.layout.Row.{Row}
 use Rattle.sf_format.specs.declared.layout.Way.TheVariants as ways
 use Rattle.sf_format.specs.Leads.{is_strict_lead}
-use Rattle.sf_format.specs.Layout.{row_of, way_led_by, way_of, way_placed}
+use Rattle.sf_format.specs.declared.directive.Literal.{Literal}
+use Rattle.sf_format.specs.declared.directive.Literal.TheVariants as literal
+use Rattle.sf_format.specs.Layout.{row_of, row_of_literal, way_led_by, way_of, way_placed}
 use Rattle.sf_run.specs.Pieces.{IsTextRow}
 
 abbrev IsStrictText : Shape → Type 0
@@ -63,9 +65,13 @@ conversion_row c e =
       as_text = text_row c own.0 own.1;
     }
 
+no_opener : (l : Literal) → (row_of_literal l).way ≡ ways.StrictText → ⊥
+no_opener (literal.Byte b) e = cc
+no_opener literal.Percent e = cc
+
 pub strict_text_row : (d : Directive) → (row_of d).way ≡ ways.StrictText → StrictText d (row_of d)
 strict_text_row Space e = absurd cc
 strict_text_row (Byte b) e = absurd cc
 strict_text_row Percent e = absurd cc
-strict_text_row (Opens o) e = absurd cc
+strict_text_row (Opens o) e = absurd (no_opener o.literal e)
 strict_text_row (Conv c) e = conversion_row c e

@@ -1170,9 +1170,25 @@ pub(crate) fn whole_space(piece: &[u8]) -> Option<Ended>
     })
 }
 
+/// The byte that a row says is due, where it is the first of the piece: of a literal, or of one that opens a group.
+#[inline(always)]
+pub(crate) fn byte_at_once(row: &Row, piece: &[u8]) -> Option<Ended>
+    ensures { (d : Directive) → row.now ≡ row_of d → row.now.way ≡ ways.Byte
+        → (n : ℕ) → IfSome result (EndsAtOnce d n piece.now) }
+{
+    match piece.first() {
+        Some(b) if *b == row.due => Some(Ended {
+            before: 1,
+            item: 0,
+            finished: Finished::Passes,
+        }),
+        _ => None,
+    }
+}
+
 /// The byte that is due, or how the directive fails where another byte is the first of the piece.
 #[inline(always)]
-pub(crate) fn whole_byte(due: u8, piece: &[u8]) -> Option<Ended>
+fn whole_byte(due: u8, piece: &[u8]) -> Option<Ended>
     ensures { (n : ℕ) → IfSome result (EndsAtOnce (directive.Byte due) n piece.now) }
 {
     match piece.first() {
@@ -1345,6 +1361,36 @@ fn item_at_once(conversion: &Conversion, piece: &[u8]) -> Option<Ended>
     without_item(conversion, piece)
 }
 
+/// How a directive ends that may be missing: it is, where it fails.
+#[inline(always)]
+fn missed_if_failed(finished: Finished) -> Finished
+    ensures { result ≡ or_missing finished }
+{
+    match finished {
+        Finished::Fails(_) => Finished::Misses,
+        _ => finished,
+    }
+}
+
+/// A literal byte that opens a group, or that it is missing where another byte is the first of the piece.
+#[inline(always)]
+fn opener_at_once(directive: &Directive, piece: &[u8]) -> Option<Ended>
+    ensures { (n : ℕ) → IfSome result (EndsAtOnce directive.now n piece.now) }
+{
+    let Directive::Opens(opener) = directive else {
+        return None;
+    };
+    let Literal::Byte(due) = opener.literal else {
+        return None;
+    };
+    let ended = whole_byte(due, piece)?;
+    Some(Ended {
+        before: ended.before,
+        item: ended.item,
+        finished: missed_if_failed(ended.finished),
+    })
+}
+
 /// How a directive ends that took nothing yet, where that is seen at once, and its row doesn't say so.
 #[inline(always)]
 fn seen_at_once(directive: &Directive, piece: &[u8]) -> Option<Ended>
@@ -1510,6 +1556,9 @@ fn ended_by_run(directive: &Directive, piece: &[u8], used: u32) -> Option<EndedC
 {
     if let Some(ended) = column_at_once(directive, piece) {
         return Some(ended);
+    }
+    if let Some(ended) = opener_at_once(directive, piece) {
+        return Some(EndedColumn { ended, after: 0 });
     }
     let run = run_on(directive, Phase::Skipping, piece, used);
     as_ended(directive, run, piece)

@@ -1,5 +1,5 @@
 //! Numbers and floats of the kinds that a destination can have.
-ghost use Rattle.std.specs.Prelude.{◌≡◌, true, None, ℕ, List, if◌then◌else◌};
+ghost use Rattle.std.specs.Prelude.{◌≡◌, ◌≤◌, true, None, ℕ, List, length, take, if◌then◌else◌};
 ghost use Rattle.std.specs.Option.{option_map};
 ghost use Rattle.sf_base.specs.Data.{Number as NumberOf, datum_of_number, value_of};
 ghost use Rattle.sf_float_read.specs.item.Decimals.{IsDecimal};
@@ -7,7 +7,7 @@ ghost use Rattle.sf_report.specs.Machine.{real_at};
 
 use sf_base::{Kind, Number, Real};
 use sf_float_read::{
-    Decimal, decimal_value_f32, decimal_value_f64, is_float, value_f32, value_f64,
+    Decimal, decimal_value_f32, decimal_value_f64, is_float, numeral_within, value_f32, value_f64,
 };
 
 /// The number with the sign (true: a minus) and the magnitude, where the kind holds it.
@@ -59,4 +59,20 @@ pub(crate) fn decimal_real(kind: Kind, decimal: Decimal) -> Option<Real>
         Kind::F64 => Some(Real::F64(decimal_value_f64(negative, digits, places)?)),
         _ => None,
     }
+}
+
+/// As `real_of`, of an item of so many bytes at the front of the piece. It stands apart, so that a run that reads no
+/// float so is as it was.
+#[inline(never)]
+pub(crate) fn real_within(kind: Kind, piece: &[u8], bytes: usize) -> Option<Real>
+    requires within { bytes ≤ length piece.now }
+    ensures { result ≡ real_at kind (take bytes piece.now) }
+{
+    if let Some(decimal) = numeral_within(piece) {
+        if decimal.bytes == bytes {
+            return decimal_real(kind, decimal);
+        }
+    }
+    let (item, _) = piece.split_at(bytes);
+    real_of(kind, item)
 }

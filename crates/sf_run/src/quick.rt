@@ -1,6 +1,6 @@
 //! Runs that begin and pass within a piece of the input, read at once.
-ghost use Rattle.std.specs.Prelude.{suc, ◌≡◌, ◌≢◌, ◌<◌, ◌≤◌, ◌+◌, ◌-◌, ◌^◌, ◌++◌, ℕ, List, length, slice_get, take};
-ghost use Rattle.std.specs.Prelude.{drop};
+ghost use Rattle.std.specs.Prelude.{suc, ◌≡◌, ◌≢◌, ◌<◌, ◌≤◌, ◌+◌, ◌-◌, ◌^◌, ◌++◌, ℕ, List, [], ◌∷◌, length, slice_get};
+ghost use Rattle.std.specs.Prelude.{take, drop};
 ghost use Rattle.std.specs.Prelude.{None, Some, IfErr, IfOk, IfSome, IsNone, IsSome, is_some, if◌then◌else◌};
 ghost use Rattle.sf_format.specs.declared.directive.Directive.{Directive};
 ghost use Rattle.sf_base.specs.Data.{Assigned};
@@ -22,11 +22,11 @@ ghost use Rattle.sf_run.specs.Texts.{IsSound, slot_of};
 ghost use Rattle.sf_report.specs.Views.{report_by};
 
 use crate::directive::{
-    Ended, EndedColumn, Finished, characters_at_once, ended_within, members_at_once,
+    Ended, EndedColumn, Finished, byte_at_once, characters_at_once, ended_within, members_at_once,
     number_at_once, real_at_once, strict_number_at_once, strict_text_at_once, text_at_once,
-    until_at_once, whole_byte, whole_space,
+    until_at_once, whole_space,
 };
-use crate::number::real_of;
+use crate::number::real_within;
 use crate::tally::is_conversion;
 use sf_base::{HeapStore, Number, Store};
 use sf_format::{Base, Directive, Lead, Row, ScanFormat, Way};
@@ -75,20 +75,37 @@ struct Place {
 }
 
 impl Missing {
+    /// With the item of this directive, if it takes one.
+    #[inline(always)]
+    fn with_one(self, directive: &Directive) -> Missing
+        requires assigned { self.assigned < 2 ^ 8 - 1 }
+        requires converted { self.converted < 2 ^ 16 - 1 }
+        ensures assigned { result.assigned ≡ self.assigned + items_assigned (directive.now ∷ []) }
+        ensures converted { result.converted ≡ self.converted + items_taken (directive.now ∷ []) }
+    {
+        Missing {
+            assigned: self.assigned + assigns_item(directive) as u8,
+            converted: self.converted + is_conversion(directive) as u16,
+        }
+    }
+
     /// With the items of these directives.
     #[inline(always)]
     fn with(self, directives: &[Directive]) -> Missing
-        requires short { length directives.now ≤ 4096 }
-        requires few { items_assigned directives.now ≤ 32 }
-        requires assigned { self.assigned + items_assigned directives.now < 2 ^ 8 }
-        requires converted { self.converted + items_taken directives.now < 2 ^ 16 }
+        requires assigned { self.assigned + items_assigned directives.now < 2 ^ 8 - 1 }
+        requires converted { self.converted + items_taken directives.now < 2 ^ 16 - 1 }
         ensures assigned { result.assigned ≡ self.assigned + items_assigned directives.now }
         ensures converted { result.converted ≡ self.converted + items_taken directives.now }
     {
-        Missing {
-            assigned: self.assigned + items_assigned(directives),
-            converted: self.converted + items_taken(directives),
+        // a value that is missing by itself costs no loop
+        if let [directive] = directives {
+            return self.with_one(directive);
         }
+        let mut missing = self;
+        for directive in directives {
+            missing = missing.with_one(directive);
+        }
+        missing
     }
 }
 
@@ -141,8 +158,7 @@ fn give<S: Store>(store: &mut S, ended: Ended, piece: &[u8]) -> Option<bool>
         }
         Finished::Reads { slot, kind } => {
             let (_, rest) = piece.split_at(ended.before);
-            let (item, _) = rest.split_at(ended.item);
-            store.set_real(slot, real_of(kind, item)?);
+            store.set_real(slot, real_within(kind, rest, ended.item)?);
             Some(true)
         }
         Finished::Misses | Finished::Fails(_) => None,
@@ -309,7 +325,7 @@ fn pass<S: Store>(
             pass_so(store, directive, ended, piece, used)
         }
         Way::Byte => {
-            let ended = whole_byte(row.due, piece);
+            let ended = byte_at_once(row, piece);
             pass_so(store, directive, ended, piece, used)
         }
         Way::Decimal => {

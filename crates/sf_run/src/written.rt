@@ -15,11 +15,11 @@ ghost use Rattle.sf_run.specs.Written.{AreRecords, CanFollow, IsRecord, IsWritte
 ghost use Rattle.sf_run.specs.Written.{text_given, texts_by};
 
 use crate::directive::{
-    Ended, EndedColumn, Finished, ReadReal, characters_at_once, ended_within, members_at_once,
-    number_at_once, real_at_once, strict_number_at_once, strict_text_at_once, text_at_once,
-    until_at_once, whole_byte, whole_space,
+    Ended, EndedColumn, Finished, ReadReal, byte_at_once, characters_at_once, ended_within,
+    members_at_once, number_at_once, real_at_once, strict_number_at_once, strict_text_at_once,
+    text_at_once, until_at_once, whole_space,
 };
-use crate::number::real_of;
+use crate::number::real_within;
 use sf_base::{Number, Real};
 use sf_format::{Base, Directive, Lead, Row, ScanFormat, Way};
 
@@ -98,7 +98,7 @@ fn ended_at_once(
     let _directive = directive;
     match row.way {
         Way::Space => whole_space(piece),
-        Way::Byte => whole_byte(row.due, piece),
+        Way::Byte => byte_at_once(row, piece),
         Way::Decimal => number_at_once(row, Base::Dec, piece),
         Way::Hexadecimal => number_at_once(row, Base::Hex, piece),
         Way::Text => text_at_once(row, piece),
@@ -155,8 +155,7 @@ fn write_given<W: ValueWriter>(
         }
         Finished::Reads { kind, .. } => {
             let (_, rest) = piece.split_at(ended.before);
-            let (item, _) = rest.split_at(ended.item);
-            W::write_real(real_of(kind, item)?, room, at)
+            W::write_real(real_within(kind, rest, ended.item)?, room, at)
         }
         Finished::Misses | Finished::Fails(_) => None,
     }

@@ -1,8 +1,7 @@
 use Rattle.std.proofs.lemmas.Result.{err_from_is_err_and}
 use Rattle.sf_format.specs.Passing.{fault_of}
 use Rattle.sf_format.specs.Grammar.{destinations}
-use Rattle.sf_format.specs.Cut.{part_at}
-use Rattle.sf_format.proofs.Steps.{own_fault, group_fault, no_fault, precedes_more}
+use Rattle.sf_format.proofs.Steps.{own_fault, group_fault, stepped}
 use Rattle.sf_format.proofs.grammar.pass.Goals as goal
 
 pub returns-in_err-passed : goal.returns-in_err-passed
@@ -26,15 +25,6 @@ returns-in_err-group g c =
 pub returns : goal.returns
 returns g c =
     λ done place precedes.
-    let language = g.G.Grammar.language c.args.grammar in
-    let passed = c.in_ok-passed.ensures (destinations done) precedes.slots in
-    let joined = c.in_ok-group.ensures in
-    let role = c.in_ok-passed.passed.role in (
-      no_fault language done c.args.text.now c.args.at c.args.before role place precedes passed.5 passed.0 joined.0,
-      passed.1,
-      passed.2,
-      precedes_more done (part_at language c.args.text.now).piece c.args.at c.args.before c.in_ok-passed.passed.slots c.in_ok-group.group
-          role place precedes passed.5 passed.3 joined.1 joined.2,
-      passed.4,
-      passed.5,
-    )
+    stepped c.args.wanted (g.G.Grammar.means c.args.grammar) (g.G.Grammar.language c.args.grammar) done c.args.text.now c.args.at
+    c.args.before c.in_ok-passed.passed c.in_ok-group.group place precedes (c.in_ok-passed.ensures (destinations done) precedes.slots)
+    c.in_ok-group.ensures

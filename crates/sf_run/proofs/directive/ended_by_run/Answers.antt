@@ -1,7 +1,11 @@
 use Rattle.std.proofs.Common.{refl}
 use Rattle.sf_report.specs.Machine.{Skipping}
-use Rattle.sf_run.proofs.Pieces.{ended_by, waits_late}
+use Rattle.sf_run.proofs.Pieces.{ended_by, ended_whole, waits_late}
 use Rattle.sf_run.proofs.directive.ended_by_run.Goals as goal
+
+pub returns-in-Some-opener_at_once-clause-ends : goal.returns-in-Some-opener_at_once-clause-ends
+returns-in-Some-opener_at_once-clause-ends c =
+    ended_whole c.args.directive.now c.args.used c.args.piece.now _ (c.in-Some-opener_at_once.ensures c.args.used)
 
 pub returns-clause-ends : goal.returns-clause-ends
 returns-clause-ends c =

@@ -10,7 +10,9 @@ use Rattle.sf_format.specs.declared.directive.Shape.TheVariants.{Int, Text, Set,
 use Rattle.sf_format.specs.declared.layout.Row.{Row}
 use Rattle.sf_format.specs.declared.layout.Way.TheVariants as ways
 use Rattle.sf_format.specs.Leads.{is_strict_lead}
-use Rattle.sf_format.specs.Layout.{way_of, way_led_by, way_of_set, way_placed, stop_of}
+use Rattle.sf_format.specs.declared.directive.Literal.{Literal}
+use Rattle.sf_format.specs.declared.directive.Literal.TheVariants as literal
+use Rattle.sf_format.specs.Layout.{row_of_literal, way_of, way_led_by, way_of_set, way_placed, stop_of}
 use Rattle.sf_report.specs.Machine.{shape_skips}
 use Rattle.sf_run.specs.Pieces.{IsTextRow, IsTextShape}
 use Rattle.sf_run.proofs.Pieces.{ends_unskipped, item_if}
@@ -53,11 +55,15 @@ no_byte e = cc
 no_other : ways.Another ≡ ways.Until → ⊥
 no_other e = cc
 
+no_opener : (l : Literal) → (row_of_literal l).way ≡ ways.Until → ⊥
+no_opener (literal.Byte b) e = cc
+no_opener literal.Percent e = cc
+
 pub returns : goal.returns
 returns c Space is way n = absurd (no_space (sym (ap (λ (r : Row). r.way) is) ∙ way))
 returns c (Byte b) is way n = absurd (no_byte (sym (ap (λ (r : Row). r.way) is) ∙ way))
 returns c Percent is way n = absurd (no_other (sym (ap (λ (r : Row). r.way) is) ∙ way))
-returns c (Opens o) is way n = absurd (no_other (sym (ap (λ (r : Row). r.way) is) ∙ way))
+returns c (Opens o) is way n = absurd (no_opener o.literal (sym (ap (λ (r : Row). r.way) is) ∙ way))
 returns c (Conv k) is way n =
     let piece = c.args.piece.now in
     let placed : way_placed k.column k.shape (is_some (bounds_of k.kind)) ≡ ways.Until = sym (ap (λ (r : Row). r.way) is) ∙ way in

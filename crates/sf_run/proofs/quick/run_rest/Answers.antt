@@ -165,30 +165,6 @@ returns-clause-run g c = λ z ending.
     c.done.ensures.converted)
     c.done.ensures.met z ending)
 
-pub with-missing-requires-clause-short : goal.with-missing-requires-clause-short
-with-missing-requires-clause-short g c =
-    let ds = c.directives-directives in
-    let come = c.loop-come.come in
-    let fits = gone_fits ds.result.now c.split_at.result.0.now come c.index-directives-at.result c.loop-come.missing
-    (g.S.Store.kept c.loop-come.store) c.missed-missed.result.now c.loop-come.invariant.short
-    (c.missed-missed.ensures ∙ ap (take (suc (more_of c.index-directives-at.result))) c.split_at-in-Misses.ensures.back)
-    c.loop-come.invariant.come in
-    let few = fits.0 in
-    let most = c.loop-come.invariant.short in
-    let short = ds.ensures.short in
-    omega (arith, few, most, short)
-
-pub with-missing-requires-clause-few : goal.with-missing-requires-clause-few
-with-missing-requires-clause-few g c =
-    let ds = c.directives-directives in
-    let come = c.loop-come.come in
-    let fits = gone_fits ds.result.now c.split_at.result.0.now come c.index-directives-at.result c.loop-come.missing
-    (g.S.Store.kept c.loop-come.store) c.missed-missed.result.now c.loop-come.invariant.short
-    (c.missed-missed.ensures ∙ ap (take (suc (more_of c.index-directives-at.result))) c.split_at-in-Misses.ensures.back)
-    c.loop-come.invariant.come in
-    let all = fits.1 in
-    omega (arith, all)
-
 pub with-missing-requires-clause-assigned : goal.with-missing-requires-clause-assigned
 with-missing-requires-clause-assigned g c =
     let ds = c.directives-directives in

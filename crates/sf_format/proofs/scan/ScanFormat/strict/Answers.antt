@@ -27,5 +27,5 @@ invariant_of-format c =
       converted = rw is (c.format.invariant.converted ∙ sym (taken_stay old));
       optional = rw is (c.format.invariant.optional ∙ sym (optionals_stay old));
       reserve = rw is (c.format.invariant.reserve ∙ ap (λ w. unwrap_or w 0) (sym (widths_stay old)));
-      unbounded = subst (λ ds. IsTrue c.ends_unbounded.result ↔ EndsUnbounded ds) c.deref-2.ensures.value c.ends_unbounded.ensures;
+      unbounded = subst (λ ds. IsTrue c.ends_unbounded.result ↔ EndsUnbounded ds) c.deref-3.ensures.value c.ends_unbounded.ensures;
     }
