@@ -8,7 +8,8 @@ usage: tools/fscanf.py [--profile N] [--limit N] FORMAT < INPUT
     slot 1: 12
     slot 2: -7
 
-It is a reference: the definitions of the page are functions here, in its order. It shares nothing with the program. FORMAT has no escapes.
+It is a reference: the definitions of the page are functions here, in its order. What reads FORMAT, which has no
+escapes, is scan_formats.py. Both share nothing with the program.
 """
 import argparse
 import math
@@ -40,12 +41,12 @@ SIGNS = dict(Any=b"+-", Minus=b"-", Nothing=b"")  # has_plus, has_minus: those t
 
 
 def number(radix, digits):
-    """IsNumber: the number of one or more digits of the radix; None where these are none."""
+    """IsIntegerDigits: the number of one or more digits of the radix; None where these are none."""
     return int(digits, radix) if digits and not digits.lower().translate(None, b"0123456789abcdef"[:radix]) else None
 
 
 def unsigned(base, body, lead):
-    """IsUnsigned, IsPrefixed, has_prefix: the magnitude of what follows the sign of an integer."""
+    """IsUnsignedInteger, IsPrefixed, has_prefix: the magnitude of what follows the sign of an integer."""
     first, zero, prefixes = RADICES[base]
     if lead != "Nothing" and body[:1] == b"0" and body[1:2].lower() in prefixes:
         return number(prefixes[body[1:2].lower()], body[2:])
@@ -53,7 +54,7 @@ def unsigned(base, body, lead):
 
 
 def signed(s, lead="Any"):
-    """IsSign: whether a minus stands in front, and what follows an optional sign, of those that may stand there."""
+    """IsIntegerSign: whether a minus stands in front; what follows an optional sign, of those allowed there."""
     return s[:1] == b"-", s[1:] if s[:1] in SIGNS[lead] else s
 
 
@@ -78,7 +79,7 @@ def numeral(form, size):
 
 
 def is_float(s, lead):
-    """IsFloat: a sign or none, and a numeral, an infinity or a NaN. IsDecimalFloat, with !: a minus or none, and a decimal numeral."""
+    """IsFloat: a sign or none; a numeral, infinity or NaN. IsDecimalFloat, with !: a minus or none; a decimal one."""
     size = signed(s, lead)[1]
     is_other = numeral(HEXADECIMAL, size) or INFINITY.fullmatch(size) or NAN.fullmatch(size)
     return bool(numeral(DECIMAL, size) or lead == "Any" and is_other)
@@ -92,7 +93,7 @@ TAILS = {"Int": [b"", b"0"], "Float": [b"", b"0", b")", b"nan", b"an", b"n", *(b
 
 def are_members(c, s):
     """Each byte is of the set; of s, none is white space, but in a column without !, which may have it (Fills)."""
-    return c.column and c.lead == "Any" or not s.translate(None, bytes(c.members if c.shape == "Set" else {*range(256)} - WHITE))
+    return c.column and c.lead == "Any" or not s.translate(None, bytes(c.members or {*range(256)} - WHITE))
 
 
 def matches(c, s):
@@ -106,26 +107,25 @@ def matches(c, s):
 
 @lru_cache(4096)
 def begins(c, f):
-    """Begins: f is a matching sequence, or a front of one."""
+    """BeginsMatch: f is a matching sequence, or a front of one."""
     if c.shape in TAILS:
         return any(matches(c, f + tail) for tail in TAILS[c.shape])
     return len(f) <= c.width if c.shape == "Chars" else are_members(c, f)
 
 
 def item(c, x):
-    """IsItem, IsGreatest: how long the longest front is, within the width, that begins a matching sequence. So does each front of it."""
-    least, half = 0, len(x[: c.width])
-    most = half
+    """IsItem, IsGreatest: the length of the longest front, within the width, that begins a match, as its fronts do."""
+    least, most = 0, len(x[: c.width])
     while least < most:
-        least, most = (half, most) if begins(c, x[:half]) else (least, half - 1)
         half = (least + most + 1) // 2
+        least, most = (half, most) if begins(c, x[:half]) else (least, half - 1)
     return least
 
 
 # ---- values (p10)
 
 BITS = {"i8": 7, "i16": 15, "i32": 31, "i64": 63, "u8": 8, "u16": 16, "u32": 32, "u64": 64}  # beside the sign
-FORMATS = {"f32": (24, -149, 128), "f64": (53, -1074, 1024)}  # the bits, the power of two of the last one, and a power that is too great
+FORMATS = {"f32": (24, -149, 128), "f64": (53, -1074, 1024)}  # bits, the last one's power of two, one too great
 
 
 def value_of(kind, negative, m):
@@ -152,10 +152,8 @@ def nearest(kind, digits, base, power):
 def real(kind, s):
     """IsStored: the float that a matching sequence gives; None where a finite number is out of range."""
     negative, size = signed(s)
-    if NAN.fullmatch(size):
-        return math.nan
-    if INFINITY.fullmatch(size):
-        return -math.inf if negative else math.inf
+    if NAN.fullmatch(size) or INFINITY.fullmatch(size):
+        return math.nan if NAN.fullmatch(size) else -math.inf if negative else math.inf
     form, radix, base, places = (HEXADECIMAL, 16, 2, 4) if numeral(HEXADECIMAL, size) else (DECIMAL, 10, 10, 1)
     whole, fraction, exponent = numeral(form, size)
     found = nearest(kind, int(whole + fraction, radix), base, int(exponent or b"0") - places * len(fraction))
@@ -171,12 +169,12 @@ def stored(c, s):
 
 # ---- one directive (p4 to p10): how many bytes it consumes, and how it ends
 
-PASSES, MISSES = ("Passes",), ("Misses",)
-INPUT_FAILURE, MATCHING_FAILURE, OUT_OF_RANGE = (("Fails", it) for it in ("InputFailure", "MatchingFailure", "OutOfRange"))
+PASSES, MISSES, OUT_OF_RANGE = ("Passes",), ("Misses",), ("Fails", "OutOfRange")
+INPUT_FAILURE, MATCHING_FAILURE = ("Fails", "InputFailure"), ("Fails", "MatchingFailure")
 
 
 def literal_step(d, x):
-    """LiteralStep, ByteStep: the byte stands there that is due, or another one, or none (p6). PercentStep: after white space (p12)."""
+    """LiteralStep, ByteStep: the byte due is there, or another, or none (p6). PercentStep: after white space (p12)."""
     s, due = (skip(x), ord("%")) if isinstance(d, Percent) else (0, d.byte)
     return (s, INPUT_FAILURE) if s == len(x) else (s + 1, PASSES) if x[s] == due else (s, MATCHING_FAILURE)
 
@@ -187,7 +185,7 @@ def stores(c, value):
 
 
 def item_ends(c, x, j):
-    """ItemEnds, EmptyItem: how a conversion ends whose item is the first j bytes of x (p9, p10). ColumnEnds: or the text of its column."""
+    """ItemEnds, EmptyItem: how a conversion ends whose item is x[:j] (p9, p10). ColumnEnds: whose text is."""
     if j == 0:
         return MISSES if c.optional else MATCHING_FAILURE if x else INPUT_FAILURE
     if not matches(c, x[:j]):
@@ -203,7 +201,7 @@ def item_step(c, x):
 
 
 def column_step(c, x):
-    """ColumnStep, IsTextOf: the column, as many bytes as its width allows, and how a conversion ends with the text in it, if it has one."""
+    """ColumnStep, IsTextOf: the column, as wide as it may be, and how a conversion ends with the text in it, if any."""
     column, text = x[: c.width], x[: c.width].strip(bytes(WHITE))
     text = column if text and c.lead in ("Minus", "Nothing") else text
     return len(column), item_ends(c, text or column, len(text))
@@ -230,12 +228,12 @@ Report = namedtuple("Report", "status at assigned converted used met values")
 
 
 def over(d, end):
-    """over: how many directives after it are missing with it: where it is missing, the rest of the group that it opens."""
+    """over: how many directives after it are missing with it: of a missing one, the rest of the group that it opens."""
     return (more_of(d) or 0) if end == MISSES else 0
 
 
 def steps(directives, x, n=0):
-    """Steps, StepsPast: the directives that run, after n bytes of x, up to the first that fails, each on what those before it left."""
+    """Steps, StepsPast: the directives that run after n bytes of x, to the first that fails, each on what is left."""
     ran, m = [], 0
     for d in directives:
         k, end = (0, MISSES) if m else step(d, x[n:], n)  # left_out: it is missing with the first of its group
@@ -251,12 +249,12 @@ def used(ran):
 
 
 def counted(ran, *ends):
-    """assigned, converted: how many conversions ended so."""
-    return sum(isinstance(it.directive, Conversion) and it.directive.shape != "Count" and it.end[0] in ends for it in ran)
+    """count_assigned, count_converted: how many conversions ended so."""
+    return sum(getattr(it.directive, "shape", "Count") != "Count" and it.end[0] in ends for it in ran)
 
 
 def is_open(directives, x, ran):
-    """IsOpen: after the bytes x the run would consume some byte next. What ended at a byte of x would end there again."""
+    """IsOpen: after the bytes x the run would consume a byte next. What ended at a byte of x would end there again."""
     again = [it for it in ran if it.at + it.bytes == len(x)]
     left, n = directives[len(ran) - len(again) :], again[0].at if again else 0
     return any(n + used(steps(left, x + bytes([b]), n)) > len(x) for b in (*b"0 a,", *range(256)))  # likely first
@@ -264,7 +262,8 @@ def is_open(directives, x, ran):
 
 def report_of(ran, met):
     status, at = (ran[-1].end[1], len(ran)) if ran and ran[-1].end[0] == "Fails" else ("Done", 0)
-    return Report(status, at, counted(ran, "Stores"), counted(ran, "Stores", "Passes"), used(ran), met, [it.end[1:] for it in ran if it.end[0] == "Stores"])
+    values = [it.end[1:] for it in ran if it.end[0] == "Stores"]
+    return Report(status, at, counted(ran, "Stores"), counted(ran, "Stores", "Passes"), used(ran), met, values)
 
 
 def run(directives, x, limit=2**31 - 1, ending="End"):
@@ -291,7 +290,8 @@ def main():
         report = run(directives_of(os.fsencode(given.format), given.profile), sys.stdin.buffer.read(), given.limit)
     except Fault as fault:
         sys.exit(f"scan format: {fault}")
-    print(f"fscanf returns {c_return(report)}; {report.status} at {report.at}", *(f"{it} {getattr(report, it)}" for it in Report._fields[2:6]), sep=", ")
+    said = (f"{it} {getattr(report, it)}" for it in Report._fields[2:6])
+    print(f"fscanf returns {c_return(report)}; {report.status} at {report.at}", *said, sep=", ")
     for slot, value in sorted(report.values):
         print(f"slot {slot}:", quoted(value) if isinstance(value, bytes) else value)
 

@@ -7,9 +7,11 @@ A block `antt` or `rust` of the page has a file's path in its first line, after 
 
 - each part stands there word for word and whole, whatever its lines; of sources without docstrings. Parts are apart by an
   empty line.
+- no two definitions on the page have one name
 - what ROOTS rest on is all on the page; so is each word that a definition or a clause on it has of another module, or it
   is in one of the page's tables of words
-- each word of these tables is cited on the page, and each module in them has it.
+- each word of these tables is cited on the page, and each module in them has it
+- what a row of the table `It rests on` names stands in one of the definitions of that row.
 
 With --write each part `antt` is quoted anew, by the names in it: a part may be such a name alone. Without it, what is wrong
 is printed, and the status is 1 if anything is.
@@ -25,6 +27,7 @@ PAGE = "docs/FSCANF.md"
 COLUMNS = 118
 # What the theorem of the scan says, as its calls do.
 ROOTS = [("crates/sf_report/specs/Limits.antt", "RunTold"), ("crates/sf_report/specs/Runs.antt", "c_return"), ("crates/sf_report/specs/Laws.antt", "EachHasOneReport")]
+RESTS = "| Definition | It says | It rests on |"
 BLOCK = re.compile(r"^```(antt|rust)\n(?:--|//) (\S+)\n(.*?)^```$", re.MULTILINE | re.DOTALL)
 DEFINITION = re.compile(r"^(?:abbrev pub|unfoldable pub|pub record|pub data) (\w+)", re.MULTILINE)
 USE = re.compile(r"^(?:pub )?use (\S+?)(?:\.\{(.*)\}| as (\w+))$", re.MULTILINE)
@@ -227,10 +230,33 @@ def missing(page):
             yield f"{where} has no {word}"
 
 
+def not_rested_on(page):
+    """What the table says that a definition rests on, and isn't in it."""
+    here, table = quoted(page), page.partition(RESTS)[2].partition("\n\n")[0]
+    if not table:
+        yield f"the table is gone: {RESTS}"
+    for first, last in re.findall(r"^\| (`[^|]*) \| [^|]* \| ([^|]*) \|$", table, re.MULTILINE):
+        names = re.findall(r"`(\w+)`", first)
+        found = {word for path, name in here if name in names for _, word in cited(path, name)}
+        for word in re.findall(r"`(\w+)`", last):
+            if word not in found:
+                yield f"{', '.join(names)}: no {word} is in it"
+
+
+def named_twice(page):
+    """The names that definitions of two files have."""
+    files = {}
+    for path, name in sorted(quoted(page)):
+        if files.setdefault(name, path) != path:
+            yield f"{name} is of {files[name]} and of {path}"
+
+
 def faults(page):
     """All that is wrong with the page."""
     yield from not_quoted(page)
+    yield from named_twice(page)
     yield from dict.fromkeys(missing(page))
+    yield from not_rested_on(page)
 
 
 # ---- quoting anew

@@ -2,14 +2,14 @@
 #![tactic(auto)]
 
 ghost use Rattle.std.specs.Prelude.{IfOk};
-ghost use Rattle.sf_loops.specs.Counts.{IsCount};
-ghost use Rattle.sf_read.specs.field.Rows.{slots_by};
+ghost use Rattle.sf_scanf.specs.Counts.{IsCount};
+ghost use Rattle.sf_scanf.specs.Rows.{slots_by};
 
 use anyhow::bail;
-use sf_format::{Profile, ScanFormat};
-use sf_loops::Records;
-use sf_loops::laws::records_are_counted;
-use sf_read::{Row, SliceSource};
+use sf_scanf::io::SliceSource;
+use sf_scanf::laws::records_are_counted;
+use sf_scanf::prelude::{Profile, Records, ScanFormat};
+use sf_scanf::scan::Row;
 use std::alloc::Global;
 
 /// The most bytes that one record may have.

@@ -6,11 +6,13 @@ use sf_scanf::prelude::{Lines, Match, Profile, ScanFormat, StdSource};
 /// The most bytes that one line may have.
 const LIMIT: u32 = 1000;
 
+/// A name and a number.
+type Named = (Vec<u8>, i32);
+
 fn main(rt: HostRuntime) -> anyhow::Result<()> {
     let alloc = rt.alloc();
     let format = ScanFormat::parse(alloc, Profile::One, b" %[^=]=%d")?;
-    let input = StdSource::new(rt.stdin());
-    let lines = Lines::<(Vec<u8>, i32), _, 4096>::new(alloc, input, &format, LIMIT)?;
+    let lines = Lines::<Named, _, 4096>::new(alloc, StdSource::new(rt.stdin()), &format, LIMIT)?;
     let mut sum: i64 = 0;
     for line in lines.matching(Match::Whole) {
         match line {

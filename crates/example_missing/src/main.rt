@@ -12,8 +12,7 @@ type Person = (Vec<u8>, Option<u32>, Option<f64>);
 fn main(rt: HostRuntime) -> anyhow::Result<()> {
     let alloc = rt.alloc();
     let format = ScanFormat::parse(alloc, Profile::Three, b"%[^,],%?u,%?lf")?;
-    let input = StdSource::new(rt.stdin());
-    let people = Lines::<Person, _, 4096>::new(alloc, input, &format, LIMIT)?;
+    let people = Lines::<Person, _, 4096>::new(alloc, StdSource::new(rt.stdin()), &format, LIMIT)?;
     let mut metres = 0.0;
     let mut unknown: u64 = 0;
     for person in people.matching(Match::Whole) {

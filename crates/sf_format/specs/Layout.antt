@@ -7,7 +7,7 @@ use Rattle.sf_base.specs.declared.values.Kind.TheVariants as kinds
 use Rattle.sf_base.specs.Kinds.{bounds_of}
 use Rattle.sf_base.specs.Sets.{lone_lack}
 use Rattle.sf_format.specs.declared.directive.Base.{Base}
-use Rattle.sf_format.specs.declared.directive.Base.TheVariants.{Dec, Hex}
+use Rattle.sf_format.specs.declared.directive.Base.TheVariants.{Dec, Oct, Hex, Auto, AutoBin}
 use Rattle.sf_format.specs.declared.directive.Lead.{Lead}
 use Rattle.sf_format.specs.declared.directive.Lead.TheVariants.{Any, Minus, Nothing}
 use Rattle.sf_format.specs.declared.directive.Numeral.{Numeral}
@@ -26,6 +26,9 @@ use Rattle.sf_format.specs.declared.layout.Way.TheVariants as ways
 abbrev pub way_led_by : Lead → Base → Way
 way_led_by Any Dec = ways.Decimal
 way_led_by Any Hex = ways.Hexadecimal
+way_led_by Any Oct = ways.Octal
+way_led_by Any Auto = ways.Automatic
+way_led_by Any AutoBin = ways.AutomaticBinary
 way_led_by Minus Dec = ways.StrictSigned
 way_led_by Nothing Dec = ways.StrictDecimal
 way_led_by Nothing Hex = ways.StrictHexadecimal

@@ -16,6 +16,11 @@ pub enum Way {
     Byte,
     Decimal,
     Hexadecimal,
+    Octal,
+    /// An integer whose radix its first digits show.
+    Automatic,
+    /// The same, where `0b` is a prefix too.
+    AutomaticBinary,
     Text,
     /// Decimal digits after a minus or none, with `!`.
     StrictSigned,
@@ -56,6 +61,9 @@ fn way_of_integer(numeral: Numeral) -> Way
     match (numeral.lead, numeral.base) {
         (Lead::Any, Base::Dec) => Way::Decimal,
         (Lead::Any, Base::Hex) => Way::Hexadecimal,
+        (Lead::Any, Base::Oct) => Way::Octal,
+        (Lead::Any, Base::Auto) => Way::Automatic,
+        (Lead::Any, Base::AutoBin) => Way::AutomaticBinary,
         (Lead::Minus, Base::Dec) => Way::StrictSigned,
         (Lead::Nothing, Base::Dec) => Way::StrictDecimal,
         (Lead::Nothing, Base::Hex) => Way::StrictHexadecimal,

@@ -1,17 +1,25 @@
 -- The columns of records under heads.
-use Rattle.std.proofs.Common.{◌≡◌, ℕ, zero, suc, ◌+◌, ◌-◌, ◌<◌, Bool, true, false, List, [], ◌∷◌, ◌++◌, length, map, get_or}
+use Rattle.std.proofs.Common.{◌≡◌, ℕ, zero, suc, ◌+◌, ◌-◌, ◌<◌, Bool, true, false, List, [], ◌∷◌, ◌++◌, length, map, take, get_or}
 use Rattle.std.proofs.Common.{refl, sym, ap, ◌∙◌, arith, Option, Some, None, ◌⊎◌, inl, inr, Result, Ok, Err, OnOk, true≢false}
+use Rattle.std.proofs.Common.{append_assoc, codes, cond}
 use mir.Val.{bool_byte}
 use Rattle.std.proofs.lemmas.Bool.{ne_eqb}
+use Rattle.std.proofs.lemmas.List.{append-nil, get_or-map, length-append, length-map, map-append, map_more}
+use Rattle.std.specs.Borrow.{Bor}
 use Rattle.std.specs.Fmt.{decimal}
 use Rattle.std.specs.List.{join_with_byte, range_with_len}
-use Rattle.std.specs.Prelude.{is_err, is_some}
+use Rattle.std.specs.Prelude.{IfSome, is_err, is_some}
 use Rattle.sf_base.specs.Data.{Bytes}
 use Rattle.sf_forms.specs.declared.form.OutputForm.{OutputForm}
-use Rattle.sf_forms.specs.Columns.{name_at, tagged_column}
+use Rattle.sf_forms.specs.Columns.{after_head, name_at, tagged_column, texts}
 use Rattle.sf_forms.specs.declared.form.OutputForm.TheVariants.{Plain, Tsv, Json, Csv}
-use Rattle.sf_forms.specs.Forms.{framed, row_text, slot_text, value_text}
-use Rattle.sf_forms.specs.Heads.{column_names, columns, headed, member, members, names_line, object_text}
+use Rattle.sf_forms.specs.Forms.{closing, framed, opening, row_text, separator, slot_text, value_text}
+use Rattle.sf_forms.specs.Heads.{column_names, columns, head, headed, member, members, names_line, object_front, object_text, tag_text}
+use Rattle.sf_forms.specs.Heads.{tagged}
+use Rattle.sf_forms.specs.Lone.{is_lone_in}
+use Rattle.sf_forms.specs.JsonStrings.{json_string}
+use Rattle.sf_forms.proofs.Lone.{record_is}
+use Rattle.sf_forms.proofs.Rooms.{plain_string}
 use Rattle.sf_report.specs.Runs.{RunReport}
 
 -- ---- the number of a format
@@ -59,6 +67,42 @@ pub members_by_place : (names : List (List ℕ)) (f : ℕ → List ℕ) (n : ℕ
 members_by_place names f n = members_from names (name_at names) f 1 n
     (λ k. ap (λ (i : ℕ). get_or names i []) {x = 1 + k - 1} {y = k} (omega arith))
 
+-- the same, each member by its head
+by_heads : (name f : ℕ → List ℕ) (ks : List ℕ) → map (after_head (λ k. head (name k)) f) ks ≡ map (λ k. member (name k) (f k)) ks
+by_heads name f [] = refl
+by_heads name f (k ∷ ks) = (λ i. append_assoc (json_string (name k)) (58 ∷ []) (f k) i ∷ by_heads name f ks i)
+
+members_by_head : (names : List (List ℕ)) (f : ℕ → List ℕ) (n : ℕ)
+    → map (after_head (λ k. head (name_at names k)) f) (range_with_len 1 n) ≡ members names (map f (range_with_len 1 n))
+members_by_head names f n = by_heads (name_at names) f (range_with_len 1 n) ∙ members_by_place names f n
+
+-- the heads of one more name
+pub heads_more : (names : List (Bor (List ℕ))) (i : ℕ) (none : Bor (List ℕ)) (heads : List (List ℕ)) (text : List ℕ) → i < length names
+    → heads ≡ map head (texts (take i names)) → text ≡ head (get_or names i none).now
+    → heads ++ text ∷ [] ≡ map head (texts (take (i + 1) names))
+heads_more names i none heads text lt so_far is =
+    (λ j. so_far j ++ is j ∷ [])
+    ∙ sym (ap (map head) (map_more (λ (n : Bor (List ℕ)). n.now) names i none lt)
+    ∙ map-append head (texts (take i names)) ((get_or names i none).now ∷ []))
+
+-- the head that stands at this place is that of the name there
+pub head_there : {V : Type 0} (items : V → List ℕ) (heads : List V) (names : List (List ℕ)) (k : ℕ) (found : V) (text : List ℕ)
+    → map items heads ≡ map head names → k < length heads → found ≡ get_or heads k found → text ≡ items found
+    → text ≡ head (get_or names k [])
+head_there items heads names k found text same lt is shown =
+    shown ∙ ap items is ∙ sym (get_or-map items heads k found (head []) lt) ∙ ap (λ (ts : List (List ℕ)). get_or ts k (head [])) same
+    ∙ get_or-map head names k [] (head [])
+    (omega (arith, lt, ap length same, length-map heads items, length-map names head))
+
+-- the head of the format's number
+pub head_of_tag : 34 ∷ (codes "format" ++ 34 ∷ 58 ∷ []) ≡ head (codes "format")
+head_of_tag = ap (λ (t : List ℕ). t ++ 58 ∷ []) (plain_string (codes "format") refl)
+
+-- its name is that of the first column
+pub tag_is_first : (tagged : Bool) (names : List (List ℕ)) (column : ℕ) → tagged ≡ true → column ≡ 1
+    → codes "format" ≡ name_at (column_names tagged names) column
+tag_is_first tagged names column is first = rw (is, first) refl
+
 -- the names as texts
 texts_from : (form : OutputForm) (names : List (List ℕ)) (name : ℕ → List ℕ) (a : ℕ) → ((k : ℕ) → name (a + k) ≡ get_or names k [])
     → map (λ k. value_text form (Bytes (name k))) (range_with_len a (length names)) ≡ map (value_text form) (map Bytes names)
@@ -103,6 +147,125 @@ pub object_without : (old : List ℕ) (names : List (List ℕ)) (tag : Option �
 object_without old names tag n report is =
     rw is (ap (λ (ts : List (List ℕ)). old ++ 123 ∷ (join_with_byte 44 ts ++ 125 ∷ 10 ∷ []))
     (members_by_place names (slot_text Json report) n))
+
+-- texts after the number of a format, if it is given
+pub joined_after : (sep : ℕ) (tag : Option ℕ) (f : ℕ → List ℕ) (n : ℕ)
+    → join_with_byte sep (tagged tag (map f (range_with_len 1 n))) ≡ tag_text sep tag n ++ join_with_byte sep (map f (range_with_len 1 n))
+joined_after sep None f n = refl
+joined_after sep (Some number) f zero = sym (append-nil (decimal number))
+joined_after sep (Some number) f (suc n) =
+    sym (append_assoc (decimal number) (sep ∷ []) (join_with_byte sep (map f (range_with_len 1 (suc n)))))
+
+pub joined_length : (sep : ℕ) (tag : Option ℕ) (f : ℕ → List ℕ) (n : ℕ)
+    → length (join_with_byte sep (tagged tag (map f (range_with_len 1 n)))) ≡ length (tag_text sep tag n)
+    + length (join_with_byte sep (map f (range_with_len 1 n)))
+joined_length sep tag f n =
+    omega (
+      arith,
+      ap length (joined_after sep tag f n),
+      length-append (tag_text sep tag n) (join_with_byte sep (map f (range_with_len 1 n))),
+    )
+
+-- a record of these columns
+pub columns_are : (form : OutputForm) (tag : Option ℕ) (f : ℕ → List ℕ) (n count len : ℕ) (begun front values filled new : List ℕ)
+    → count ≡ n + bool_byte (is_some tag) → begun ≡ opening form → front ≡ begun ++ tag_text (separator form) tag n
+    → values ≡ front ++ join_with_byte (separator form) (map f (range_with_len 1 n)) → len ≡ length values - length (opening form)
+    → filled ≡ values ++ cond (is_lone_in form count len) (34 ∷ 34 ∷ []) [] → new ≡ filled ++ closing form
+    → new ≡ framed form (tagged tag (map f (range_with_len 1 n)))
+columns_are form tag f n count len begun front values filled new counted opens tags written long quotes closed = by tag counted after
+  where
+    texts : List ℕ
+    texts = join_with_byte (separator form) (map f (range_with_len 1 n))
+
+    after : values ≡ opening form ++ join_with_byte (separator form) (tagged tag (map f (range_with_len 1 n)))
+    after = written ∙ ap (λ (t : List ℕ). t ++ texts) (tags ∙ ap (λ (t : List ℕ). t ++ tag_text (separator form) tag n) opens)
+        ∙ append_assoc (opening form) (tag_text (separator form) tag n) texts
+        ∙ ap (λ (t : List ℕ). opening form ++ t) (sym (joined_after (separator form) tag f n))
+
+    by : (tag : Option ℕ) → count ≡ n + bool_byte (is_some tag)
+        → values ≡ opening form ++ join_with_byte (separator form) (tagged tag (map f (range_with_len 1 n)))
+        → new ≡ framed form (tagged tag (map f (range_with_len 1 n)))
+    by None counted after =
+        record_is form f n len [] values filled new after long
+        (quotes ∙ ap (λ (k : ℕ). values ++ cond (is_lone_in form k len) (34 ∷ 34 ∷ []) []) {x = count} {y = n} (omega (arith, counted)))
+        closed
+    by (Some number) counted after =
+        let g : ℕ → List ℕ = tagged_column number f in
+        let same = tagged_columns number f n in
+        record_is form g (n + 1) len [] values filled new
+        (after ∙ ap (λ (ts : List (List ℕ)). opening form ++ join_with_byte (separator form) ts) (sym same)) long
+        (quotes ∙ ap (λ (k : ℕ). values ++ cond (is_lone_in form k len) (34 ∷ 34 ∷ []) []) {x = count} {y = n + 1} (omega (arith, counted)))
+        closed ∙ ap (framed form) same
+
+-- what stands before the values of an object, the values, and what stands after them
+pub object_after : (names : List (List ℕ)) (f : ℕ → List ℕ) (n : ℕ) (tag : Option ℕ)
+    → (object_front tag n ++ join_with_byte 44 (map (after_head (λ k. head (name_at names k)) f) (range_with_len 1 n))) ++ 125 ∷ 10 ∷ []
+    ≡ object_text (column_names (is_some tag) names) (tagged tag (map f (range_with_len 1 n)))
+object_after names f n None = ap (λ (ts : List (List ℕ)). 123 ∷ (join_with_byte 44 ts ++ 125 ∷ 10 ∷ [])) (members_by_head names f n)
+object_after names f n (Some number) =
+    ap (λ (t : List ℕ). 123 ∷ (t ++ 125 ∷ 10 ∷ [])) (append_assoc first (tag_text 44 (Some number) n) rest
+    ∙ ap (λ (t : List ℕ). first ++ t) (sym (joined_after 44 (Some number) texts n)) ∙ first_joined (map texts (range_with_len 1 n)))
+    ∙ ap (λ (ts : List (List ℕ)). 123 ∷ (join_with_byte 44 (member (codes "format") (decimal number) ∷ ts) ++ 125 ∷ 10 ∷ []))
+    (members_by_head names f n)
+  where
+    first : List ℕ
+    first = head (codes "format")
+
+    texts : ℕ → List ℕ
+    texts = after_head (λ k. head (name_at names k)) f
+
+    rest : List ℕ
+    rest = join_with_byte 44 (map texts (range_with_len 1 n))
+
+    -- the first text with its head
+    headed_text : first ++ decimal number ≡ member (codes "format") (decimal number)
+    headed_text = append_assoc (json_string (codes "format")) (58 ∷ []) (decimal number)
+
+    first_joined : (ts : List (List ℕ))
+        → first ++ join_with_byte 44 (decimal number ∷ ts) ≡ join_with_byte 44 (member (codes "format") (decimal number) ∷ ts)
+    first_joined [] = headed_text
+    first_joined (t ∷ ts) =
+        sym (append_assoc first (decimal number) (44 ∷ join_with_byte 44 (t ∷ ts)))
+        ∙ ap (λ (u : List ℕ). u ++ 44 ∷ join_with_byte 44 (t ∷ ts)) headed_text
+
+-- what was written before the names, where the number is given
+pub front_is : (tag : Option ℕ) (n : ℕ) (r : Option ℕ) (begun new : List ℕ) → is_some tag ≡ true
+    → begun ≡ 123 ∷ (34 ∷ (codes "format" ++ 34 ∷ 58 ∷ [])) → IfSome r (λ end. take end new ≡ begun ++ tag_text 44 tag n)
+    → IfSome r (λ end. take end new ≡ object_front tag n)
+front_is None n r begun new given is written = absurd (true≢false (sym given))
+front_is (Some number) n None begun new given is written = tt
+front_is (Some number) n (Some end) begun new given is written =
+    written ∙ ap (λ (t : List ℕ). t ++ tag_text 44 (Some number) n) (is ∙ ap (λ (t : List ℕ). 123 ∷ t) head_of_tag)
+
+pub front_length : (tag : Option ℕ) (n : ℕ) → is_some tag ≡ true
+    → length (object_front tag n) ≡ 10 + length (tag_text 44 tag n)
+front_length None n given = absurd (true≢false (sym given))
+front_length (Some number) n given =
+    let nine : 9 ≡ length (head (codes "format")) = ap length head_of_tag in
+    omega (arith, nine, length-append (head (codes "format")) (tag_text 44 (Some number) n))
+
+pub object_written : (names : List (List ℕ)) (f : ℕ → List ℕ) (n : ℕ) (tag : Option ℕ) (front values closed new : List ℕ)
+    → front ≡ object_front tag n
+    → values ≡ front ++ join_with_byte 44 (map (after_head (λ k. head (name_at names k)) f) (range_with_len 1 n))
+    → closed ≡ values ++ 125 ∷ [] → new ≡ closed ++ 10 ∷ []
+    → new ≡ object_text (column_names (is_some tag) names) (tagged tag (map f (range_with_len 1 n)))
+object_written names f n tag front values closed new begun written closes ends =
+    let texts : List ℕ = join_with_byte 44 (map (after_head (λ k. head (name_at names k)) f) (range_with_len 1 n)) in
+    ends ∙ ap (λ (t : List ℕ). t ++ 10 ∷ []) closes ∙ append_assoc values (125 ∷ []) (10 ∷ [])
+    ∙ ap (λ (t : List ℕ). t ++ 125 ∷ 10 ∷ []) (written ∙ ap (λ (t : List ℕ). t ++ texts) begun) ∙ object_after names f n tag
+
+-- its length
+pub object_length : (names : List (List ℕ)) (f : ℕ → List ℕ) (n : ℕ) (tag : Option ℕ)
+    → length (object_text (column_names (is_some tag) names) (tagged tag (map f (range_with_len 1 n)))) ≡ length (object_front tag n)
+    + length (join_with_byte 44 (map (after_head (λ k. head (name_at names k)) f) (range_with_len 1 n))) + 2
+object_length names f n tag =
+    let texts : List ℕ = join_with_byte 44 (map (after_head (λ k. head (name_at names k)) f) (range_with_len 1 n)) in
+    omega (
+      arith,
+      ap length (object_after names f n tag),
+      length-append (object_front tag n ++ texts) (125 ∷ 10 ∷ []),
+      length-append (object_front tag n) texts,
+    )
 
 -- the line of the names
 pub line_of_names : (form table : OutputForm) (names : List (List ℕ)) (n : ℕ) → form ≡ table

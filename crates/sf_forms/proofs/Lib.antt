@@ -7,6 +7,7 @@ pub mod Floats
 pub mod Givens
 pub mod Growing
 mod Heading
+pub mod InPlace
 pub mod Joining
 pub mod JsonReading
 pub mod JsonUtf8

@@ -115,22 +115,22 @@ short_front xs zs n m mask n_is all few =
         omega (arith, few, n_is, count, none)
     by ys false e count = ap (min (length xs)) count
 
--- the same of bytes that stand in a buffer, with more before and after
-pub front_by_mask : (begun new xs rest : List ℕ) (at m : ℕ) → at ≤ length begun → new ≡ take at begun ++ (xs ++ rest)
-    → at + 16 ≤ length new → length xs ≤ 16 → m ≡ mask_l (map (λ b. not (is_plain b)) (chunk at 16 new))
-    → min (length xs) (count_trailing_zeros 64 m) ≡ prefix_len is_plain xs
-front_by_mask begun new xs rest at m low is room few mask =
-    by (eqb m 0) refl ∙ ap (λ (ys : List ℕ). min (length xs) (prefix_len is_plain ys)) there ∙ min_front is_plain xs rest
+-- the same of any bytes that pass a test, and that stand in a buffer, with more before and after
+pub front_by_mask : (q : ℕ → Bool) (begun new xs rest : List ℕ) (at m : ℕ) → at ≤ length begun → new ≡ take at begun ++ (xs ++ rest)
+    → at + 16 ≤ length new → length xs ≤ 16 → m ≡ mask_l (map (λ b. not (q b)) (chunk at 16 new))
+    → min (length xs) (count_trailing_zeros 64 m) ≡ prefix_len q xs
+front_by_mask q begun new xs rest at m low is room few mask =
+    by (eqb m 0) refl ∙ ap (λ (ys : List ℕ). min (length xs) (prefix_len q ys)) there ∙ min_front q xs rest
   where
     there : drop at new ≡ xs ++ rest
     there = ap (drop at) is ∙ ap (λ (k : ℕ). drop k (take at begun ++ (xs ++ rest))) (sym (length-take-le at begun low))
         ∙ drop-append_seam (take at begun) (xs ++ rest)
 
     by : (b : Bool) → eqb m 0 ≡ b
-        → min (length xs) (count_trailing_zeros 64 m) ≡ min (length xs) (prefix_len is_plain (drop at new))
+        → min (length xs) (count_trailing_zeros 64 m) ≡ min (length xs) (prefix_len q (drop at new))
     by true e =
         let none : m ≡ 0 = eqb-true m 0 e in
         let many : count_trailing_zeros 64 m ≡ 64 = ap (count_trailing_zeros 64) none ∙ no_ones in
-        omega (arith, few, many, goes_on (λ b. not (is_plain b)) is_plain (not_not is_plain) new at m room mask none)
+        omega (arith, few, many, goes_on (λ b. not (q b)) q (not_not q) new at m room mask none)
     by false e = ap (min (length xs))
-        (sym (ends_at (λ b. not (is_plain b)) is_plain (not_not is_plain) new at m room mask (λ z. true≢false (sym (eq-eqb m 0 z) ∙ e))))
+        (sym (ends_at (λ b. not (q b)) q (not_not q) new at m room mask (λ z. true≢false (sym (eq-eqb m 0 z) ∙ e))))

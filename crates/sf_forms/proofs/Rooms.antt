@@ -74,13 +74,18 @@ module _ (sep : ℕ) (f : ℕ → List ℕ) where
       length-take-le at old low,
     )
 
-    -- there is room for it
-    pub room_next : next + length (f (k + 1)) + 21 ≤ length buf
-    room_next = omega (arith, next_is, next_long k, no_longer (k + 1) n (omega (arith, few)), short)
+    module _ (head value : List ℕ) (parts : f (k + 1) ≡ head ++ value) where
+      -- how long both are
+      both : length (f (k + 1)) ≡ length head + length value
+      both = omega (arith, ap length parts, length-append head value)
 
-    -- and for a number and a separator
-    pub room_left : length buf - next < 22 → ⊥
-    room_left tight = omega (arith, tight, next_is, next_long k, no_longer (k + 1) n (omega (arith, few)), short)
+      -- there is room for its head, and for a number and a separator
+      pub room_head : next + length head + 22 ≤ length buf
+      room_head = omega (arith, next_is, next_long k, both, no_longer (k + 1) n (omega (arith, few)), short)
+
+      -- and for what stands after the head
+      pub room_value : (start : ℕ) → start ≡ next + length head → start + length value + 21 ≤ length buf
+      room_value start is = omega (arith, is, next_is, next_long k, both, no_longer (k + 1) n (omega (arith, few)), short)
 
 -- ---- a record
 

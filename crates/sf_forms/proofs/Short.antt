@@ -7,7 +7,7 @@ use Rattle.std.proofs.lemmas.List.{drop-take, length-append, drop-replicate}
 use Rattle.std.proofs.lemmas.List.Folds.{list_all-append}
 use Rattle.std.proofs.lemmas.Bool.{eqb-true, eq-eqb}
 use Rattle.std.proofs.lemmas.Simd.{leading_from_mask_l}
-use Rattle.std.proofs.Math.Seq.{take-append-add, drop-append-add, take-append_seam}
+use Rattle.std.proofs.Math.Seq.{take-append-add, take-length, drop-append-add, take-append_seam}
 use Rattle.std.specs.List.{flat_map, list_all, prefix_len, slice_range}
 use Rattle.sf_base.proofs.Lanes.{not_not}
 use borrow.Rule.Slice.PartMut.{mid_of, post_of, put_mid, same_len_mid}
@@ -27,7 +27,7 @@ plain_all (x ∷ xs) e =
     let w = both (is_plain x) (list_all is_plain xs) e in
     (λ i. plain_escaped x w.0 i ++ plain_all xs w.1 i)
 
-all_of_front : (p : ℕ → Bool) (xs : List ℕ) → prefix_len p xs ≡ length xs → list_all p xs ≡ true
+pub all_of_front : (p : ℕ → Bool) (xs : List ℕ) → prefix_len p xs ≡ length xs → list_all p xs ≡ true
 all_of_front p [] e = refl
 all_of_front p (x ∷ xs) e = go (p x) e (all_of_front p xs)
   where
@@ -255,6 +255,21 @@ pub rest_written_if : (r : Option ℕ) (buf begun new xs : List ℕ) (at plain :
 rest_written_if None buf begun new xs at plain low within count front is = tt
 rest_written_if (Some end) buf begun new xs at plain low within count front is =
     rest_written buf begun new xs at plain end low within count front is
+
+-- the same with more after it
+pub rest_then : (r : Option ℕ) (buf begun new xs tail : List ℕ) (at plain : ℕ) → at ≤ length buf → plain ≤ length xs
+    → plain ≡ prefix_len is_plain xs → take (at + 1 + length xs) begun ≡ take at buf ++ 34 ∷ xs
+    → IfSome r (λ end. take end new
+    ≡ take (at + 1 + plain) begun ++ ((flat_map escaped (slice_range xs plain (length xs)) ++ 34 ∷ []) ++ tail))
+    → IfSome r (λ end. take end new ≡ take at buf ++ (quoted xs ++ tail))
+rest_then None buf begun new xs tail at plain low within count front is = tt
+rest_then (Some end) buf begun new xs tail at plain low within count front is =
+    let mid : List ℕ = take (at + 1 + plain) begun ++ (flat_map escaped (slice_range xs plain (length xs)) ++ 34 ∷ []) in
+    let text : mid ≡ take at buf ++ quoted xs =
+    sym (take-length mid) ∙ rest_written buf begun mid xs at plain (length mid) low within count front (take-length mid) in
+    is
+    ∙ sym (append_assoc (take (at + 1 + plain) begun) (flat_map escaped (slice_range xs plain (length xs)) ++ 34 ∷ []) tail)
+    ∙ ap (λ (t : List ℕ). t ++ tail) text ∙ append_assoc (take at buf) (quoted xs) tail
 
 -- the end of a front of a piece, by the piece
 pub cut_rest : (piece : List ℕ) (count plain : ℕ) → count ≤ length piece → plain ≤ count

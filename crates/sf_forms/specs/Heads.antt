@@ -1,5 +1,5 @@
 -- Records under heads: the names of their columns, and a first column that has the number of the format that counted.
-use Rattle.std.specs.Prelude.{ℕ, Bool, true, false, List, [], ◌∷◌, ◌++◌, map, codes, Option, Some, None}
+use Rattle.std.specs.Prelude.{ℕ, zero, suc, Bool, true, false, List, [], ◌∷◌, ◌++◌, map, codes, Option, Some, None}
 use Rattle.std.specs.Option.{option_map}
 use Rattle.std.specs.List.{join_with_byte, range_with_len}
 use Rattle.std.specs.Fmt.{decimal}
@@ -21,12 +21,22 @@ tagged (Some number) values = decimal number ∷ values
 abbrev pub columns : OutputForm → Option ℕ → ℕ → RunReport → List (List ℕ)
 columns form tag n report = tagged tag (map (slot_text form report) (range_with_len 1 n))
 
+-- the number, if it is given, as it stands before n values: where there are any, a separator stands between
+abbrev pub tag_text : ℕ → Option ℕ → ℕ → List ℕ
+tag_text sep None n = []
+tag_text sep (Some number) zero = decimal number
+tag_text sep (Some number) (suc n) = decimal number ++ sep ∷ []
+
 -- the names of the columns; where there is a column for the format's number, its name comes first
 abbrev pub column_names : Bool → List (List ℕ) → List (List ℕ)
 column_names true names = codes "format" ∷ names
 column_names false names = names
 
 -- ---- objects of JSON (RFC 8259, 4)
+
+-- what stands before a value: its name and a colon
+abbrev pub head : List ℕ → List ℕ
+head name = json_string name ++ 58 ∷ []
 
 -- a name, a colon and the text of a value
 abbrev pub member : List ℕ → List ℕ → List ℕ
@@ -40,6 +50,11 @@ members (name ∷ names) (value ∷ values) = member name value ∷ members name
 
 abbrev pub object_text : List (List ℕ) → List (List ℕ) → List ℕ
 object_text names values = 123 ∷ (join_with_byte 44 (members names values) ++ 125 ∷ 10 ∷ [])
+
+-- what stands before the first of n names of an object's values: a brace, and the number of the format, if it is given
+abbrev pub object_front : Option ℕ → ℕ → List ℕ
+object_front None n = 123 ∷ []
+object_front (Some number) n = 123 ∷ (head (codes "format") ++ tag_text 44 (Some number) n)
 
 -- the object of these values
 abbrev pub object_row : List (List ℕ) → List Datum → List ℕ

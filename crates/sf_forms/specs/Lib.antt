@@ -5,6 +5,7 @@ pub mod Escapes
 pub mod Forms
 pub mod Growing
 pub mod Heads
+pub mod InPlace
 pub mod JsonReading
 pub mod JsonStrings
 pub mod Lines

@@ -277,6 +277,28 @@ fn write_lanes(form: OutputForm, bytes: &[u8], done: usize, buf: &mut [u8], end:
     run
 }
 
+/// Writes the first sixteen bytes of a piece as they are from a place on. Answers how many of the first `count` stay so
+/// in a text of this form, up to the first that doesn't. The sixteen are read once, to be written and looked at.
+#[inline(always)]
+pub(crate) fn write_sixteen(
+    form: OutputForm,
+    piece: &[u8],
+    count: usize,
+    buf: &mut [u8],
+    at: usize,
+) -> usize
+    requires short { count ≤ 16 }
+    requires piece { 16 ≤ length piece.now }
+    requires room { at + 16 ≤ length buf.old }
+    ensures within { result ≤ count }
+    ensures count { result ≡ prefix_len (stays form) (take count piece.now) }
+    ensures written { take (at + count) buf.new ≡ take at buf.old ++ take count piece.now }
+{
+    let odd = odd_in(form, piece, 0);
+    u8x16::from_slice(piece).copy_to_slice(&mut buf[at..]);
+    count.min(odd.trailing_zeros() as usize)
+}
+
 /// How many of the bytes that are left surely fit in the room.
 #[inline(always)]
 fn fitting(left: usize, room: usize) -> usize

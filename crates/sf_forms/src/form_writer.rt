@@ -7,8 +7,9 @@ ghost use Rattle.sf_forms.specs.Heads.{column_names, columns, headed, names_line
 ghost use Rattle.sf_forms.specs.Written.{WritesText, is_sink_fault};
 
 use crate::form::OutputForm;
+use crate::headed_line::NamedRecord;
 use crate::heads::{push_names, push_object, push_tagged};
-use crate::line::push_record;
+use crate::makers::Names;
 use crate::output::write_whole;
 use crate::short_line::{LINE_BYTES, PlainRecord, Record, write_line};
 use sf_base::Store;
@@ -80,28 +81,29 @@ impl FormWriter {
         self.form
     }
 
-    /// As `write`, where the sink doesn't have the record written in place. It is a call of its own, with a report of
-    /// its own, so that records in place don't pay for it.
+    /// As `write_columns`, where the sink doesn't have the record written in place. It is a call of its own, with a
+    /// report of its own, so that records in place don't pay for it.
     #[inline(never)]
     fn write_apart<K: Sink, T: Store>(
         &mut self,
         to: &mut K,
+        tag: Option<u64>,
         report: Report<'_, T>,
         destinations: u8,
     ) -> Result<(), RecordFault>
         ensures same { self.new ≡ self.old }
-        ensures written { WritesText (record_text self.old destinations report.entry) (K.contents to.old)
-            (K.contents to.new) result }
+        ensures written { WritesText (framed self.old (columns self.old tag destinations report.entry))
+            (K.contents to.old) (K.contents to.new) result }
         ensures failures { K.failures to.new
             ≡ (if is_sink_fault result then counted_on (K.failures to.old) else K.failures to.old) }
-        ensures short { length (record_text self.old destinations report.entry) < 1024
+        ensures short { length (framed self.old (columns self.old tag destinations report.entry)) < 1024
             → IsErrOf result RecordFault.Memory → ⊥ }
     {
-        if let Some(end) = write_line(self.form, &report, destinations, &mut self.line) {
+        if let Some(end) = write_line(self.form, tag, &report, destinations, &mut self.line) {
             return send(to, &self.line[..end]);
         }
         self.text.clear();
-        if push_record(&mut self.text, self.form, &report, destinations).is_err() {
+        if push_tagged(&mut self.text, self.form, tag, &report, destinations).is_err() {
             return Err(RecordFault::Memory);
         }
         send(to, &self.text)
@@ -124,29 +126,12 @@ impl FormWriter {
         ensures short { length (record_text self.old destinations report.now) < 1024
             → IsErrOf result RecordFault.Memory → ⊥ }
     {
-        if self.form == OutputForm::Plain {
-            let record = PlainRecord {
-                report,
-                destinations,
-            };
-            if to.take_in_place(&record).is_some() {
-                return Ok(());
-            }
-        } else {
-            let record = Record {
-                form: self.form,
-                report,
-                destinations,
-            };
-            if to.take_in_place(&record).is_some() {
-                return Ok(());
-            }
-        }
-        self.write_apart(to, report.copied(), destinations)
+        self.write_columns(to, None, report, destinations)
     }
 
     /// Writes the record of a format, by the report of a run: first the number of the format, if it is given, and then
-    /// the values. With a number it takes memory where it is used for the first time, or for a longer record.
+    /// the values. A record of at most 1,023 bytes takes no memory.
+    #[inline(always)]
     pub fn write_columns<K: Sink, T: Store>(
         &mut self,
         to: &mut K,
@@ -159,31 +144,46 @@ impl FormWriter {
             (K.contents to.old) (K.contents to.new) result }
         ensures failures { K.failures to.new
             ≡ (if is_sink_fault result then counted_on (K.failures to.old) else K.failures to.old) }
+        ensures short { length (framed self.old (columns self.old tag destinations report.now)) < 1024
+            → IsErrOf result RecordFault.Memory → ⊥ }
     {
-        let Some(number) = tag else {
-            return self.write(to, report, destinations);
-        };
-        self.text.clear();
-        if push_tagged(&mut self.text, self.form, number, report, destinations).is_err() {
-            return Err(RecordFault::Memory);
+        if self.form == OutputForm::Plain {
+            let record = PlainRecord {
+                tag,
+                report,
+                destinations,
+            };
+            if to.take_in_place(&record).is_some() {
+                return Ok(());
+            }
+        } else {
+            let record = Record {
+                form: self.form,
+                tag,
+                report,
+                destinations,
+            };
+            if to.take_in_place(&record).is_some() {
+                return Ok(());
+            }
         }
-        send(to, &self.text)
+        self.write_apart(to, tag, report.copied(), destinations)
     }
 
     /// Writes the record of a format under names of its values, by the report of a run: in JSON an object (RFC 8259,
     /// 4), first the number of the format, if it is given, by the name `format`, and then the values, each by its name.
-    /// In the other forms it is as without names. An object takes memory where it is the first, or longer than those
-    /// before.
+    /// In the other forms it is as without names. An object takes memory where the sink doesn't have it written in
+    /// place, for the first one, or a longer one.
     pub fn write_named<K: Sink, T: Store>(
         &mut self,
         to: &mut K,
-        names: &[&str],
+        names: &Names<'_>,
         tag: Option<u64>,
         report: &Report<'_, T>,
         destinations: u8,
     ) -> Result<(), RecordFault>
         ensures same { self.new ≡ self.old }
-        ensures written { WritesText (headed (Some (column_names (is_some tag) (texts names.now))) self.old
+        ensures written { WritesText (headed (Some (column_names (is_some tag) names.now)) self.old
             (columns self.old tag destinations report.now)) (K.contents to.old) (K.contents to.new) result }
         ensures failures { K.failures to.new
             ≡ (if is_sink_fault result then counted_on (K.failures to.old) else K.failures to.old) }
@@ -193,6 +193,15 @@ impl FormWriter {
             OutputForm::Plain | OutputForm::Tsv | OutputForm::Csv => {
                 return self.write_columns(to, tag, report, destinations);
             }
+        }
+        let record = NamedRecord {
+            names,
+            tag,
+            report,
+            destinations,
+        };
+        if to.take_in_place(&record).is_some() {
+            return Ok(());
         }
         self.text.clear();
         if push_object(&mut self.text, names, tag, report, destinations).is_err() {

@@ -1,23 +1,28 @@
 //! Records under heads: the names of their columns, and a first column that has the number of the format that counted.
-ghost use Rattle.std.specs.Prelude.{◌≡◌, ◌++◌, ◌+◌, ◌-◌, ◌∷◌, ◌<◌, ◌≤◌, [], is_some, length, map, OnErr, OnOk, Some};
+ghost use Rattle.std.specs.Prelude.{◌≡◌, ◌++◌, ◌+◌, ◌-◌, ◌∷◌, ◌<◌, ◌≤◌, [], is_some, length, map, IfOk, OnErr};
+ghost use Rattle.std.specs.Prelude.{OnOk};
 ghost use Rattle.std.specs.List.{join_with_byte, range_with_len};
 ghost use Rattle.sf_base.specs.Data.{Bytes};
 ghost use Rattle.sf_forms.specs.Columns.{name_at, tagged_column, texts};
 ghost use Rattle.sf_forms.specs.Forms.{framed, value_text};
 ghost use Rattle.sf_forms.specs.Growing.{IsGrown};
-ghost use Rattle.sf_forms.specs.Heads.{column_names, columns, member, names_line, object_text};
+ghost use Rattle.sf_forms.specs.Heads.{column_names, columns, head, member, names_line, object_text};
 
 use crate::columns::{Columns, push_columns, push_framed};
 use crate::form::OutputForm;
 use crate::json::push_json_string;
 use crate::line::{Slots, push_text};
+use crate::makers::Names;
 use sf_base::Store;
 use sf_print::push_number;
 use sf_report::Report;
-use std::alloc::AllocError;
+use std::alloc::{AllocError, Global};
 
 /// The name of the column that has the number of the format that counted.
 pub const TAG_NAME: &str = "format";
+
+/// What stands before that number in an object of JSON.
+pub(crate) const TAG_HEAD: &[u8] = b"\"format\":";
 
 /// The name of a column, counted from 1, or an empty one.
 fn name_of<'n>(names: &[&'n str], tagged: bool, column: usize) -> &'n str
@@ -54,22 +59,53 @@ impl<C: Columns> Columns for Tagged<C> {
     }
 }
 
+/// What stands before the value of this name in an object of JSON.
+fn head_of(alloc: Global, name: &str) -> Result<Vec<u8>, AllocError>
+    ensures { IfOk result (λ text. text.items ≡ head name.now) }
+{
+    let mut text = Vec::new(alloc);
+    push_json_string(&mut text, name.as_bytes())?;
+    text.push(b':')?;
+    Ok(text)
+}
+
+/// What stands before the value of each of these names. It is laid out once, for all records.
+pub(crate) fn heads_of(alloc: Global, names: &[&str]) -> Result<Vec<Vec<u8>>, AllocError>
+    ensures { IfOk result (λ heads. map (λ text. text.items) heads.items ≡ map head (texts names.now)) }
+{
+    let mut heads = Vec::new(alloc);
+    for name in names {
+        heads.push(head_of(alloc, name)?)?;
+    }
+    Ok(heads)
+}
+
+/// What stands before the value of a column, counted from 1, in an object of JSON.
+fn head_at<'h>(names: &'h Names<'_>, tagged: bool, column: usize) -> &'h [u8]
+    requires { 0 < column }
+    ensures { result.now ≡ head (name_at (column_names tagged names.now) column) }
+{
+    if tagged && column == 1 {
+        return TAG_HEAD;
+    }
+    names.head(column - usize::from(tagged))
+}
+
 /// Columns as members of an object of JSON.
 #[derive(Drop)]
 struct Named<'a, 'n, C: Columns> {
-    names: &'a [&'n str],
+    names: &'a Names<'n>,
     tagged: bool,
     columns: C,
 }
 
 impl<C: Columns> Columns for Named<'_, '_, C> {
-    ghost text = { λ n k. member (name_at (column_names n.tagged (texts n.names.now)) k) (C.text n.columns k) };
+    ghost text = { λ n k. member (name_at (column_names n.tagged n.names.now) k) (C.text n.columns k) };
 
     ghost count = { λ n. C.count n.columns };
 
     fn push(&self, output: &mut Vec<u8>, column: usize) -> Result<(), AllocError> {
-        push_json_string(output, name_of(self.names, self.tagged, column).as_bytes())?;
-        output.push(b':')?;
+        output.extend_from_slice(head_at(self.names, self.tagged, column))?;
         self.columns.push(output, column)
     }
 }
@@ -112,37 +148,40 @@ fn push_members<C: Columns>(
     output.extend_from_slice(b"}\n")
 }
 
-/// Appends, in this form, the record of a format with this number, by the report of a run: first the number, then the
-/// values. Where memory is refused, a part of it.
+/// Appends, in this form, the record of a format, by the report of a run: first the number of the format, if it is
+/// given, then the values. Where memory is refused, a part of it.
 pub(crate) fn push_tagged<S: Store>(
     output: &mut Vec<u8>,
     form: OutputForm,
-    number: u64,
+    tag: Option<u64>,
     report: &Report<'_, S>,
     destinations: u8,
 ) -> Result<(), AllocError>
     ensures pushed { OnOk result (output.new.items
-        ≡ output.old.items ++ framed form (columns form (Some number) destinations report.now)) }
+        ≡ output.old.items ++ framed form (columns form tag destinations report.now)) }
     ensures refused { OnErr result (IsGrown output.old.items output.new.items) }
 {
-    let columns = Tagged {
-        number,
-        others: Slots { form, report },
-    };
-    push_framed(output, form, &columns, destinations as usize + 1)
+    let others = Slots { form, report };
+    match tag {
+        Some(number) => {
+            let columns = Tagged { number, others };
+            push_framed(output, form, &columns, destinations as usize + 1)
+        }
+        None => push_framed(output, form, &others, destinations as usize),
+    }
 }
 
 /// Appends the record of a format as an object of JSON, by the report of a run: first the number of the format, if it
 /// is given, then the values, each by its name. Where memory is refused, a part of it.
 pub(crate) fn push_object<S: Store>(
     output: &mut Vec<u8>,
-    names: &[&str],
+    names: &Names<'_>,
     tag: Option<u64>,
     report: &Report<'_, S>,
     destinations: u8,
 ) -> Result<(), AllocError>
     ensures pushed { OnOk result (output.new.items ≡ output.old.items
-        ++ object_text (column_names (is_some tag) (texts names.now))
+        ++ object_text (column_names (is_some tag) names.now)
         (columns OutputForm.Json tag destinations report.now)) }
     ensures refused { OnErr result (IsGrown output.old.items output.new.items) }
 {

@@ -4,9 +4,10 @@ ghost use Rattle.sf_base.specs.Data.{Bytes};
 ghost use Rattle.sf_forms.specs.Growing.{IsGrown};
 ghost use Rattle.sf_forms.specs.Forms.{record_text, slot_text, value_text};
 
-use crate::columns::{Columns, push_framed};
+use crate::columns::Columns;
 use crate::csv::push_csv_text;
 use crate::form::OutputForm;
+use crate::heads::push_tagged;
 use crate::json::push_json_string;
 use crate::quote::push_quoted;
 use crate::real::push_real;
@@ -80,8 +81,7 @@ pub fn push_record<S: Store>(
     ensures refused { OnErr result (output.new.items ≡ output.old.items) }
 {
     let start = output.len();
-    let slots = Slots { form, report };
-    match push_framed(output, form, &slots, destinations as usize) {
+    match push_tagged(output, form, None, report, destinations) {
         Ok(()) => Ok(()),
         Err(AllocError) => {
             output.truncate(start);

@@ -165,27 +165,10 @@ pub(crate) fn write_front(bytes: &[u8], buf: &mut [u8], at: usize) -> usize
     bytes.len().min(odd.trailing_zeros() as usize)
 }
 
-/// Writes a quote, and after it the first sixteen bytes of a piece as they are, from a place on. Answers how many of
-/// the first `count` are plain before the first that isn't. The sixteen are read once, to be written and looked at.
-#[inline(always)]
-fn write_sixteen(piece: &[u8], count: usize, buf: &mut [u8], at: usize) -> usize
-    requires short { count ≤ 16 }
-    requires piece { 16 ≤ length piece.now }
-    requires room { at + 17 ≤ length buf.old }
-    ensures within { result ≤ count }
-    ensures count { result ≡ prefix_len is_plain (take count piece.now) }
-    ensures written { take (at + 1 + count) buf.new ≡ take at buf.old ++ 34 ∷ take count piece.now }
-{
-    let odd = odd_mask(piece, 0);
-    buf[at] = b'"';
-    u8x16::from_slice(piece).copy_to_slice(&mut buf[at + 1..]);
-    count.min(odd.trailing_zeros() as usize)
-}
-
 /// Writes the bytes as they stand between quotes, and a quote, from a place on, and answers where they end. None where
 /// there is no room.
 #[inline(never)]
-fn write_rest(bytes: &[u8], buf: &mut [u8], at: usize) -> Option<usize>
+pub(crate) fn write_rest(bytes: &[u8], buf: &mut [u8], at: usize) -> Option<usize>
     requires { at ≤ length buf.old }
     ensures within { IfSome result (λ end. end ≤ length buf.new) }
     ensures written { IfSome result (λ end. take end buf.new
@@ -243,39 +226,6 @@ pub(crate) fn write_between(bytes: &[u8], buf: &mut [u8], at: usize) -> Option<u
         return Some(write_byte(b'"', buf, at + 1 + plain));
     }
     write_rest(&bytes[plain..], buf, at + 1 + plain)
-}
-
-/// As `write_front_between`, of more than sixteen bytes, or of a piece that has fewer. It is a call of its own, so that
-/// short texts don't pay for it.
-#[inline(never)]
-fn write_cut(piece: &[u8], count: usize, buf: &mut [u8], at: usize) -> Option<usize>
-    requires of { count ≤ length piece.now }
-    requires room { at + 21 ≤ length buf.old }
-    ensures within { IfSome result (λ end. end ≤ length buf.new) }
-    ensures written { IfSome result (λ end. take end buf.new ≡ take at buf.old ++ quoted (take count piece.now)) }
-    ensures answers { at + length (quoted (take count piece.now)) + 21 ≤ length buf.old → IsSome result }
-{
-    write_between(&piece[..count], buf, at)
-}
-
-/// As `write_between`, of the first `count` bytes of a piece. What follows them in the piece may be looked at, so that
-/// a short text takes no loop: sixteen bytes are copied, whatever its length.
-#[inline(always)]
-pub fn write_front_between(piece: &[u8], count: usize, buf: &mut [u8], at: usize) -> Option<usize>
-    requires of { count ≤ length piece.now }
-    requires room { at + 21 ≤ length buf.old }
-    ensures within { IfSome result (λ end. end ≤ length buf.new) }
-    ensures written { IfSome result (λ end. take end buf.new ≡ take at buf.old ++ quoted (take count piece.now)) }
-    ensures answers { at + length (quoted (take count piece.now)) + 21 ≤ length buf.old → IsSome result }
-{
-    if count > LANES || piece.len() < LANES {
-        return write_cut(piece, count, buf, at);
-    }
-    let plain = write_sixteen(piece, count, buf, at);
-    if plain == count {
-        return Some(write_byte(b'"', buf, at + 1 + plain));
-    }
-    write_rest(&piece[plain..count], buf, at + 1 + plain)
 }
 
 /// Appends at most sixteen bytes between quotes.

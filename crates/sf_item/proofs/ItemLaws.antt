@@ -10,7 +10,7 @@ use Rattle.sf_format.specs.declared.directive.Shape.{Shape}
 use Rattle.sf_format.specs.declared.directive.Shape.TheVariants.{Int, Text, Set, Chars, Float, Count}
 use Rattle.sf_format.specs.declared.directive.Conversion.{Conversion}
 use Rattle.sf_format.specs.Proper.{IsProperShape}
-use Rattle.sf_item.specs.Matching.{Begins, IsWithin, IsItem}
+use Rattle.sf_item.specs.Matching.{BeginsMatch, IsWithin, IsItem}
 use Rattle.sf_item.specs.Tests.{has_item, shape_begins, can_take}
 use Rattle.sf_item.specs.Laws.{HasOneItem}
 use Rattle.sf_item.proofs.Deciding.{ShapeBegins, tests_begins, tests_can_take}
@@ -26,13 +26,14 @@ front_begins shape width f (b ∷ t) h =
 
 -- the first j bytes of x are within the width and begin a matching sequence
 abbrev IsFrontOf : Conversion → List ℕ → ℕ → Type 0
-IsFrontOf c x j = (j ≤ length x) × IsWithin c j × Begins c (take j x)
+IsFrontOf c x j = (j ≤ length x) × IsWithin c j × BeginsMatch c (take j x)
 
-shorter_begins : (c : Conversion) → IsProperShape c.shape → (x : List ℕ) (i j : ℕ) → i ≤ j → Begins c (take j x) → Begins c (take i x)
+shorter_begins : (c : Conversion) → IsProperShape c.shape → (x : List ℕ) (i j : ℕ) → i ≤ j
+    → BeginsMatch c (take j x) → BeginsMatch c (take i x)
 shorter_begins c proper x i j small h =
     let tests = tests_begins c.shape c.width proper in
     let whole = ap (shape_begins c.shape c.width) (take-append-drop i (take j x)) ∙ (tests (take j x)).to h in
-    subst (Begins c) (take-take i j x small) ((tests (take i (take j x))).from
+    subst (BeginsMatch c) (take-take i j x small) ((tests (take i (take j x))).from
     (front_begins c.shape c.width (take i (take j x)) (drop i (take j x)) whole))
 
 shorter_within : (width : Option ℕ) (i j : ℕ) → i ≤ j → IfSome width (λ w. j ≤ w) → IfSome width (λ w. i ≤ w)
@@ -58,7 +59,7 @@ item_ends c proper x k inside can cannot =
     too_long : (j : ℕ) → IsFrontOf c x j → k < j → ⊥
     too_long j m longer =
         let fits : IsWithin c (k + 1) = shorter_within c.width (k + 1) j (omega (arith, longer)) m.1 in
-        let begins : Begins c (take (k + 1) x) = shorter_begins c proper x (k + 1) j (omega (arith, longer)) m.2 in
+        let begins : BeginsMatch c (take (k + 1) x) = shorter_begins c proper x (k + 1) j (omega (arith, longer)) m.2 in
         let taken = (tests_can_take c proper (take (k + 1) x)).to (
           subst (IsWithin c)
               (sym (length-take-le (k + 1) x (omega (arith, inside)))) fits,
@@ -81,14 +82,14 @@ item_whole c proper x k all can =
 
 pub item_stays : (c : Conversion) → IsProperShape c.shape → (x z : List ℕ) (k : ℕ) → IsItem c x k → k < length x → IsItem c (x ++ z) k
 item_stays c proper x z k h inside = record {
-  holds = (omega (arith, length-append x z), h.holds.1, subst (Begins c) (sym (take-append-le k x z (omega arith))) h.holds.2);
+  holds = (omega (arith, length-append x z), h.holds.1, subst (BeginsMatch c) (sym (take-append-le k x z (omega arith))) h.holds.2);
   above = λ j m. not_above j k (too_long j m);
 }
   where
     too_long : (j : ℕ) → IsFrontOf c (x ++ z) j → k < j → ⊥
     too_long j m longer =
-        let more : Begins c (take (k + 1) (x ++ z)) = shorter_begins c proper (x ++ z) (k + 1) j (omega arith) m.2 in
-        let begins : Begins c (take (k + 1) x) = subst (Begins c) (take-append-le (k + 1) x z (omega arith)) more in
+        let more : BeginsMatch c (take (k + 1) (x ++ z)) = shorter_begins c proper (x ++ z) (k + 1) j (omega arith) m.2 in
+        let begins : BeginsMatch c (take (k + 1) x) = subst (BeginsMatch c) (take-append-le (k + 1) x z (omega arith)) more in
         let least = h.above (k + 1) (omega arith, shorter_within c.width (k + 1) j (omega arith) m.1, begins) in
         absurd (omega (arith, least))
 
@@ -105,7 +106,7 @@ any_width Count width other f counted h = h
 
 module _ (c : Conversion) (proper : IsProperShape c.shape) (counted : c.shape ≢ Chars) (w : ℕ) (is : c.width ≡ Some w) (x : List ℕ) (k : ℕ)
     (h : IsItem (record c { width = None }) x k) where
-  cut_begins : Begins c (take (min k w) x)
+  cut_begins : BeginsMatch c (take (min k w) x)
   cut_begins =
       any_width c.shape None c.width (take (min k w) x) counted
       (shorter_begins (record c { width = None }) proper x (min k w) k (omega arith) h.holds.2)

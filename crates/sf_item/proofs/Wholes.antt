@@ -791,39 +791,40 @@ pub sixteen_more : (i n d : ℕ) → n < 16 ^ i → d < 16 → n * 16 + d < 16 ^
 sixteen_more i n d small low = let one : i + 1 ≡ suc i = omega arith in
     subst (λ k. n * 16 + d < 16 ^ k) (sym one) (let more : 16 ^ suc i ≡ 16 * 16 ^ i = pow-succ' 16 i in omega (arith, more, small, low))
 
--- ---- the opening of a decimal integer whose first digit is no 0, where a 0 would show another radix
+-- ---- the opening of an integer of any base whose first digit is no 0, where a 0 might show another radix
 
 pub unless_so : {A : Type 0} → (A → IsTrue false) → A → ⊥
 unless_so test a = let no = test a in absurd (cc)
 
-module _ (base : Base) (ten : first_radix (led_by Any base) ≡ 10) where
-  plain_digit : (sign : Bool) (b : ℕ) → b ≢ 48 → with_first_digit (led_by Any base) sign b ≡ with_digit sign 10 0 b
+module _ (base : Base) (radix : ℕ) (own : first_radix (led_by Any base) ≡ radix) (range : (0 < radix) × (radix ≤ 16)) where
+  plain_digit : (sign : Bool) (b : ℕ) → b ≢ 48 → with_first_digit (led_by Any base) sign b ≡ with_digit sign radix 0 b
   plain_digit sign b other =
       by_eq b 48 (λ v. ◌≡◌ {A = Option Progress} (cond v (Some (Zero sign)) (with_digit sign (first_radix (led_by Any base)) 0 b))
-      (with_digit sign 10 0 b))
+      (with_digit sign radix 0 b))
       (λ is. absurd (other is))
-      (λ _. ap (λ r. with_digit sign r 0 b) ten)
+      (λ _. ap (λ r. with_digit sign r 0 b) own)
 
   digits_follow : (start : ℕ) (sign : Bool) (t : List ℕ) (n : ℕ) → (start ≡ 0 → sign ≡ false) → 0 < length t → get_or t 0 0 ≢ 48
-      → read (led_by Any base) (Some (Digits sign 10 0)) t ≡ Some (Digits sign 10 n)
-      → read (led_by Any base) (Some (signed_as start sign)) t ≡ Some (Digits sign 10 n)
+      → read (led_by Any base) (Some (Digits sign radix 0)) t ≡ Some (Digits sign radix n)
+      → read (led_by Any base) (Some (signed_as start sign)) t ≡ Some (Digits sign radix n)
   digits_follow start sign [] n plain some other reads = absurd (omega (arith, some))
   digits_follow zero sign (b ∷ t) n plain some other reads =
-      let low = begins_low (led_by Any base) sign 10 0 n b t reads in
+      let low = begins_low (led_by Any base) sign radix 0 n b t reads in
       ap (λ o. read (led_by Any base) o t)
-      (plain_first (led_by Any base) b (omega (arith, low)) ∙ ap (λ s. with_first_digit (led_by Any base) s b) (sym (plain refl))
+      (plain_first (led_by Any base) b (let most = range.1 in omega (arith, low, most))
+      ∙ ap (λ s. with_first_digit (led_by Any base) s b) (sym (plain refl))
       ∙ plain_digit sign b other)
       ∙ reads
   digits_follow (suc k) sign (b ∷ t) n plain some other reads = ap (λ o. read (led_by Any base) o t) (plain_digit sign b other) ∙ reads
 
-  pub auto_opened : (front : List ℕ) (start : ℕ) (sign : Bool) → SignOf Any front start sign
-      → (start < length front → get_or front start 0 ≢ 48) → Opened (led_by Any base) 10 front start sign
-  auto_opened front start sign s other = record {
+  pub unprefixed_opened : (front : List ℕ) (start : ℕ) (sign : Bool) → SignOf Any front start sign
+      → (start < length front → get_or front start 0 ≢ 48) → Opened (led_by Any base) radix front start sign
+  unprefixed_opened front start sign s other = record {
     inside = s.within;
     state = signed_as start sign;
     taken = s.read base;
     untold = sign_untold start sign;
-    empty = λ below high. signed_ends (led_by Any base) front start sign s (rw ten (omega arith)) below (rw ten high);
+    empty = λ below high. signed_ends (led_by Any base) front start sign s (rw own range.0) below (rw own high);
     goes = goes;
   }
     where
@@ -833,15 +834,15 @@ module _ (base : Base) (ten : first_radix (led_by Any base) ≡ 10) where
           get_or-take count (rest front start) 0 0 some ∙ ap (λ d. get_or d 0 0) (rest_is front start) ∙ get_or-drop start front 0 0
           ∙ ap (λ n. get_or front n 0) same
 
-      goes : (count n : ℕ) → 0 < count → count ≤ length (rest front start) → ReadsIn 10 0 (take count (rest front start)) n
-          → Goes (led_by Any base) 10 front (signed_as start sign) start count n sign
+      goes : (count n : ℕ) → 0 < count → count ≤ length (rest front start) → ReadsIn radix 0 (take count (rest front start)) n
+          → Goes (led_by Any base) radix front (signed_as start sign) start count n sign
       goes count n some most reads =
           let t = take count (rest front start) in
           let below : start < length front = omega (arith, some, most, length_rest front start) in
           record {
-            p = Digits sign 10 n;
+            p = Digits sign radix n;
             reads = digits_follow start sign t n s.plain (rw (length-take-le count (rest front start) most) some)
                 (λ zero_first. other below (sym (first_of count some) ∙ zero_first)) (reads (led_by Any base) sign);
             told = refl;
-            ends = λ inside high. digit_ends sign 10 n (get_or front (start + count) 0) high;
+            ends = λ inside high. digit_ends sign radix n (get_or front (start + count) 0) high;
           }

@@ -18,15 +18,15 @@ use Rattle.sf_float_read.specs.declared.item.reached.Forms.TheVariants.{All, Dec
 use Rattle.sf_item.specs.Radices.{first_radix, zero_radix, prefix_radix}
 
 -- one or more digits of the radix, and their number
-abbrev pub IsNumber : ℕ → List ℕ → ℕ → Type 0
-IsNumber radix ds m = IsNumeral radix ds × (m ≡ magnitude radix ds)
+abbrev pub IsIntegerDigits : ℕ → List ℕ → ℕ → Type 0
+IsIntegerDigits radix ds m = IsNumeral radix ds × (m ≡ magnitude radix ds)
 
 -- 0, the letter of a prefix that the numeral has, and a number of its radix
 abbrev pub IsPrefixed : Numeral → List ℕ → ℕ → Type 0
 IsPrefixed numeral [] m = ⊥
 IsPrefixed numeral (zero_digit ∷ []) m = ⊥
 IsPrefixed numeral (zero_digit ∷ letter ∷ ds) m =
-    (zero_digit ≡ 48) × ((radix : ℕ) × (prefix_radix numeral letter ≡ Some radix) × IsNumber radix ds m)
+    (zero_digit ≡ 48) × ((radix : ℕ) × (prefix_radix numeral letter ≡ Some radix) × IsIntegerDigits radix ds m)
 
 -- the first digit is 0
 abbrev pub StartsWithZero : List ℕ → Type 0
@@ -34,23 +34,23 @@ StartsWithZero [] = ⊥
 StartsWithZero (b ∷ bs) = b ≡ 48
 
 -- what follows the sign of an integer, and its magnitude
-abbrev pub IsUnsigned : Numeral → List ℕ → ℕ → Type 0
-IsUnsigned numeral body m =
-    ((StartsWithZero body → ⊥) × IsNumber (first_radix numeral) body m)
-    ⊎ (StartsWithZero body × IsNumber (zero_radix numeral) body m)
+abbrev pub IsUnsignedInteger : Numeral → List ℕ → ℕ → Type 0
+IsUnsignedInteger numeral body m =
+    ((StartsWithZero body → ⊥) × IsIntegerDigits (first_radix numeral) body m)
+    ⊎ (StartsWithZero body × IsIntegerDigits (zero_radix numeral) body m)
     ⊎ IsPrefixed numeral body m
 
 -- an optional sign, of those that may stand there; a minus is negative
-abbrev pub IsSign : Lead → List ℕ → Bool → Type 0
-IsSign lead [] negative = negative ≡ false
-IsSign lead (b ∷ []) negative =
+abbrev pub IsIntegerSign : Lead → List ℕ → Bool → Type 0
+IsIntegerSign lead [] negative = negative ≡ false
+IsIntegerSign lead (b ∷ []) negative =
     (has_plus lead ≡ true) × (b ≡ 43) × (negative ≡ false) ⊎ (has_minus lead ≡ true) × (b ≡ 45) × (negative ≡ true)
-IsSign lead (b ∷ c ∷ bs) negative = ⊥
+IsIntegerSign lead (b ∷ c ∷ bs) negative = ⊥
 
 -- an integer written so, with its sign and magnitude
 abbrev pub IsInteger : Numeral → List ℕ → Bool → ℕ → Type 0
 IsInteger numeral s negative m =
-    (sign : List ℕ) × (body : List ℕ) × (s ≡ sign ++ body) × IsSign numeral.lead sign negative × IsUnsigned numeral body m
+    (sign : List ℕ) × (body : List ℕ) × (s ≡ sign ++ body) × IsIntegerSign numeral.lead sign negative × IsUnsignedInteger numeral body m
 
 -- the forms of a float, with ! or without
 abbrev pub forms_of : Lead → Forms
@@ -72,8 +72,8 @@ abbrev pub Matches : Conversion → List ℕ → Type 0
 Matches c s = ShapeMatches c.shape c.width s
 
 -- f is a matching sequence or a front of one; no width bounds what may follow (our choice: C11 7.21.6.2p9 leaves it open)
-abbrev pub Begins : Conversion → List ℕ → Type 0
-Begins c f = (t : List ℕ) × AreBytes t × Matches c (f ++ t)
+abbrev pub BeginsMatch : Conversion → List ℕ → Type 0
+BeginsMatch c f = (t : List ℕ) × AreBytes t × Matches c (f ++ t)
 
 -- n bytes are within the conversion's width, where it has one
 abbrev pub IsWithin : Conversion → ℕ → Type 0
@@ -81,4 +81,4 @@ IsWithin c n = IfSome c.width (λ w. n ≤ w)
 
 -- the input item has k bytes: the longest front of x, within the width, that begins a matching sequence
 abbrev pub IsItem : Conversion → List ℕ → ℕ → Type 0
-IsItem c x k = IsGreatest (λ j. (j ≤ length x) × IsWithin c j × Begins c (take j x)) k
+IsItem c x k = IsGreatest (λ j. (j ≤ length x) × IsWithin c j × BeginsMatch c (take j x)) k

@@ -17,6 +17,6 @@ pub use column::{ColumnScan, ColumnTaken};
 pub use item::{ItemEnd, ItemScan, Step};
 pub use radices::{Radices, prefix_radix, radices_of};
 pub use whole::{
-    WholeInteger, characters_item, decimal_within, hex_within, members_item, text_item, until_item,
-    whole_auto, whole_decimal, whole_hex,
+    WholeInteger, characters_item, decimal_within, hex_within, members_item, text_item,
+    unprefixed_within, until_item, whole_decimal, whole_hex, whole_unprefixed,
 };

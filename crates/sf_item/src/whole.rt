@@ -9,7 +9,6 @@ ghost use Rattle.sf_format.specs.Leads.{as_in_c};
 ghost use Rattle.sf_format.specs.declared.directive.Base.TheVariants.{Dec, Hex};
 ghost use Rattle.sf_format.specs.declared.directive.Shape.TheVariants.{Chars, Set, Text};
 ghost use Rattle.sf_format.specs.Layout.{most_of};
-ghost use Rattle.sf_item.specs.Radices.{first_radix};
 ghost use Rattle.sf_item.specs.Wholes.{DigitsOf, EndsWithin, HasPrefixAt, HexOpening, IsCutBy, ItemWithin, LongDigits};
 ghost use Rattle.sf_item.specs.Wholes.{NoDigits, NoItemWithin, NoneEndsWithin, ReadsIn, SignOf, ZeroFirst, led_by};
 
@@ -18,6 +17,7 @@ use crate::eight::{LANES, first_digits};
 use crate::eight_hex::first_hex_digits;
 use crate::integer::digit_front;
 use crate::item::{cut, cut_at};
+use crate::radices::radices_of;
 use crate::reached::Digits;
 use sf_base::{ByteSet, run_before, text_run};
 use sf_format::{Base, Lead};
@@ -417,20 +417,40 @@ fn is_zero_at(bytes: &[u8], at: usize) -> bool
     at < bytes.len() && bytes[at] == b'0'
 }
 
-/// As `whole_decimal`, of an integer whose radix its first digits show (C11 7.22.1.4p3), and which is decimal. None
-/// also where the first digit is a zero.
+/// As `decimal_number`, of digits of the radix.
 #[inline(always)]
-pub fn whole_auto(base: Base, width: Option<u16>, piece: &[u8]) -> Option<WholeInteger>
-    requires { first_radix (as_in_c base) ≡ 10 }
-    ensures { MatchOption result (NoneEndsWithin (as_in_c base) width piece.now ⊎ ZeroFirst piece.now)
+fn number_of_radix(radix: u8, digits: &[u8], piece: &[u8]) -> Option<(u64, usize)>
+    requires positive { 0 < radix }
+    requires small { radix ≤ 16 }
+    requires front { digits.now ≡ take (length digits.now) piece.now }
+    ensures digits { MatchOption result (LongDigits radix digits.now ⊎ NoDigits radix digits.now)
+        (λ r. DigitsOf radix digits.now r.1 r.0) }
+    ensures some { IfSome result (λ r. 0 < r.1) }
+{
+    if radix == 10 {
+        return decimal_number(digits, piece);
+    }
+    let (number, count) = long_number(digits, radix)?;
+    if count == 0 {
+        return None;
+    }
+    Some((number, count))
+}
+
+/// As `whole_unprefixed`, of the bytes of the piece that the item may have.
+#[inline(always)]
+fn unprefixed_in(base: Base, front: &[u8], piece: &[u8]) -> Option<WholeInteger>
+    requires { front.now ≡ take (length front.now) piece.now }
+    ensures { (width : Option ℕ) → IsCutBy width piece.now front.now → MatchOption result
+        (NoneEndsWithin (as_in_c base) width piece.now ⊎ ZeroFirst piece.now)
         (EndsWithin (as_in_c base) width piece.now) }
 {
-    let front = cut(piece, width);
     let (start, negative) = sign(Lead::Any, front);
     if is_zero_at(front, start) {
         return None;
     }
-    let Some((magnitude, count)) = decimal_number(&front[start..], &piece[start..]) else {
+    let radix = radices_of(base).first;
+    let Some((magnitude, count)) = number_of_radix(radix, &front[start..], &piece[start..]) else {
         return None;
     };
     let last = start + count;
@@ -442,6 +462,26 @@ pub fn whole_auto(base: Base, width: Option<u16>, piece: &[u8]) -> Option<WholeI
         negative,
         magnitude,
     })
+}
+
+/// As `whole_decimal`, of an integer of any base. None also where its first digit is a zero, after which a prefix may
+/// stand, or the radix may be another (C11 7.22.1.4p3).
+#[inline(always)]
+pub fn whole_unprefixed(base: Base, width: Option<u16>, piece: &[u8]) -> Option<WholeInteger>
+    ensures { MatchOption result (NoneEndsWithin (as_in_c base) width piece.now ⊎ ZeroFirst piece.now)
+        (EndsWithin (as_in_c base) width piece.now) }
+{
+    unprefixed_in(base, cut(piece, width), piece)
+}
+
+/// As `whole_unprefixed`, where the most bytes of the integer are known.
+#[inline(always)]
+pub fn unprefixed_within(base: Base, most: usize, piece: &[u8]) -> Option<WholeInteger>
+    ensures { (width : Option ℕ) → most ≡ most_of width → MatchOption result
+        (NoneEndsWithin (as_in_c base) width piece.now ⊎ ZeroFirst piece.now)
+        (EndsWithin (as_in_c base) width piece.now) }
+{
+    unprefixed_in(base, cut_at(piece, most), piece)
 }
 
 /// How many bytes of the front of the piece stand before its first white space. Of a short front sixteen bytes of the

@@ -9,7 +9,7 @@ ghost use Rattle.sf_report.specs.Machine.{Skipping};
 ghost use Rattle.sf_report.specs.Residual.{nothing_yet, one_from, run_of};
 ghost use Rattle.sf_format.specs.Proper.{has_optional};
 ghost use Rattle.sf_report.specs.Rows.{FillsSlots, HasRow};
-ghost use Rattle.sf_report.specs.Runs.{IsOpen, report_of, values};
+ghost use Rattle.sf_report.specs.Runs.{IsOpen, report_of, values_stored};
 ghost use Rattle.sf_run.specs.outcome.Ending.TheVariants.{End};
 ghost use Rattle.sf_run.specs.outcome.Status.TheVariants.{Done, InputFailure};
 
@@ -94,7 +94,7 @@ pub fn has_row(alloc: Global, format: &ScanFormat, text: &[u8]) -> Option<Scanne
 /// A Done report is that of the steps that are computed, and that of the running totals.
 pub fn computed(alloc: Global, format: &ScanFormat, text: &[u8]) -> Option<Scanned<HeapStore>>
     ensures values { IsSome (width_sum format.now) → IfSome result
-        (λ s. s.report.status ≡ Done → s.report.values ≡ values (ran_of format.now text.now 0)) }
+        (λ s. s.report.status ≡ Done → s.report.values ≡ values_stored (ran_of format.now text.now 0)) }
     ensures told { run_of None format.now 1 nothing_yet text.now ≡ report_of (ran_of format.now text.now 0) None }
     ensures step { (d : Directive) → format.now ≡ d ∷ []
         → one_from d Skipping 0 text.now ≡ part_of 0 text.now (step_of d text.now 0) }

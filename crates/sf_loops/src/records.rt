@@ -15,8 +15,8 @@ use std::alloc::Global;
 use std::marker::{Model, PhantomData};
 
 /// A loop over the records of an input as rows: tuples of one to twelve values, or a type of the caller's. It ends
-/// where fscanf would return EOF at the end of the input (C11 7.21.6.2p16), or where by a format with a `?` each item
-/// is missing there; or at the first record that is no match.
+/// where fscanf would return EOF at the end of the input (C11 7.21.6.2p16), or where by a format with a `?` or a group
+/// each item is missing there; or at the first record that is no match.
 ///
 /// `N` is how many bytes are read at once, at least 1. A source that has reported its end is not read again. The store
 /// of a record is used again for the next one.

@@ -20,8 +20,8 @@ use std::alloc::Global;
 use std::marker::Model;
 
 /// A loop over the records of an input, by a format: each run is of what the one before it left. It ends where fscanf
-/// would return EOF at the end of the input (C11 7.21.6.2p16), or where by a format with a `?` each item is missing
-/// there; or at the first record that is no match.
+/// would return EOF at the end of the input (C11 7.21.6.2p16), or where by a format with a `?` or a group each item is
+/// missing there; or at the first record that is no match.
 ///
 /// `N` is how many bytes are read at once, at least 1. A source that has reported its end is not read again. The store
 /// of a record is used again for the next one.

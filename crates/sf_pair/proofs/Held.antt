@@ -20,7 +20,7 @@ use Rattle.sf_report.specs.Steps.{StepEnd, Passes, Stores, Misses, Fails, Number
 use Rattle.sf_report.specs.Steps.{EmptyItem, ItemEnds, ConversionStep, BlankColumn, TextColumn, ColumnEnds, ColumnStep, StepBy, Step}
 use Rattle.sf_report.specs.Steps.{LiteralStep, missed}
 use Rattle.sf_item.specs.Columns.{column_width, IsTextUnder, IsTextOf, ShapeFills, Fills}
-use Rattle.sf_report.specs.Runs.{Ran, RunReport, GoesOn, Steps, StepsPast, over, value_stored, values}
+use Rattle.sf_report.specs.Runs.{Ran, RunReport, GoesOn, Steps, StepsPast, over, value_stored, values_stored}
 use Rattle.sf_report.specs.declared.outcome.Ending.{Ending}
 use Rattle.sf_report.specs.Limits.{IsCut, RunWithin}
 use Rattle.sf_pair.specs.Groups.{is_count}
@@ -190,13 +190,13 @@ parts (Some m) None w e = absurd cc
 
 -- where the first m directives are missing with one before them
 held_past : (m : ℕ) (ds : List Directive) (x : List ℕ) (n : ℕ) (ran : List Ran) → StepsPast m ds x n ran → (w : ℕ) → width_sum ds ≡ Some w
-    → length (texts_in (values ran)) ≤ w
+    → length (texts_in (values_stored ran)) ≤ w
 held_past m [] x n [] steps w e = omega arith
 held_past m [] x n (r ∷ ran) steps w e = absurd steps
 held_past m (d ∷ ds) x n [] steps w e = absurd steps
 held_past (suc m) (d ∷ ds) x n (r ∷ ran) (out, more) w e =
     let p = parts (stored_width d) (width_sum ds) w e in
-    let same = ap (λ (r : Ran). length (texts_in (values (r ∷ ran)))) out in
+    let same = ap (λ (r : Ran). length (texts_in (values_stored (r ∷ ran)))) out in
     omega (arith, p.sum, held_past m ds x n ran more p.rest p.rest_is, same)
 held_past zero (d ∷ ds) x n (r ∷ ran) (same, step, more) w e =
     let p = parts (stored_width d) (width_sum ds) w e in
@@ -204,57 +204,61 @@ held_past zero (d ∷ ds) x n (r ∷ ran) (same, step, more) w e =
   where
     by : (p : Parts (stored_width d) (width_sum ds) w) (end : StepEnd) → r.end ≡ end → Step d x n r.bytes end
         → GoesOn end (StepsPast (over d end) ds (drop r.bytes x) (n + r.bytes) ran) ran
-        → (StepsPast (over d end) ds (drop r.bytes x) (n + r.bytes) ran → length (texts_in (values ran)) ≤ p.rest)
-        → length (texts_in (values (r ∷ ran))) ≤ w
+        → (StepsPast (over d end) ds (drop r.bytes x) (n + r.bytes) ran → length (texts_in (values_stored ran)) ≤ p.rest)
+        → length (texts_in (values_stored (r ∷ ran))) ≤ w
     by p Passes is step more later =
-        let e = ap (λ (end : StepEnd). length (texts_in (values (record { directive = r.directive; bytes = r.bytes; end = end } ∷ ran))))
+        let e = ap (λ (end : StepEnd). length (texts_in (values_stored (
+        record { directive = r.directive; bytes = r.bytes; end = end } ∷ ran))))
         is in
         omega (arith, p.sum, later more, e)
     by p (Stores slot v) is step more later =
-        let e = ap (λ (end : StepEnd). length (texts_in (values (record { directive = r.directive; bytes = r.bytes; end = end } ∷ ran))))
+        let e = ap (λ (end : StepEnd). length (texts_in (values_stored (
+        record { directive = r.directive; bytes = r.bytes; end = end } ∷ ran))))
         is in
         omega (
           arith,
           p.sum,
           later more,
           e,
-          length-append (text_in v) (texts_in (values ran)),
+          length-append (text_in v) (texts_in (values_stored ran)),
           step_within d x n r.bytes slot v p.first step p.first_is,
         )
     by p Misses is step more later =
-        let e = ap (λ (end : StepEnd). length (texts_in (values (record { directive = r.directive; bytes = r.bytes; end = end } ∷ ran))))
+        let e = ap (λ (end : StepEnd). length (texts_in (values_stored (
+        record { directive = r.directive; bytes = r.bytes; end = end } ∷ ran))))
         is in
         omega (arith, p.sum, later more, e)
     by p (Fails status) is step more later =
-        let e = ap (λ (end : StepEnd). length (texts_in (values (record { directive = r.directive; bytes = r.bytes; end = end } ∷ ran))))
+        let e = ap (λ (end : StepEnd). length (texts_in (values_stored (
+        record { directive = r.directive; bytes = r.bytes; end = end } ∷ ran))))
         is in
-        let none = ap (λ (ran : List Ran). length (texts_in (values ran))) more in
+        let none = ap (λ (ran : List Ran). length (texts_in (values_stored ran))) more in
         omega (arith, e, none)
 
 held : (ds : List Directive) (x : List ℕ) (n : ℕ) (ran : List Ran) → Steps ds x n ran → (w : ℕ) → width_sum ds ≡ Some w
-    → length (texts_in (values ran)) ≤ w
+    → length (texts_in (values_stored ran)) ≤ w
 held ds x n ran steps w e = held_past 0 ds x n ran steps w e
 
 -- what was held before a cut
-front_held : (before more : List Ran) → length (texts_in (values before)) ≤ length (texts_in (values (before ++ more)))
+front_held : (before more : List Ran) → length (texts_in (values_stored before)) ≤ length (texts_in (values_stored (before ++ more)))
 front_held [] more = omega arith
 front_held (r ∷ before) more = by (value_stored r) (front_held before more)
   where
-    by : (o : Option Assigned) → length (texts_in (values before)) ≤ length (texts_in (values (before ++ more)))
-        → length (texts_in (cons_option o (values before))) ≤ length (texts_in (cons_option o (values (before ++ more))))
+    by : (o : Option Assigned) → length (texts_in (values_stored before)) ≤ length (texts_in (values_stored (before ++ more)))
+        → length (texts_in (cons_option o (values_stored before))) ≤ length (texts_in (cons_option o (values_stored (before ++ more))))
     by None h = h
     by (Some a) h = omega (
       arith,
       h,
-      length-append (text_in a.datum) (texts_in (values before)),
-      length-append (text_in a.datum) (texts_in (values (before ++ more))),
+      length-append (text_in a.datum) (texts_in (values_stored before)),
+      length-append (text_in a.datum) (texts_in (values_stored (before ++ more))),
     )
 
 abbrev values_held : RunReport → ℕ
 values_held report = length (texts_in report.values)
 
 cut_held : (ds : List Directive) (x : List ℕ) (k : ℕ) (before : List Ran) → IsCut ds x k before → (n : ℕ) → width_sum ds ≡ Some n
-    → length (texts_in (values before)) ≤ n
+    → length (texts_in (values_stored before)) ≤ n
 cut_held ds x k before cut n e = omega (
   arith,
   front_held before (cut.cut ∷ cut.rest),

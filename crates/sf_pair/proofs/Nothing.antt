@@ -30,7 +30,8 @@ use Rattle.sf_print.specs.Printed.{printed}
 use Rattle.sf_report.specs.declared.outcome.Status.TheVariants.{Done, InputFailure}
 use Rattle.sf_report.specs.declared.outcome.Ending.TheVariants.{End}
 use Rattle.sf_report.specs.Steps.{StepEnd, Passes, Stores, Misses, Fails}
-use Rattle.sf_report.specs.Runs.{Ran, RunReport, Run, IsOpen, used, status_of, converted, report_of, is_conversion, left_out, over, passed}
+use Rattle.sf_report.specs.Runs.{Ran, RunReport, Run, IsOpen, bytes_used, status_of, count_converted, report_of, is_conversion}
+use Rattle.sf_report.specs.Runs.{left_out, over, passed}
 use Rattle.sf_report.specs.Machine.{empty_end}
 use Rattle.sf_report.specs.Computed.{skip_under, skip_before, len, item_part, conversion_step, byte_choice, step_by, step_of, go_on}
 use Rattle.sf_report.specs.Computed.{column_len, column_ended, ran_of, ran_past}
@@ -44,21 +45,21 @@ use Rattle.sf_pair.proofs.Whole.{round_trip}
 -- ---- what is used of nothing, and of one byte that is taken
 
 after : (d : Directive) (x : List ℕ) (k n : ℕ) (end : StepEnd) (ds : List Directive) → k ≡ length x
-    → ((m n : ℕ) → used (ran_past m ds [] n) ≡ 0)
-    → used (record { directive = d; bytes = k; end = end } ∷ go_on end (ran_past (over d end) ds (drop k x) (n + k))) ≡ k
+    → ((m n : ℕ) → bytes_used (ran_past m ds [] n) ≡ 0)
+    → bytes_used (record { directive = d; bytes = k; end = end } ∷ go_on end (ran_past (over d end) ds (drop k x) (n + k))) ≡ k
 after d x k n end ds e none = sum_by-cons (λ (r : Ran). r.bytes) (record { directive = d; bytes = k; end = end })
     (go_on end (ran_past (over d end) ds (drop k x) (n + k))) ∙ by end
   where
-    rest : (m : ℕ) → used (ran_past m ds (drop k x) (n + k)) ≡ 0
-    rest m = ap (λ (y : List ℕ). used (ran_past m ds y (n + k))) (drop_all k x (omega (arith, e))) ∙ none m (n + k)
+    rest : (m : ℕ) → bytes_used (ran_past m ds (drop k x) (n + k)) ≡ 0
+    rest m = ap (λ (y : List ℕ). bytes_used (ran_past m ds y (n + k))) (drop_all k x (omega (arith, e))) ∙ none m (n + k)
 
-    by : (end : StepEnd) → k + used (go_on end (ran_past (over d end) ds (drop k x) (n + k))) ≡ k
+    by : (end : StepEnd) → k + bytes_used (go_on end (ran_past (over d end) ds (drop k x) (n + k))) ≡ k
     by Passes = omega (arith, rest 0)
     by (Stores slot v) = omega (arith, rest 0)
     by Misses = omega (arith, rest (more_of d))
     by (Fails status) = omega arith
 
-none_past : LawsBelow → (ds : List Directive) (m n : ℕ) → used (ran_past m ds [] n) ≡ 0
+none_past : LawsBelow → (ds : List Directive) (m n : ℕ) → bytes_used (ran_past m ds [] n) ≡ 0
 none_past laws [] m n = refl
 none_past laws (d ∷ ds) zero n =
     let none : (step_of d [] n).0 ≡ 0 = omega (arith, laws.within d [] n) in
@@ -66,10 +67,11 @@ none_past laws (d ∷ ds) zero n =
 none_past laws (d ∷ ds) (suc m) n =
     sum_by-cons (λ (r : Ran). r.bytes) (left_out d) (ran_past m ds [] n) ∙ ap (λ (k : ℕ). 0 + k) (none_past laws ds m n)
 
-used_none : LawsBelow → (ds : List Directive) (n : ℕ) → used (ran_of ds [] n) ≡ 0
+used_none : LawsBelow → (ds : List Directive) (n : ℕ) → bytes_used (ran_of ds [] n) ≡ 0
 used_none laws ds n = none_past laws ds 0 n
 
-one_used : LawsBelow → (d : Directive) (ds : List Directive) (b : ℕ) → (step_of d (b ∷ []) 0).0 ≡ 1 → used (ran_of (d ∷ ds) (b ∷ []) 0) ≡ 1
+one_used : LawsBelow → (d : Directive) (ds : List Directive) (b : ℕ) → (step_of d (b ∷ []) 0).0 ≡ 1
+    → bytes_used (ran_of (d ∷ ds) (b ∷ []) 0) ≡ 1
 one_used laws d ds b one = after d (b ∷ []) (step_of d (b ∷ []) 0).0 0 (step_of d (b ∷ []) 0).1 ds one (none_past laws ds) ∙ one
 
 -- ---- some byte is taken
@@ -227,7 +229,7 @@ goes_on laws (d ∷ ds) us proper cut some =
 -- ---- the failure
 
 abbrev FailsFirst : List Ran → Type 0
-FailsFirst ran = (status_of ran ≡ InputFailure) × (converted ran ≡ 0)
+FailsFirst ran = (status_of ran ≡ InputFailure) × (count_converted ran ≡ 0)
 
 conversion_fails : (s : Conversion) (n : ℕ) → is_left_out s ≡ false → step_of (directive.Conv s) [] n ≡ (0, Fails InputFailure)
 conversion_fails s n e = ends s.column refl
@@ -255,7 +257,7 @@ fails_first (directive.Space ∷ ds) us n (group, rest, parts, is, more) some =
       h.0,
       sum_by-cons (λ (r : Ran). cond (is_conversion r.directive && passed r.end) 1 0)
           (record { directive = directive.Space; bytes = 0; end = Passes }) (ran_of ds [] (n + 0))
-          ∙ zero-add (converted (ran_of ds [] (n + 0))) ∙ h.1,
+          ∙ zero-add (count_converted (ran_of ds [] (n + 0))) ∙ h.1,
     )
 fails_first (directive.Byte a ∷ ds) us n cut some = (refl, refl)
 fails_first (directive.Percent ∷ ds) us n cut some = (refl, refl)
@@ -265,7 +267,8 @@ fails_first (directive.Conv s ∷ ds) us n (group, rest, parts, is, more) some =
     (ran_past (over (directive.Conv s) r.1) ds (drop r.0 []) (n + r.0))))
     (sym (conversion_fails s n (not_left_out s group rest (next_of ds) is))) (refl, none_converted s)
   where
-    none_converted : (s : Conversion) → converted (record { directive = directive.Conv s; bytes = 0; end = Fails InputFailure } ∷ []) ≡ 0
+    none_converted : (s : Conversion)
+        → count_converted (record { directive = directive.Conv s; bytes = 0; end = Fails InputFailure } ∷ []) ≡ 0
     none_converted s = by (is_conversion (directive.Conv s))
       where
         by : (t : Bool) → sum_by (λ (r : Ran). cond (t && passed r.end) 1 0)

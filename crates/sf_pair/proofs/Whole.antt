@@ -11,7 +11,7 @@ use Rattle.sf_format.specs.Proper.{AreProper, IsAccepted}
 use Rattle.sf_print.specs.Printed.{printed}
 use Rattle.sf_report.specs.declared.outcome.Status.TheVariants.{Done}
 use Rattle.sf_report.specs.Steps.{StepEnd, Passes, Stores, Misses, Fails}
-use Rattle.sf_report.specs.Runs.{RunReport, Uses, used, IsOpen, is_conversion}
+use Rattle.sf_report.specs.Runs.{RunReport, Uses, bytes_used, IsOpen, is_conversion}
 use Rattle.sf_report.specs.Residual.{Tally, nothing_yet, with_used, counted, out_of, then_on, run_of, run_past}
 use Rattle.sf_report.specs.Computed.{step_of, part_of, ran_of}
 use Rattle.sf_pair.specs.conversions.Below.{LawsBelow}
@@ -133,7 +133,7 @@ run_is laws us ds accepted proper aligned values fit z =
 
 used_is : LawsBelow → (ds : List Directive) → AreProper ds → (x : List ℕ) (k : ℕ) → Uses ds x k → (run_of None ds 1 nothing_yet x).used ≡ k
 used_is laws ds proper x k (ran, steps, is) = ap (λ (r : RunReport). r.used) (laws.told ds x)
-    ∙ ap used (sym ((laws.runs ds proper x 0 ran).0 steps)) ∙ is
+    ∙ ap bytes_used (sym ((laws.runs ds proper x 0 ran).0 steps)) ∙ is
 
 -- a byte more changes nothing
 not_open : LawsBelow → (us : List PrintUnit) (ds : List Directive) → AreAccepted us → IsAccepted ds → IsAligned us ds

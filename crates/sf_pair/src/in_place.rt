@@ -12,10 +12,10 @@ use crate::columns::column_is_read;
 use crate::doubles::double_is_read;
 use crate::fitting::{assigned, text_fits};
 use crate::pairing::width_of;
-use crate::quick::write_quickly;
+use crate::quick::{write_number_read, write_text_read};
 use sf_base::{Real, Shown};
 use sf_format::{Conversion, Directive, PrintConv, Unit};
-use sf_print::{visible_len, write_value};
+use sf_print::{visible_len, write_byte, write_value};
 
 /// The next conversion that assigns a value, and the directives after it.
 #[inline(always)]
@@ -127,25 +127,15 @@ fn write_fitting<V: AsShown>(
         → IsSome result }
 {
     let value = value_in(values, conv.slot)?;
-    if let Some(end) = write_quickly(conv, scan, value, buf, at) {
-        return Some(end);
+    if let Some(number) = value.as_number() {
+        return write_number_read(conv, scan, number, buf, at);
+    }
+    if let Some(bytes) = value.as_text() {
+        if let Some(end) = write_text_read(conv, scan, bytes, buf, at) {
+            return Some(end);
+        }
     }
     write_any(conv, scan, value, buf, at)
-}
-
-/// Writes a byte from a place on, and answers where it ends. None where there is no room.
-#[inline(always)]
-fn write_byte(byte: u8, buf: &mut [u8], at: usize) -> Option<usize>
-    requires { at ≤ length buf.old }
-    ensures within { IfSome result (λ end. end ≤ length buf.new) }
-    ensures written { IfSome result (λ end. take end buf.new ≡ take at buf.old ++ byte ∷ []) }
-    ensures answers { at + 1 ≤ length buf.old → IsSome result }
-{
-    if at == buf.len() {
-        return None;
-    }
-    buf[at] = byte;
-    Some(at + 1)
 }
 
 /// Writes the texts of the units, one after the other, and answers where they end: each value fits the conversion that

@@ -1,5 +1,5 @@
-//! Texts of most values, written and judged at once: numbers by their digits alone, and short texts as they are.
-ghost use Rattle.std.specs.Prelude.{◌≡◌, ◌≤◌, ◌+◌, ◌++◌, true, IfSome, length, map, take};
+//! Texts of most values, written and judged at once: decimal numbers, padded at most, and short texts as they are.
+ghost use Rattle.std.specs.Prelude.{◌≡◌, ◌≤◌, ◌+◌, ◌++◌, true, IfSome, IsSome, length, map, take};
 ghost use Rattle.std.specs.List.{list_all, slice_range};
 ghost use Rattle.sf_base.specs.Bytes.{is_white};
 ghost use Rattle.sf_base.specs.Data.{Bytes, datum_of_number};
@@ -8,13 +8,12 @@ ghost use Rattle.sf_print.specs.texts.Text.{value_text};
 ghost use Rattle.sf_pair.specs.Fits.{value_fits};
 ghost use lib.Lanes.{mask_l, chunk};
 
-use crate::as_shown::AsShown;
 use crate::fitting::is_between;
 use crate::in_place::text_is_read;
 use crate::pairing::width_of;
 use sf_base::{Number, Shown};
 use sf_format::{Conversion, PrintConv, Shape};
-use sf_print::{write_plain_bytes, write_plain_number};
+use sf_print::{write_integer, write_plain_bytes};
 use std::simd::prelude::*;
 
 const LANES: usize = 16;
@@ -40,10 +39,10 @@ fn are_ink(bytes: &[u8], at: usize, count: usize) -> bool
     count <= white_mask(bytes, at).trailing_zeros() as usize
 }
 
-/// Writes the text that the conversion prints of a number from a place on, and answers where it ends. None where it
-/// isn't known at once that the scan's conversion reads it.
+/// Writes the text that the conversion prints of a number from a place on, and answers where it ends. None where the
+/// scan's conversion doesn't read it, or where there is no room.
 #[inline(always)]
-fn write_number_read(
+pub(crate) fn write_number_read(
     conv: &PrintConv,
     scan: &Conversion,
     number: Number,
@@ -55,9 +54,10 @@ fn write_number_read(
     ensures written { IfSome result (λ end. take end buf.new
         ≡ take at buf.old ++ value_text conv.now (datum_of_number number)) }
     ensures fits { IfSome result (λ _. value_fits conv.now scan.now (datum_of_number number) ≡ true) }
-    ensures before { take at buf.new ≡ take at buf.old }
+    ensures answers { value_fits conv.now scan.now (datum_of_number number) ≡ true
+        → at + length (value_text conv.now (datum_of_number number)) + 21 ≤ length buf.old → IsSome result }
 {
-    let end = write_plain_number(conv, number, buf, at)?;
+    let end = write_integer(conv, number, buf, at)?;
     if !text_is_read(conv, scan, Shown::Number(number), &buf[at..end]) {
         return None;
     }
@@ -67,7 +67,7 @@ fn write_number_read(
 /// Writes the text that the conversion prints of bytes from a place on, and answers where it ends. None where it isn't
 /// known at once that the scan's conversion reads it.
 #[inline(always)]
-fn write_text_read(
+pub(crate) fn write_text_read(
     conv: &PrintConv,
     scan: &Conversion,
     bytes: &[u8],
@@ -95,30 +95,4 @@ fn write_text_read(
         return None;
     }
     Some(end)
-}
-
-/// Writes the text that the conversion prints of a value from a place on, and answers where it ends. None where it
-/// isn't known at once that the scan's conversion reads it.
-#[inline(always)]
-pub(crate) fn write_quickly<V: AsShown>(
-    conv: &PrintConv,
-    scan: &Conversion,
-    value: &V,
-    buf: &mut [u8],
-    at: usize,
-) -> Option<usize>
-    requires { at ≤ length buf.old }
-    ensures within { IfSome result (λ end. end ≤ length buf.new) }
-    ensures written { IfSome result (λ end. take end buf.new
-        ≡ take at buf.old ++ value_text conv.now (V.datum value.now)) }
-    ensures fits { IfSome result (λ _. value_fits conv.now scan.now (V.datum value.now) ≡ true) }
-    ensures before { take at buf.new ≡ take at buf.old }
-{
-    if let Some(number) = value.as_number() {
-        return write_number_read(conv, scan, number, buf, at);
-    }
-    match value.as_text() {
-        Some(bytes) => write_text_read(conv, scan, bytes, buf, at),
-        None => None,
-    }
 }

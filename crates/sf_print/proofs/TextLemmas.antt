@@ -1,5 +1,6 @@
 pub mod Around
 pub mod Plainness
+pub mod Fields
 pub mod Reals
 pub mod Blanks
 pub mod Joined

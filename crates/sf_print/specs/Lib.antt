@@ -9,3 +9,4 @@ pub mod Laws
 pub mod Staged
 pub mod Short
 pub mod Given
+pub mod InPlace

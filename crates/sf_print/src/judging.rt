@@ -1,11 +1,11 @@
 //! What is refused before anything is printed.
-ghost use Rattle.std.specs.Prelude.{◌≡◌, map, MatchOption, Some, None};
-ghost use Rattle.sf_base.specs.Data.{datum_of};
+ghost use Rattle.std.specs.Prelude.{◌≡◌, is_none, map, MatchOption, Some, None};
+ghost use Rattle.sf_base.specs.Data.{datum_of, datum_of_shown};
 ghost use Rattle.sf_print.specs.Printed.{same_kind, is_printed_as, suits, value_fault, value_at, fault_or_none};
 ghost use Rattle.sf_print.specs.Printed.{unit_fault, slot_of, lower, lowest_fault};
 
 use crate::fault::PrintFault;
-use sf_base::{Kind, Value};
+use sf_base::{Kind, Real, Shown, Value};
 use sf_format::{PrintConv, PrintLetter, Unit};
 
 #[inline(always)]
@@ -51,7 +51,23 @@ pub(crate) fn fault_of(conv: &PrintConv, value: &Value<'_>) -> Option<PrintFault
     None
 }
 
+/// Whether nothing is wrong with a value.
+#[inline(always)]
+pub(crate) fn suits_shown(conv: &PrintConv, shown: Shown<'_>) -> bool
+    ensures { result ≡ is_none (value_fault conv.now (datum_of_shown shown.entry)) }
+{
+    match shown {
+        Shown::Number(number) => are_same(number.kind, conv.kind),
+        Shown::Text(bytes) => {
+            are_same(Kind::Text, conv.kind) && suits_letter(conv.letter, &Value::Text(bytes))
+        }
+        Shown::Real(Real::F32(_)) => is_printed_as(Kind::F32, conv.kind),
+        Shown::Real(Real::F64(_)) => are_same(Kind::F64, conv.kind),
+    }
+}
+
 /// The value of a slot, where there is one. Slots are counted from 1.
+#[inline]
 pub fn value_of_slot<'a, 'b>(values: &'b [Value<'a>], slot: u8) -> Option<&'b Value<'a>>
     ensures { MatchOption result (value_at (map datum_of values.entry.now) slot ≡ None)
         (λ v. value_at (map datum_of values.entry.now) slot ≡ Some (datum_of v.now)) }

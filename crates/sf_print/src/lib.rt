@@ -20,7 +20,10 @@ pub use digits::{copy_over, push_number, write_number};
 pub use fault::PrintFault;
 pub use given::fprint_given;
 pub use handing::write_text;
-pub use in_place::{write_plain_bytes, write_plain_number, write_value, write_visible};
+pub use in_place::{
+    Printables, write_byte, write_integer, write_plain_bytes, write_printed, write_value,
+    write_visible,
+};
 pub use judging::value_of_slot;
 pub use print::{fprint, printed_len};
 pub use sink::{

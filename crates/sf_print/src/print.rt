@@ -1,6 +1,6 @@
 //! Printing values by a format.
-ghost use Rattle.std.specs.Prelude.{◌≡◌, ◌<◌, ◌≤◌, ◌+◌, ◌^◌, length, map, min, None, Ok, Err, OnOk, IfErr, MatchResult};
-ghost use Rattle.std.specs.Prelude.{is_err, if◌then◌else◌};
+ghost use Rattle.std.specs.Prelude.{◌≡◌, ◌<◌, ◌≤◌, ◌+◌, ◌^◌, length, map, min, take, None, Ok, Err, OnOk, IfErr};
+ghost use Rattle.std.specs.Prelude.{IfSome, MatchResult, is_err, if◌then◌else◌};
 ghost use Rattle.sf_base.specs.Data.{datum_of};
 ghost use Rattle.sf_format.specs.Units.{values_of};
 ghost use Rattle.sf_print.specs.sink.Sinks.{counted_on};
@@ -13,7 +13,7 @@ ghost use Rattle.sf_print.specs.Printed.{unit_text, printed, length_or_fault, me
 use crate::digits::decimal_len;
 use crate::fault::PrintFault;
 use crate::handing::{flush, put, put_byte, put_number, write_text};
-use crate::in_place;
+use crate::in_place::{Row, write_printed};
 use crate::judging::{find_lowest_fault, value_of_slot};
 use crate::piece::put_pieces;
 use crate::sink::{Sink, SinkFault};
@@ -320,6 +320,21 @@ fn fprint_long<K: Sink>(
     }
 }
 
+/// Writes what the format prints of the values to a buffer, and answers its length. None where it refuses them, or
+/// where there is too little room.
+#[inline(always)]
+fn write_row(format: &PrintFormat, values: &[Value<'_>], buf: &mut [u8]) -> Option<usize>
+    requires { length buf.old ≤ 2147483647 }
+    ensures within { IfSome result (λ end. end ≤ length buf.new) }
+    ensures written { IfSome result (λ end. take end buf.new ≡ printed format.now (map datum_of values.now)) }
+    ensures measured { IfSome result (λ end. measured format.now (map datum_of values.now) ≡ Ok end) }
+{
+    if values.len() != format.values() as usize {
+        return None;
+    }
+    write_printed(format, &Row { values }, buf)
+}
+
 /// Prints the values by the format to the sink, and answers how many bytes were printed (C11 7.21.6.1).
 ///
 /// It refuses as `printed_len` does, before anything is written. Where the sink fails, `PrintFault::Sink` has how many
@@ -336,9 +351,8 @@ pub fn fprint<K: Sink>(
     ensures failures { K.failures to.new
         ≡ (if is_sink_fault result then counted_on (K.failures to.old) else K.failures to.old) }
 {
-    refuse_values(format.directives(), format.values(), values)?;
     let mut line = [0; LINE_BYTES];
-    if let Some(len) = in_place::write_units(format.directives(), values, &mut line) {
+    if let Some(len) = write_row(format, values, &mut line) {
         return write_text(to, &line[..len]);
     }
     fprint_long(to, format, values)

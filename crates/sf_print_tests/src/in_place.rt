@@ -1,9 +1,12 @@
 //! Texts of values that are written in place, and texts that a sink is handed.
+ghost use Rattle.std.specs.Prelude.{Some};
+ghost use Rattle.sf_base.specs.Data.{datum_of_number};
+
 use sf_base::{Number, Shown, Value};
 use sf_format::{PrintConv, PrintFormat, Profile, Unit};
 use sf_print::{
-    ListSink, PrintFault, ScriptSink, WriteStep, visible_len, write_plain_bytes,
-    write_plain_number, write_text, write_value,
+    ListSink, PrintFault, Printables, ScriptSink, WriteStep, visible_len, write_byte,
+    write_integer, write_plain_bytes, write_printed, write_text, write_value,
 };
 use sf_rows::is;
 use std::alloc::Global;
@@ -12,7 +15,7 @@ use std::test::Fail;
 /// A conversion, a value, what C's `printf` prints of it, and how many bytes of that stand after the blanks before it.
 type Row = (&'static [u8], Value<'static>, &'static [u8], usize);
 
-static ROWS: [Row; 10] = [
+static ROWS: [Row; 17] = [
     (b"%d", Value::I32(-12), b"-12", 3),
     (b"%5d", Value::I32(-12), b"  -12", 3),
     (b"%-5d", Value::I32(-12), b"-12  ", 5),
@@ -20,6 +23,23 @@ static ROWS: [Row; 10] = [
     (b"%05u", Value::U32(42), b"00042", 5),
     (b"%#x", Value::U32(255), b"0xff", 4),
     (b"%.0d", Value::I32(0), b"", 0),
+    (b"%x", Value::U32(3735928559), b"deadbeef", 8),
+    (b"%08x", Value::U32(3735928559), b"deadbeef", 8),
+    (b"%-10X", Value::U32(3735928559), b"DEADBEEF  ", 10),
+    (b"%12o", Value::U32(3735928559), b" 33653337357", 11),
+    (b"%#010x", Value::U32(3735928559), b"0xdeadbeef", 10),
+    (
+        b"%25u",
+        Value::U32(3735928559),
+        b"               3735928559",
+        10,
+    ),
+    (
+        b"%025u",
+        Value::U32(3735928559),
+        b"0000000000000003735928559",
+        25,
+    ),
     (b"%s", Value::Text(b"\tab "), b"\tab ", 4),
     (b"%4s", Value::Text(b"ab"), b"  ab", 2),
     (b"%.3s", Value::Text(b"abcdef"), b"abc", 3),
@@ -66,13 +86,22 @@ fn values_are_written_in_place(rt: HostRuntime) -> Result<(), Fail> {
     Ok(())
 }
 
-/// A conversion, and what it prints of -12 where that is a minus and digits alone.
-static PLAIN_NUMBERS: [(&[u8], Option<&[u8]>); 5] = [
-    (b"%d", Some(b"-12")),
-    (b"%5d", None),
-    (b"%+d", None),
-    (b"% d", None),
-    (b"%.3d", None),
+/// A conversion, and what C's `printf` prints of -12.
+static INTEGERS: [(&[u8], &[u8]); 14] = [
+    (b"%d", b"-12"),
+    (b"%5d", b"  -12"),
+    (b"%-5d", b"-12  "),
+    (b"%05d", b"-0012"),
+    (b"%+d", b"-12"),
+    (b"%+05d", b"-0012"),
+    (b"% d", b"-12"),
+    (b"% 05d", b"-0012"),
+    (b"%.3d", b"-012"),
+    (b"%8.3d", b"    -012"),
+    (b"%-8.3d", b"-012    "),
+    (b"%018d", b"-00000000000000012"),
+    (b"%-20d", b"-12                 "),
+    (b"%20d", b"                 -12"),
 ];
 
 /// A conversion, and what it prints of the bytes `abcd` where it prints bytes as they are.
@@ -95,17 +124,62 @@ fn written(buf: &[u8], end: Option<usize>) -> Option<&[u8]> {
 }
 
 /// The number is written so by the conversion.
-fn is_plain_number(conv: &PrintConv, number: Number, wanted: Option<&[u8]>) -> Result<(), Fail> {
+fn is_integer(conv: &PrintConv, number: Number, wanted: &[u8]) -> Result<(), Fail> {
     let mut buf = [b'|'; ROOM];
-    let end = write_plain_number(conv, number, &mut buf, 2);
-    is(&written(&buf, end), &wanted, conv)
+    let end = write_integer(conv, number, &mut buf, 2);
+    is(&written(&buf, end), &Some(wanted), conv)
 }
 
 #[test]
-fn plain_numbers_are_written_in_place(rt: HostRuntime) -> Result<(), Fail> {
+fn integers_are_written_in_place(rt: HostRuntime) -> Result<(), Fail> {
     let number = minus_twelve().ok_or("no number")?;
-    for (text, wanted) in &PLAIN_NUMBERS {
-        is_plain_number(&parsed(rt.alloc(), text)?, number, *wanted)?;
+    for (text, wanted) in &INTEGERS {
+        is_integer(&parsed(rt.alloc(), text)?, number, wanted)?;
+    }
+    Ok(())
+}
+
+#[test]
+fn a_byte_is_written_in_place(_rt: HostRuntime) -> Result<(), Fail> {
+    let mut buf = [b'|'; 2];
+    is(&write_byte(b'=', &mut buf, 1), &Some(2), &"room")?;
+    is(&write_byte(b'+', &mut buf, 2), &None, &"no room")?;
+    is(&buf.get(..2), &Some(b"|=".as_slice()), &"=")
+}
+
+/// A number, which each conversion finds.
+#[derive(Drop)]
+struct OneForAll {
+    number: Number,
+}
+
+impl Printables for OneForAll {
+    ghost value_of = { λ one conv. Some (datum_of_number one.number) };
+
+    fn shown_by(&self, _conv: &PrintConv) -> Option<Shown<'_>> {
+        Some(Shown::Number(self.number))
+    }
+}
+
+/// A format, and what it prints of -12 alone. None where that isn't of the kind that is due, or has no room.
+static FORMATS: [(&[u8], Option<&[u8]>); 4] = [
+    (b"<%05d>", Some(b"<-0012>")),
+    (b"%d;%-4d%%", Some(b"-12;-12 %")),
+    (b"%hd", None),
+    (b"%70d", None),
+];
+
+#[test]
+fn formats_are_written_in_place(rt: HostRuntime) -> Result<(), Fail> {
+    let number = minus_twelve().ok_or("no number")?;
+    let one = OneForAll { number };
+    for (text, wanted) in &FORMATS {
+        let format = PrintFormat::parse(rt.alloc(), Profile::One, text)?;
+        let mut buf = [b'|'; ROOM];
+        match write_printed(&format, &one, &mut buf) {
+            Some(end) => is(&buf.get(..end), wanted, text)?,
+            None => is(&None, wanted, text)?,
+        }
     }
     Ok(())
 }

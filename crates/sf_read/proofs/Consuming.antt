@@ -14,7 +14,7 @@ use Rattle.sf_format.specs.declared.directive.Literal.TheVariants as literal
 use Rattle.sf_run.specs.outcome.Ending.{Ending}
 use Rattle.sf_run.specs.Steps.{StepEnd, Passes, Stores, Misses, Fails, Step, ByteStep, ItemStep, ConversionStep, StepBy, IsSkipBefore}
 use Rattle.sf_run.specs.Steps.{IsSkipUnder, LiteralStep}
-use Rattle.sf_run.specs.Runs.{Ran, RunReport, GoesOn, Steps, StepsPast, left_out, over, used}
+use Rattle.sf_run.specs.Runs.{Ran, RunReport, GoesOn, Steps, StepsPast, left_out, over, bytes_used}
 use Rattle.sf_run.specs.Limits.{IsCut, RunWithin}
 
 byte_within : (b : ℕ) (x : List ℕ) (k : ℕ) (end : StepEnd) → ByteStep b x k end → k ≤ length x
@@ -67,8 +67,8 @@ step_within (Conv c) x n k end h = step_by_within c.column c x n k end h
 step_within (Opens o) x n k end (e, step, is) = literal_within o.literal x k e step
 
 rest_within : (d : Directive) (ds : List Directive) (x : List ℕ) (n : ℕ) (r : Ran) (ran : List Ran) (end : StepEnd)
-    → ((m : ℕ) (y : List ℕ) (k : ℕ) (rs : List Ran) → StepsPast m ds y k rs → used rs ≤ length y)
-    → GoesOn end (StepsPast (over d end) ds (drop r.bytes x) (n + r.bytes) ran) ran → r.bytes ≤ length x → used (r ∷ ran) ≤ length x
+    → ((m : ℕ) (y : List ℕ) (k : ℕ) (rs : List Ran) → StepsPast m ds y k rs → bytes_used rs ≤ length y)
+    → GoesOn end (StepsPast (over d end) ds (drop r.bytes x) (n + r.bytes) ran) ran → r.bytes ≤ length x → bytes_used (r ∷ ran) ≤ length x
 rest_within d ds x n r ran Passes within h low =
     omega (arith, sum_by-cons (λ (q : Ran). q.bytes) r ran, within 0 (drop r.bytes x) (n + r.bytes) ran h, length-drop r.bytes x)
 rest_within d ds x n r ran (Stores slot v) within h low =
@@ -79,7 +79,7 @@ rest_within d ds x n r ran Misses within h low =
 rest_within d ds x n r ran (Fails status) within h low =
     rw h (omega (arith, sum_by-cons (λ (q : Ran). q.bytes) r []))
 
-past_within : (ds : List Directive) (m : ℕ) (x : List ℕ) (n : ℕ) (ran : List Ran) → StepsPast m ds x n ran → used ran ≤ length x
+past_within : (ds : List Directive) (m : ℕ) (x : List ℕ) (n : ℕ) (ran : List Ran) → StepsPast m ds x n ran → bytes_used ran ≤ length x
 past_within [] m x n [] h = omega arith
 past_within [] m x n (r ∷ ran) h = absurd h
 past_within (d ∷ ds) m x n [] h = absurd h
@@ -89,7 +89,7 @@ past_within (d ∷ ds) (suc m) x n (r ∷ ran) (is, rest) =
     let later = past_within ds m x n ran rest in
     rw is (omega (arith, later, sum_by-cons (λ (q : Ran). q.bytes) (left_out d) ran))
 
-pub steps_within : (ds : List Directive) (x : List ℕ) (n : ℕ) (ran : List Ran) → Steps ds x n ran → used ran ≤ length x
+pub steps_within : (ds : List Directive) (x : List ℕ) (n : ℕ) (ran : List Ran) → Steps ds x n ran → bytes_used ran ≤ length x
 steps_within ds x n ran h = past_within ds 0 x n ran h
 
 -- a run that was cut off had more bytes than its limit

@@ -323,8 +323,8 @@ fn row_over<T: Row, S: Source, const N: usize>(
 /// bytes are consumed. Last comes NoMemory, where memory for the row was refused; its bytes are consumed too. The
 /// numbers of a format that stores at most eight, and no texts, are kept without memory where the record is held whole.
 ///
-/// At the end of the input a format with a `?` is Done, where each of its items may be missing: the row has no value
-/// then. So with a `?` loop by `sf_loops::Records`, which ends there.
+/// At the end of the input a format with a `?` or a group is Done, where each of its items may be missing: the row has
+/// no value then. So with such a format loop by `sf_loops::Records`, which ends there.
 pub fn scan_row<T: Row, S: Source, const N: usize>(
     alloc: Global,
     from: &mut Lookahead<S, N>,

@@ -153,8 +153,8 @@ type Gaps = (
 );
 
 /// Tuples of one field to six in turn, of which fields are missing. The sixth has an Option in each slot, though only
-/// the second may be missing. The last is of a group.
-static GAPS: [Gaps; 7] = [
+/// the second may be missing. The last two are of a group, the last also of a column.
+static GAPS: [Gaps; 8] = [
     (b"%?ld", b"", &[None]),
     (b"%?d %s", b" up 7", &[None, Some(Value::Text(b"up"))]),
     (
@@ -191,6 +191,11 @@ static GAPS: [Gaps; 7] = [
         ],
     ),
     (b"%d%?(,%d:%n%);", b"1;", &[Some(Value::I32(1)), None, None]),
+    (
+        b"%=8s%u%?(-%u%)",
+        b"gzip    7",
+        &[Some(Value::Text(b"gzip")), Some(Value::U32(7)), None],
+    ),
 ];
 
 /// The row of a text by a format of profile 3, from a source and of the text.
@@ -256,6 +261,11 @@ fn gaps_of_six(rt: HostRuntime) -> Result<(), Fail> {
 #[test]
 fn gaps_of_a_group(rt: HostRuntime) -> Result<(), Fail> {
     has_gaps::<(i32, Option<i32>, Option<i32>)>(rt.alloc(), &GAPS[6])
+}
+
+#[test]
+fn gaps_after_a_column(rt: HostRuntime) -> Result<(), Fail> {
+    has_gaps::<(Vec<u8>, u32, Option<u32>)>(rt.alloc(), &GAPS[7])
 }
 
 /// The values of a row that are there.

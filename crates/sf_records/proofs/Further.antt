@@ -7,7 +7,7 @@ use Rattle.std.specs.Io.KnownBytes.{IsAtEnd}
 use Rattle.sf_base.specs.Data.{Assigned}
 use Rattle.sf_format.specs.declared.directive.Directive.{Directive}
 use Rattle.sf_format.specs.Proper.{AreInOrder, AreProper, slots_of}
-use Rattle.sf_forms.specs.declared.form.OutputForm.TheVariants.{Plain}
+use Rattle.sf_forms.specs.declared.form.OutputForm.{OutputForm}
 use Rattle.sf_forms.specs.makers.Forms.{IsBare}
 use Rattle.sf_run.specs.Laws.{EachHasOneReport}
 use Rattle.sf_run.specs.Quick.{done_by}
@@ -17,28 +17,29 @@ use Rattle.sf_run.specs.Written.{AreParts, Part, records_by, used_by}
 use Rattle.sf_read.specs.source.Ahead.{Ahead}
 use Rattle.sf_read.proofs.Holding.{held_scan}
 use Rattle.sf_print.proofs.Appending.{Appends-same, Appends-then}
-use Rattle.sf_records.specs.Plain.{WritesPlain, plain_line}
+use Rattle.sf_records.specs.InPlace.{WritesRecords, line_in}
 use Rattle.sf_records.specs.Works.{Work, texts}
-use Rattle.sf_records.proofs.PlainTexts.{plain_record}
+use Rattle.sf_records.proofs.InPlaceTexts.{record_in}
 use Rattle.sf_records.proofs.Looping.{Going, next, next_front, plain_goes}
 
 -- a lookahead with these parts
 ahead_is : {S : Type 0} (now new : Ahead S) → new.held ≡ now.held → new.source ≡ now.source → new.at_end ≡ now.at_end → new ≡ now
 ahead_is now new held source at_end = λ i. record { held = held i; source = source i; at_end = at_end i }
 
--- what is made of a run whose values are written is its plain line
-pub record IsLine (w : Work) (ds : List Directive) (used : ℕ) (values : List Assigned) : Type 0 where
+-- what is made of a run whose values are written is its record in this form
+pub record IsLine (form : OutputForm) (w : Work) (ds : List Directive) (used : ℕ) (values : List Assigned) : Type 0 where
   pub fits : w.fits (done_by ds used values) ≡ true
-  pub text : w.text (done_by ds used values) ≡ plain_line values
+  pub text : w.text (done_by ds used values) ≡ line_in form values
 
-abbrev pub AreLines : Work → List Directive → Type 0
-AreLines w ds = (used : ℕ) (values : List Assigned) → slots_in values ≡ slots_of ds → IsLine w ds used values
+abbrev pub AreLines : OutputForm → Work → List Directive → Type 0
+AreLines form w ds = (used : ℕ) (values : List Assigned) → slots_in values ≡ slots_of ds → IsLine form w ds used values
 
--- that is so where it makes the plain record of each report, and the values come in the order of their slots
-pub bare_lines : (w : Work) (ds : List Directive) → AreInOrder ds → ((report : RunReport) → IsBare Plain w ds report) → AreLines w ds
-bare_lines w ds order bare used values slots =
+-- that is so where it makes the record of each report in the form, and the values come in the order of their slots
+pub bare_lines : (form : OutputForm) (w : Work) (ds : List Directive) → AreInOrder ds
+    → ((report : RunReport) → IsBare form w ds report) → AreLines form w ds
+bare_lines form w ds order bare used values slots =
     let r : RunReport = done_by ds used values in
-    record { fits = (bare r).fits; text = (bare r).text ∙ plain_record ds r values order refl slots }
+    record { fits = (bare r).fits; text = (bare r).text ∙ record_in form ds r values order refl slots }
 
 -- the records before, and these
 record Further {S : Type 0} (w : Work) (to_come : S → Option (List ℕ)) (ds : List Directive) (m : ℕ) (t : List ℕ) (new : Ahead S)
@@ -65,14 +66,14 @@ text_more w rs r line is =
     flat_map-append w.text rs (r ∷ []) ∙ ap (λ (t : List ℕ). texts w rs ++ t) (append-nil (w.text r) ∙ is)
 
 further : {S : Type 0} {w : Work} {to_come : S → Option (List ℕ)} {ds : List Directive} {m : ℕ} {t : List ℕ} {failures count : ℕ}
-    (one : EachHasOneReport) (proper : AreProper ds) (parts : List Part)
-    (lines : 0 < length parts → AreLines w ds) (n : ℕ) (now new : Ahead S)
+    (form : OutputForm) (one : EachHasOneReport) (proper : AreProper ds) (parts : List Part)
+    (lines : 0 < length parts → AreLines form w ds) (n : ℕ) (now new : Ahead S)
     → (g : Going w to_come ds m t now None None failures count n) → AreParts ds m now.held parts
     → new.held ≡ drop (used_by parts) now.held → new.source ≡ now.source → new.at_end ≡ now.at_end
     → (0 < length parts → now.at_end ≡ true → IsAtEnd (to_come now.source))
-    → Further w to_come ds m t new failures count (n + length parts) (texts w g.front) (records_by plain_line parts)
-further one proper [] lines n now new g are held source at_end told = none_more g (ahead_is now new held source at_end) (omega arith)
-further {S} {w} {to_come} {ds} {m} {t} one proper (p ∷ ps) lines n now new g are held source at_end told =
+    → Further w to_come ds m t new failures count (n + length parts) (texts w g.front) (records_by (line_in form) parts)
+further form one proper [] lines n now new g are held source at_end told = none_more g (ahead_is now new held source at_end) (omega arith)
+further {S} {w} {to_come} {ds} {m} {t} form one proper (p ∷ ps) lines n now new g are held source at_end told =
     let is = are.0 in
     let r : RunReport = done_by ds p.used p.values in
     let all = lines (omega arith) in
@@ -83,19 +84,20 @@ further {S} {w} {to_come} {ds} {m} {t} one proper (p ∷ ps) lines n now new g a
     let goes = plain_goes w ds r line.fits refl refl is.some in
     let g1 = next one proper g r scan (λ e. e) refl (λ _. refl) None goes tt in
     let front = next_front one proper g r scan (λ e. e) refl (λ _. refl) None goes tt in
-    let rest = further one proper ps (λ _. all) (n + 1) mid new g1 are.1 (held ∙ sym (drop-drop (used_by ps) p.used now.held)) source at_end
-    (λ _. end) in
-    one_more (texts w g.front) (plain_line p.values) (texts w g1.front) (records_by plain_line ps) rest
-    (ap (texts w) front ∙ text_more w g.front r (plain_line p.values) line.text) (omega arith)
+    let rest = further form one proper ps (λ _. all) (n + 1) mid new g1 are.1 (held ∙ sym (drop-drop (used_by ps) p.used now.held))
+    source at_end (λ _. end) in
+    one_more (texts w g.front) (line_in form p.values) (texts w g1.front) (records_by (line_in form) ps) rest
+    (ap (texts w) front ∙ text_more w g.front r (line_in form p.values) line.text) (omega arith)
 
 -- The loop after these: the sink took their lines.
 pub goes_further : {S : Type 0} {w : Work} {to_come : S → Option (List ℕ)} {ds : List Directive} {m : ℕ} {t : List ℕ}
-    {failures n count : ℕ} {now new : Ahead S} {was is wrote : Option (List ℕ)} (failures_of : S → ℕ)
-    (one : EachHasOneReport) (proper : AreProper ds) → (0 < count → AreLines w ds)
+    {failures n count : ℕ} {now new : Ahead S} {was is wrote : Option (List ℕ)} {form : OutputForm} (failures_of : S → ℕ)
+    (one : EachHasOneReport) (proper : AreProper ds) → (0 < count → AreLines form w ds)
     → (0 < count → new.at_end ≡ true → IsAtEnd (to_come new.source))
-    → WritesPlain ds m now new is wrote count → Going w to_come ds m t now was is failures (failures_of now.source) n
+    → WritesRecords form ds m now new is wrote count → Going w to_come ds m t now was is failures (failures_of now.source) n
     → Going w to_come ds m t new was wrote failures (failures_of new.source) (n + count)
-goes_further {S} {w} {to_come} {ds} {m} {t} {failures} {n} {count} {now} {new} {was} {is} {wrote} failures_of one proper lines told h g =
+goes_further {S} {w} {to_come} {ds} {m} {t} {failures} {n} {count} {now} {new} {was} {is} {wrote} {form} failures_of one proper lines
+    told h g =
     let some : 0 < length h.parts → 0 < count = λ e. omega (arith, e, h.count_is) in
     let bare : Going w to_come ds m t now None None failures (failures_of now.source) n = record {
       front = g.front;
@@ -110,7 +112,7 @@ goes_further {S} {w} {to_come} {ds} {m} {t} {failures} {n} {count} {now} {new} {
       appends = tt;
       no_failure = g.no_failure;
     } in
-    let f = further one proper h.parts (λ e. lines (some e)) n now new bare h.are h.held h.source h.at_end
+    let f = further form one proper h.parts (λ e. lines (some e)) n now new bare h.are h.held h.source h.at_end
     (λ e at. subst (λ s. IsAtEnd (to_come s)) h.source (told (some e) (h.at_end ∙ at))) in
     record {
       front = f.going.front;

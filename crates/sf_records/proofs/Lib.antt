@@ -2,9 +2,9 @@ pub mod LinewiseLemmas
 pub mod CopyRow
 pub mod Copying
 pub mod Further
+pub mod InPlaceTexts
 pub mod Looping
 pub mod OneEnd
 pub mod Passing
-pub mod PlainTexts
 pub mod ReadingColumns
 pub mod RowsWritten

@@ -8,10 +8,10 @@ pub use Rattle.sf_forms.specs.declared.form
 pub mod Copied
 pub mod Copies
 pub mod Forms
+pub mod InPlace
 pub mod Judging
 pub mod Laws
 pub mod Lines
-pub mod Plain
 pub mod ReadingBack
 pub mod Records
 pub mod Texts

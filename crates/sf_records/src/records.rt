@@ -3,7 +3,7 @@ ghost use Rattle.std.specs.Prelude.{◌≡◌, ◌≢◌, ◌<◌, ◌≤◌, �
 ghost use Rattle.std.specs.Prelude.{MatchOption};
 ghost use Rattle.std.specs.Result.{result_err};
 ghost use Rattle.sf_format.specs.Proper.{AreInOrder};
-ghost use Rattle.sf_forms.specs.declared.form.OutputForm.TheVariants.{Plain};
+ghost use Rattle.sf_forms.specs.declared.form.OutputForm.{OutputForm};
 ghost use Rattle.sf_forms.specs.makers.Forms.{IsBare};
 ghost use Rattle.sf_print.specs.sink.Sinks.{counted_on};
 ghost use Rattle.sf_read.specs.source.Ahead.{input_of};
@@ -14,7 +14,7 @@ ghost use Rattle.sf_records.specs.Records.{Loops, end_by, ended, status_by};
 ghost use Rattle.sf_records.specs.Works.{turn_in};
 
 use crate::end::{ToolEnd, ToolFault, ended_by};
-use crate::plain::write_plain;
+use crate::in_place::write_records;
 use crate::turn::{Turn, next_turn};
 use sf_base::{HeapStore, Store};
 use sf_format::ScanFormat;
@@ -134,14 +134,18 @@ fn write_held<M: Maker, K: Sink, T: Store>(
     }
 }
 
-/// Whether the records of the format may be written as they are read: they are in the plain form, and their values come
-/// in the order of their slots.
-fn is_plain<M: Maker>(maker: &M, format: &ScanFormat) -> bool
-    ensures form { result ≡ true → (number : ℕ) (report : RunReport)
-        → IsBare Plain (M.work maker.now number format.now) format.now report }
-    ensures order { result ≡ true → AreInOrder format.now }
+/// In which form the records of the format may be written as they are read. None where they have heads, or are printed,
+/// or where the values don't come in the order of their slots.
+fn form_in_place<M: Maker>(maker: &M, format: &ScanFormat) -> Option<OutputForm>
+    ensures form { (form : OutputForm) → result ≡ Some form → (number : ℕ) (report : RunReport)
+        → IsBare form (M.work maker.now number format.now) format.now report }
+    ensures order { (form : OutputForm) → result ≡ Some form → AreInOrder format.now }
 {
-    matches!(maker.bare_form(), Some(OutputForm::Plain)) && is_in_order(format)
+    let form = maker.bare_form()?;
+    if !is_in_order(format) {
+        return None;
+    }
+    Some(form)
 }
 
 /// Scans record after record of what the lookahead holds and its source gives, by runs of at most `limit` bytes, and
@@ -171,10 +175,11 @@ pub fn run_records<M: Maker, S: Source, K: Sink, const N: usize>(
     let Ok(mut store) = HeapStore::new(alloc, format.width_sum().unwrap_or(TEXT_BYTES)) else {
         return ended_by(0, ToolFault::Memory);
     };
-    let plain = is_plain(maker, format);
+    let asked = form_in_place(maker, format);
     let mut records = 0;
     'records: loop {
-        let passed = records + write_plain(plain, from, to, format, limit, MOST_RECORDS - records);
+        let passed = records
+            + write_records(asked, from, to, format, limit, MOST_RECORDS - records);
         if passed == MOST_RECORDS {
             return ended_by(MOST_RECORDS, ToolFault::TooMany);
         }

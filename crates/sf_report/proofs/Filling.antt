@@ -28,7 +28,7 @@ use Rattle.sf_report.specs.declared.outcome.Status.{Status}
 use Rattle.sf_report.specs.declared.outcome.Status.TheVariants.{Done, InputFailure, MatchingFailure, OutOfRange, TooLong, NoMemory}
 use Rattle.sf_report.specs.Limits.{RunTold}
 use Rattle.sf_report.specs.Rows.{Suits, kind_of}
-use Rattle.sf_report.specs.Runs.{GoesOn, Ran, RunReport, StepsPast, is_shape_converted, over, status_of, values}
+use Rattle.sf_report.specs.Runs.{GoesOn, Ran, RunReport, StepsPast, is_shape_converted, over, status_of, values_stored}
 use Rattle.sf_report.specs.Steps.{ByteStep, ConversionStep, CountStep, EmptyItem, Fails, IsReal, ItemEnds, ItemPasses, ItemStep, ItemStored}
 use Rattle.sf_report.specs.Steps.{BlankColumn, ColumnEnds, Misses, NumberStored, Passes, RealStored, Step, StepBy, StepEnd, Stores}
 use Rattle.sf_report.specs.Steps.{LiteralStep, TextColumn, missed}
@@ -303,15 +303,15 @@ by_destination d k ds slot given (Some e) is missing apart suits = suits_missing
 
 next_fills : (d : Directive) (k : ℕ) (ds : List Directive) (b : ℕ) (e : StepEnd) (ran : List Ran) (Rest : Type 0) → Fills d e
     → GoesOn e Rest ran → IsApart (destination_of d) (destinations_of ds)
-    → (Rest → status_of ran ≡ Done → AreSuitedFrom (left_over d k) ds (values ran))
+    → (Rest → status_of ran ≡ Done → AreSuitedFrom (left_over d k) ds (values_stored ran))
     → status_of (record { directive = d; bytes = b; end = e } ∷ ran) ≡ Done
-    → AreSuitedFrom k (d ∷ ds) (values (record { directive = d; bytes = b; end = e } ∷ ran))
+    → AreSuitedFrom k (d ∷ ds) (values_stored (record { directive = d; bytes = b; end = e } ∷ ran))
 next_fills d k ds b Passes ran Rest fills goes apart rest done slot =
-    suits_none d k ds slot (datum_at slot (values ran)) fills (rest goes done slot)
+    suits_none d k ds slot (datum_at slot (values_stored ran)) fills (rest goes done slot)
 next_fills d k ds b (Stores s v) ran Rest fills goes apart rest done slot =
-    suits_stored d k ds slot s v (values ran) fills (rest goes done slot)
+    suits_stored d k ds slot s v (values_stored ran) fills (rest goes done slot)
 next_fills d k ds b Misses ran Rest fills goes apart rest done slot =
-    by_destination d k ds slot (datum_at slot (values ran)) (destination_of d) refl (rw fills refl) apart (rest goes done slot)
+    by_destination d k ds slot (datum_at slot (values_stored ran)) (destination_of d) refl (rw fills refl) apart (rest goes done slot)
 next_fills d k ds b (Fails status) ran Rest fills goes apart rest done slot = absurd (fills done)
 
 -- no more are missing with one than may be
@@ -322,7 +322,7 @@ some_left : (d : Directive) (k : ℕ) → 0 < k → may_be_missing d k ≡ true
 some_left d k low = grind (arith, nat_tests)
 
 steps_fill : (m k : ℕ) (ds : List Directive) (x : List ℕ) (n : ℕ) (ran : List Ran) → m ≤ k → AreKinded ds → AreApart ds
-    → StepsPast m ds x n ran → status_of ran ≡ Done → AreSuitedFrom k ds (values ran)
+    → StepsPast m ds x n ran → status_of ran ≡ Done → AreSuitedFrom k ds (values_stored ran)
 steps_fill m k [] x n [] few kinded apart steps done = λ slot. inl refl
 steps_fill m k [] x n (r ∷ ran) few kinded apart steps done = absurd steps
 steps_fill m k (d ∷ ds) x n [] few kinded apart steps done = absurd steps
@@ -336,8 +336,8 @@ steps_fill (suc m) k (d ∷ ds) x n (r ∷ ran) few kinded apart steps done =
     let parts = apart_parts d ds (destination_of d) refl apart in
     let rest : status_of ran ≡ Done = subst (λ (s : Ran). status_of (s ∷ ran) ≡ Done) steps.0 done in
     let later = steps_fill m (left_over d k) ds x n ran (grind (arith, few)) kinded.1 parts.0 steps.1 rest in
-    λ slot. subst (λ (s : Ran). SuitsFrom k (d ∷ ds) slot (datum_at slot (values (s ∷ ran)))) (sym steps.0)
-    (by_destination d k ds slot (datum_at slot (values ran)) (destination_of d) refl (some_left d k (omega (arith, few))) parts.1
+    λ slot. subst (λ (s : Ran). SuitsFrom k (d ∷ ds) slot (datum_at slot (values_stored (s ∷ ran)))) (sym steps.0)
+    (by_destination d k ds slot (datum_at slot (values_stored ran)) (destination_of d) refl (some_left d k (omega (arith, few))) parts.1
     (later slot))
 
 -- a Done report has a value of its kind for each destination of the format that isn't missing, and no others

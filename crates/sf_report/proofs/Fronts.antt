@@ -15,11 +15,11 @@ use Rattle.sf_format.specs.declared.directive.Directive.TheVariants.{Conv, Opens
 use Rattle.sf_format.specs.declared.directive.Literal.{Literal}
 use Rattle.sf_format.specs.declared.directive.Literal.TheVariants as literal
 use Rattle.sf_item.specs.Columns.{IsColumn}
-use Rattle.sf_item.specs.Matching.{Begins, IsItem}
+use Rattle.sf_item.specs.Matching.{BeginsMatch, IsItem}
 use Rattle.sf_report.specs.declared.outcome.Status.TheVariants.{Done, InputFailure}
 use Rattle.sf_report.specs.Steps.{StepEnd, Fails, ByteStep, ConversionStep, IsSkipUnder, IsSkipBefore, ItemEnds, ItemStep, Step}
 use Rattle.sf_report.specs.Steps.{EmptyItem, ColumnEnds, LiteralStep, OpenerStep, PercentStep, StepBy, missed}
-use Rattle.sf_report.specs.Runs.{GoesOn, Ran, RunReport, Steps, StepsPast, left_out, over, status_of, used}
+use Rattle.sf_report.specs.Runs.{GoesOn, Ran, RunReport, Steps, StepsPast, left_out, over, status_of, bytes_used}
 use Rattle.sf_report.specs.Limits.{TellsWithin}
 use Rattle.sf_report.specs.Laws.{EachDoneRunStays}
 use Rattle.sf_report.proofs.Told.{met_within, one_report, within_met}
@@ -37,7 +37,7 @@ skip_front x z k le g = grind (arith, take-append-le, length-append)
 
 item_at_front : (c : Conversion) (x z : List ℕ) (k : ℕ) → k ≤ length x → IsItem c (x ++ z) k → IsItem c x k
 item_at_front c x z k le g = record {
-  holds = (le, g.holds.1, subst (Begins c) (take-append-le k x z le) g.holds.2);
+  holds = (le, g.holds.1, subst (BeginsMatch c) (take-append-le k x z le) g.holds.2);
   above = λ j h. grind (arith, length-append, take-append-le);
 }
 
@@ -136,33 +136,33 @@ step_front d x z n k end ok le h = grind (arith, skip_front, byte_front, drop-ap
 
 -- by the end of the first
 abbrev RestStays : ℕ → List Directive → List ℕ → List ℕ → ℕ → ℕ → List Ran → Type 0
-RestStays m ds x z n k ran = status_of ran ≡ Done → used ran ≤ length (drop k x) → StepsPast m ds (drop k x ++ z) (n + k) ran
+RestStays m ds x z n k ran = status_of ran ≡ Done → bytes_used ran ≤ length (drop k x) → StepsPast m ds (drop k x ++ z) (n + k) ran
     → StepsPast m ds (drop k x) (n + k) ran
 
 abbrev OneStep : Directive → List Directive → List ℕ → ℕ → ℕ → StepEnd → List Ran → Type 0
 OneStep d ds x n k end ran = Step d x n k end × GoesOn end (StepsPast (over d end) ds (drop k x) (n + k) ran) ran
 
 first_front : (d : Directive) (ds : List Directive) (x z : List ℕ) (n k : ℕ) (end : StepEnd) (ran : List Ran)
-    → status_of (record { directive = d; bytes = k; end = end } ∷ ran) ≡ Done → k + used ran ≤ length x
+    → status_of (record { directive = d; bytes = k; end = end } ∷ ran) ≡ Done → k + bytes_used ran ≤ length x
     → RestStays (over d end) ds x z n k ran → OneStep d ds (x ++ z) n k end ran → OneStep d ds x n k end ran
 first_front d ds x z n k end ran done le rest h4 = grind (arith, step_front, length-drop, drop-append-le)
 
-past_front : (m : ℕ) (ds : List Directive) (x z : List ℕ) (n : ℕ) (ran : List Ran) → status_of ran ≡ Done → used ran ≤ length x
+past_front : (m : ℕ) (ds : List Directive) (x z : List ℕ) (n : ℕ) (ran : List Ran) → status_of ran ≡ Done → bytes_used ran ≤ length x
     → StepsPast m ds (x ++ z) n ran → StepsPast m ds x n ran
 past_front m [] x z n [] done le h = tt
 past_front m [] x z n (r ∷ ran) done le h = absurd h
 past_front m (d ∷ ds) x z n [] done le h = absurd h
 past_front zero (d ∷ ds) x z n (r ∷ ran) done le h =
-    let all : used (r ∷ ran) ≡ r.bytes + used ran = sum_by-cons (λ (s : Ran). s.bytes) r ran in
+    let all : bytes_used (r ∷ ran) ≡ r.bytes + bytes_used ran = sum_by-cons (λ (s : Ran). s.bytes) r ran in
     let first = first_front d ds x z n r.bytes r.end ran done (omega (arith, all, le))
     (past_front (over d r.end) ds (drop r.bytes x) z (n + r.bytes) ran) (h.1, h.2) in
     (h.0, first.0, first.1)
 past_front (suc m) (d ∷ ds) x z n (r ∷ ran) done le h =
-    let all : used (r ∷ ran) ≡ r.bytes + used ran = sum_by-cons (λ (s : Ran). s.bytes) r ran in
+    let all : bytes_used (r ∷ ran) ≡ r.bytes + bytes_used ran = sum_by-cons (λ (s : Ran). s.bytes) r ran in
     let rest : status_of (left_out d ∷ ran) ≡ Done = subst (λ (s : Ran). status_of (s ∷ ran) ≡ Done) h.0 done in
     (h.0, past_front m ds x z n ran rest (omega (arith, all, le)) h.1)
 
-steps_front : (ds : List Directive) (x z : List ℕ) (n : ℕ) (ran : List Ran) → status_of ran ≡ Done → used ran ≤ length x
+steps_front : (ds : List Directive) (x z : List ℕ) (n : ℕ) (ran : List Ran) → status_of ran ≡ Done → bytes_used ran ≤ length x
     → Steps ds (x ++ z) n ran → Steps ds x n ran
 steps_front ds x z n ran done le h = past_front 0 ds x z n ran done le h
 

@@ -5,7 +5,7 @@ use Rattle.std.proofs.lemmas.List.{length-take-le}
 use Rattle.sf_base.specs.Greatest.{IsGreatest}
 use Rattle.sf_format.specs.declared.directive.Conversion.{Conversion}
 use Rattle.sf_format.specs.Proper.{IsProperShape}
-use Rattle.sf_item.specs.Matching.{Begins, IsWithin, IsItem}
+use Rattle.sf_item.specs.Matching.{BeginsMatch, IsWithin, IsItem}
 use Rattle.sf_item.specs.Tests.{can_take}
 use Rattle.sf_item.proofs.Deciding.{tests_can_take}
 use Rattle.sf_item.proofs.Fronts.{HasItem, can_take_front, item_can_take_nothing}
@@ -49,10 +49,10 @@ len_most c f (b ∷ y) start =
 -- ---- the item
 
 front_from : (c : Conversion) → IsProperShape c.shape → (x : List ℕ) (j : ℕ) → j ≤ length x → can_take c (take j x) ≡ true
-    → IsWithin c j × Begins c (take j x)
+    → IsWithin c j × BeginsMatch c (take j x)
 front_from c proper x j fits e = grind (arith, (tests_can_take c proper (take j x)), (length-take-le j x fits))
 
-front_to : (c : Conversion) → IsProperShape c.shape → (x : List ℕ) (j : ℕ) → j ≤ length x → IsWithin c j × Begins c (take j x)
+front_to : (c : Conversion) → IsProperShape c.shape → (x : List ℕ) (j : ℕ) → j ≤ length x → IsWithin c j × BeginsMatch c (take j x)
     → can_take c (take j x) ≡ true
 front_to c proper x j fits h = grind (arith, (tests_can_take c proper (take j x)), (length-take-le j x fits))
 

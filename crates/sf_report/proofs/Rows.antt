@@ -268,12 +268,12 @@ alone d x [] cut rest h = h.0
 alone d x (b ∷ before) cut rest h = absurd (ends b.end (drop b.bytes x) (0 + b.bytes) before cut rest h.2)
 
 -- where it stores no text, memory is never refused
-never : (d : Directive) → ((y : List ℕ) (k : ℕ) → limits.Stores d y k → ⊥) → (m : ℕ) (x : List ℕ) (r : RunReport)
+never : (d : Directive) → ((y : List ℕ) (k : ℕ) → limits.StoresAt d y k → ⊥) → (m : ℕ) (x : List ℕ) (r : RunReport)
     → RunRefused (d ∷ []) m x r → ⊥
 never d stores m x r h =
     let before = h.2.0 in
     let cut = h.2.1 in
-    stores _ _ (subst (λ (z : Directive). limits.Stores z (drop (runs.used before) x) (h.0 - runs.used before))
+    stores _ _ (subst (λ (z : Directive). limits.StoresAt z (drop (runs.bytes_used before) x) (h.0 - runs.bytes_used before))
     (alone d x before cut.cut cut.rest cut.steps) h.2.2)
 
 refused : MemoryExamples
@@ -317,10 +317,11 @@ not_before_text (k, low, (before, cut, stores, is)) =
     by before cut stores (omega (arith, place)) (omega (arith, used))
   where
     by : (before : List Ran) (cut : limits.IsCut (text_column 4 1 ∷ []) (codes " ab") k before)
-        → limits.Stores cut.cut.directive (drop (runs.used before) (codes " ab")) (k - runs.used before) → length before ≡ 0 → k ≡ 0 → ⊥
+        → limits.StoresAt cut.cut.directive (drop (runs.bytes_used before) (codes " ab")) (k - runs.bytes_used before)
+        → length before ≡ 0 → k ≡ 0 → ⊥
     by (b ∷ before) cut stores none zero = cc
     by [] cut stores none zero =
-        let (some, (s, skip, past)) = subst (λ (z : Directive). limits.Stores z (codes " ab") (k - 0))
+        let (some, (s, skip, past)) = subst (λ (z : Directive). limits.StoresAt z (codes " ab") (k - 0))
         (alone (text_column 4 1) (codes " ab") [] cut.cut cut.rest cut.steps) stores in
         let one : s ≡ 1 = skip_only (codes " ab") s skip in
         omega (arith, past, one, zero)

@@ -14,7 +14,8 @@ use Rattle.sf_report.specs.declared.outcome.Ending.{Ending}
 use Rattle.sf_report.specs.declared.outcome.Status.{Status}
 use Rattle.sf_report.specs.declared.outcome.Status.TheVariants.{Done, TooLong}
 use Rattle.sf_report.specs.Steps.{StepEnd, Fails}
-use Rattle.sf_report.specs.Runs.{Ran, Steps, left_out, over, used, failure_of, status_of, values, assigned, converted, RunReport}
+use Rattle.sf_report.specs.Runs.{Ran, Steps, left_out, over, bytes_used, failure_of, status_of, values_stored, count_assigned}
+use Rattle.sf_report.specs.Runs.{count_converted, RunReport}
 use Rattle.sf_report.specs.Runs.{report_of, Uses, IsOpen}
 use Rattle.sf_report.specs.Limits.{cut_report, RunWithin, TellsWithin}
 use Rattle.sf_item.proofs.Deciding.{Tests, tests_both, tests_most}
@@ -31,7 +32,7 @@ use Rattle.sf_report.proofs.RunLaws.{steps_is, steps_only}
 abbrev ran_one : Directive → ℕ → StepEnd → Ran
 ran_one d k end = record { directive = d; bytes = k; end = end }
 
-used-cons : (r : Ran) (ran : List Ran) → used (r ∷ ran) ≡ r.bytes + used ran
+used-cons : (r : Ran) (ran : List Ran) → bytes_used (r ∷ ran) ≡ r.bytes + bytes_used ran
 used-cons r ran = sum_by-cons (λ (s : Ran). s.bytes) r ran
 
 abbrev tally : ℕ → ℕ → ℕ → List Assigned → Tally
@@ -42,7 +43,8 @@ same_tally u b d w p q r s = grind arith
 
 -- the totals t, and those of the steps
 abbrev sums : Tally → List Ran → Tally
-sums t ran = tally (t.used + used ran) (t.assigned + assigned ran) (t.converted + converted ran) (t.values ++ values ran)
+sums t ran = tally (t.used + bytes_used ran) (t.assigned + count_assigned ran) (t.converted + count_converted ran)
+    (t.values ++ values_stored ran)
 
 count_more : (v : Bool) (n k l : ℕ) → l ≡ cond (v && true) 1 0 + k → cond v (n + 1) n + k ≡ n + l
 count_more v n k l e = grind arith
@@ -130,8 +132,9 @@ run_told_from (d ∷ ds) a zero t x =
     (counted-used d (step_of d x t.used).1 (with_used (t.used + k) t)))
 run_told_from (d ∷ ds) a (suc m) t x = run_told_from ds (a + 1) m t x ∙ told_left_out d a t (ran_past m ds x t.used)
 
-sums_nothing : (ran : List Ran) → sums nothing_yet ran ≡ tally (used ran) (assigned ran) (converted ran) (values ran)
-sums_nothing ran = same_tally _ _ _ _ (zero-add (used ran)) (zero-add (assigned ran)) (zero-add (converted ran)) refl
+sums_nothing : (ran : List Ran)
+    → sums nothing_yet ran ≡ tally (bytes_used ran) (count_assigned ran) (count_converted ran) (values_stored ran)
+sums_nothing ran = same_tally _ _ _ _ (zero-add (bytes_used ran)) (zero-add (count_assigned ran)) (zero-add (count_converted ran)) refl
 
 told_nothing : (ran : List Ran) → told_from 0 nothing_yet ran ≡ report_of ran None
 told_nothing ran = grind arith
@@ -170,7 +173,7 @@ cut_left_out d a m t before = grind (arith, common_steps)
 
 -- a run past the limit is cut off in the step in which it passes it
 cut_is : (ds : List Directive) (m a j : ℕ) (t : Tally) (x : List ℕ) (before : List Ran) (cut : Ran) (rest : List Ran)
-    → ran_past j ds x t.used ≡ before ++ cut ∷ rest → t.used + used before ≤ m → m < t.used + used before + cut.bytes
+    → ran_past j ds x t.used ≡ before ++ cut ∷ rest → t.used + bytes_used before ≤ m → m < t.used + bytes_used before + cut.bytes
     → run_past (Some m) ds (a + 1) j t x ≡ cut_from a t before m
 cut_is [] m a j t x [] cut rest parts low high = cc
 cut_is [] m a j t x (r ∷ before) cut rest parts low high = cc
@@ -207,14 +210,14 @@ record Split (ran : List Ran) (n m : ℕ) : Type 0 where
   cut : Ran
   rest : List Ran
   parts : ran ≡ before ++ cut ∷ rest
-  low : n + used before ≤ m
-  high : m < n + used before + cut.bytes
+  low : n + bytes_used before ≤ m
+  high : m < n + bytes_used before + cut.bytes
 
-split : (ran : List Ran) (n m : ℕ) → n ≤ m → m < n + used ran → Split ran n m
+split : (ran : List Ran) (n m : ℕ) → n ≤ m → m < n + bytes_used ran → Split ran n m
 split [] n m low high = absurd (omega (arith, low, high))
 split (r ∷ ran) n m low high = by_case (cases_lt m (n + r.bytes)) (split ran (n + r.bytes) m)
   where
-    by_case : (m < n + r.bytes) ⊎ (n + r.bytes ≤ m) → (n + r.bytes ≤ m → m < n + r.bytes + used ran → Split ran (n + r.bytes) m)
+    by_case : (m < n + r.bytes) ⊎ (n + r.bytes ≤ m) → (n + r.bytes ≤ m → m < n + r.bytes + bytes_used ran → Split ran (n + r.bytes) m)
         → Split (r ∷ ran) n m
     by_case (inl over) more = record { before = []; cut = r; rest = ran; parts = refl; low = omega arith; high = omega arith }
     by_case (inr fits) more =
@@ -233,9 +236,9 @@ split (r ∷ ran) n m low high = by_case (cases_lt m (n + r.bytes)) (split ran (
         }
 
 pub told_exists : (ds : List Directive) → AreProper ds → (m : ℕ) (x : List ℕ) → TellsWithin ds m x (run_of (Some m) ds 1 nothing_yet x)
-told_exists ds proper m x = by_case (cases_lt m (used (ran_of ds x 0)))
+told_exists ds proper m x = by_case (cases_lt m (bytes_used (ran_of ds x 0)))
   where
-    by_case : (m < used (ran_of ds x 0)) ⊎ (used (ran_of ds x 0) ≤ m) → TellsWithin ds m x (run_of (Some m) ds 1 nothing_yet x)
+    by_case : (m < bytes_used (ran_of ds x 0)) ⊎ (bytes_used (ran_of ds x 0) ≤ m) → TellsWithin ds m x (run_of (Some m) ds 1 nothing_yet x)
     by_case (inl over) =
         let s = split (ran_of ds x 0) 0 m (omega arith) (omega (arith, over)) in
         let low = s.low in
@@ -263,8 +266,8 @@ pub told_is : (ds : List Directive) → AreProper ds → (m : ℕ) (x : List ℕ
 told_is ds proper m x r (inl w) = let told = run_told ds proper x w.0 w.1 in
     w.3 ∙ sym told ∙ sym (within_limit m ds 1 nothing_yet x (rw told w.2))
 told_is ds proper m x r (inr w) =
-    let low : used w.0 ≤ m = w.1.low in
-    let high : m < used w.0 + w.1.cut.bytes = w.1.high in
+    let low : bytes_used w.0 ≤ m = w.1.low in
+    let high : m < bytes_used w.0 + w.1.cut.bytes = w.1.high in
     w.2 ∙ sym (cut_nothing w.0 m)
     ∙ sym (cut_is ds m 0 0 nothing_yet x w.0 w.1.cut w.1.rest (sym (steps_only ds proper x 0 _ w.1.steps)) (omega (arith, low))
     (omega (arith, high)))

@@ -32,7 +32,7 @@ use Rattle.sf_report.specs.declared.outcome.Ending.{Ending}
 use Rattle.sf_report.specs.declared.outcome.Status.TheVariants.{Done, TooLong, NoMemory}
 use Rattle.sf_report.specs.Limits.{RunTold}
 use Rattle.sf_report.specs.Rows.{IsPattern, IsReadable, IsValue}
-use Rattle.sf_report.specs.Runs.{GoesOn, Ran, RunReport, StepsPast, over, values}
+use Rattle.sf_report.specs.Runs.{GoesOn, Ran, RunReport, StepsPast, over, values_stored}
 use Rattle.sf_report.specs.Steps.{ByteStep, ConversionStep, CountStep, EmptyItem, Fails, IsReal, ItemEnds, ItemPasses, ItemStep, ItemStored}
 use Rattle.sf_report.specs.Steps.{BlankColumn, ColumnEnds, Misses, NumberStored, Passes, RealStored, Step, StepBy, StepEnd, Stores}
 use Rattle.sf_report.specs.Steps.{LiteralStep, TextColumn, missed}
@@ -231,15 +231,15 @@ module _ (Q : List ℕ → Type 0) (from : (n : ℕ) (x : List ℕ) → Q x → 
   AreStoredSo vs = AllByRecursion (λ (a : Assigned). ValueBy a.datum) vs
 
   next_given : (d : Directive) (b : ℕ) (e : StepEnd) (ran : List Ran) (Rest : Type 0) → GivesValue e → GoesOn e Rest ran
-      → (Rest → AreStoredSo (values ran))
-      → AreStoredSo (values (record { directive = d; bytes = b; end = e } ∷ ran))
+      → (Rest → AreStoredSo (values_stored ran))
+      → AreStoredSo (values_stored (record { directive = d; bytes = b; end = e } ∷ ran))
   next_given d b Passes ran Rest given goes rest = rest goes
   next_given d b (Stores s v) ran Rest given goes rest = (given, rest goes)
   next_given d b Misses ran Rest given goes rest = rest goes
   next_given d b (Fails status) ran Rest given goes rest = rw goes tt
 
   steps_given : (m : ℕ) (ds : List Directive) (x : List ℕ) (n : ℕ) (ran : List Ran) → Q x → StepsPast m ds x n ran
-      → AreStoredSo (values ran)
+      → AreStoredSo (values_stored ran)
   steps_given m [] x n [] bytes steps = tt
   steps_given m [] x n (r ∷ ran) bytes steps = absurd steps
   steps_given m (d ∷ ds) x n [] bytes steps = absurd steps

@@ -11,18 +11,18 @@ use Rattle.sf_report.specs.declared.outcome.Ending.{Ending}
 use Rattle.sf_report.specs.declared.outcome.Status.{Status}
 use Rattle.sf_report.specs.declared.outcome.Status.TheVariants.{TooLong, NoMemory}
 use Rattle.sf_report.specs.Steps.{IsSkipBefore}
-use Rattle.sf_report.specs.Runs.{Ran, Steps, RunReport, report_of, Run, used, values, assigned, converted}
+use Rattle.sf_report.specs.Runs.{Ran, Steps, RunReport, report_of, Run, bytes_used, values_stored, count_assigned, count_converted}
 
 -- a run that was cut off after m bytes, in the directive after those that ran before
 abbrev pub cut_report : Status → List Ran → ℕ → RunReport
 cut_report status before m = record {
   status = status;
   at = length before + 1;
-  assigned = assigned before;
-  converted = converted before;
+  assigned = count_assigned before;
+  converted = count_converted before;
   used = m;
   met = None;
-  values = values before;
+  values = values_stored before;
 }
 
 -- byte m + 1 would be consumed by the directive after these
@@ -30,8 +30,8 @@ pub record IsCut (ds : List Directive) (x : List ℕ) (m : ℕ) (before : List R
   pub cut : Ran
   pub rest : List Ran
   pub steps : Steps ds x 0 (before ++ (cut ∷ rest))
-  pub low : used before ≤ m
-  pub high : m < used before + cut.bytes
+  pub low : bytes_used before ≤ m
+  pub high : m < bytes_used before + cut.bytes
 
 -- the report under a limit of m bytes
 abbrev pub RunWithin : List Directive → ℕ → List ℕ → Ending → RunReport → Type 0
@@ -42,7 +42,7 @@ RunWithin ds m x ending report =
 -- the same but for what the run met: what depends on x alone
 abbrev pub TellsWithin : List Directive → ℕ → List ℕ → RunReport → Type 0
 TellsWithin ds m x report =
-    ((ran : List Ran) × Steps ds x 0 ran × (used ran ≤ m) × (report ≡ report_of ran None))
+    ((ran : List Ran) × Steps ds x 0 ran × (bytes_used ran ≤ m) × (report ≡ report_of ran None))
     ⊎ ((before : List Ran) × IsCut ds x m before × (report ≡ cut_report TooLong before m))
 
 -- past the white space before its item, an assigned text conversion has consumed k bytes of x
@@ -61,15 +61,15 @@ abbrev pub StoresBy : Bool → Conversion → List ℕ → ℕ → Type 0
 StoresBy true c x k = StoresColumn c.shape c.slot x k
 StoresBy false c x k = StoresShape c.shape c.slot x k
 
-abbrev pub Stores : Directive → List ℕ → ℕ → Type 0
-Stores (Conv c) x k = StoresBy c.column c x k
-Stores _ x k = ⊥
+abbrev pub StoresAt : Directive → List ℕ → ℕ → Type 0
+StoresAt (Conv c) x k = StoresBy c.column c x k
+StoresAt _ x k = ⊥
 
 -- the report where the storing of a byte was refused, within a limit of m bytes
 abbrev pub RunRefused : List Directive → ℕ → List ℕ → RunReport → Type 0
 RunRefused ds m x report =
     (k : ℕ) × (k < m) × ((before : List Ran) × (cut : IsCut ds x k before)
-    × Stores cut.cut.directive (drop (used before) x) (k - used before) × (report ≡ cut_report NoMemory before k))
+    × StoresAt cut.cut.directive (drop (bytes_used before) x) (k - bytes_used before) × (report ≡ cut_report NoMemory before k))
 
 -- the report under a limit of m bytes; or, where the storing of a byte was refused, that of the run up to there
 abbrev pub RunTold : List Directive → ℕ → List ℕ → Ending → RunReport → Type 0

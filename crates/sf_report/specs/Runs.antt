@@ -54,8 +54,8 @@ Steps ds x n ran = StepsPast 0 ds x n ran
 
 -- ---- what is reported of the directives that ran
 
-abbrev pub used : List Ran → ℕ
-used ran = sum_by (λ r. r.bytes) ran
+abbrev pub bytes_used : List Ran → ℕ
+bytes_used ran = sum_by (λ r. r.bytes) ran
 
 abbrev pub failure_of : StepEnd → Option Status
 failure_of (Fails status) = Some status
@@ -78,8 +78,8 @@ value_stored r = elim r.end [
   | Fails status ↦ None
 ]
 
-abbrev pub values : List Ran → List Assigned
-values ran = filter_map value_stored ran
+abbrev pub values_stored : List Ran → List Assigned
+values_stored ran = filter_map value_stored ran
 
 abbrev pub is_shape_converted : Shape → Bool
 is_shape_converted Count = false
@@ -96,17 +96,17 @@ passed (Fails status) = false
 passed Misses = false
 passed _ = true
 
-abbrev pub stored : StepEnd → Bool
-stored (Stores slot v) = true
-stored _ = false
+abbrev pub has_stored : StepEnd → Bool
+has_stored (Stores slot v) = true
+has_stored _ = false
 
 -- the conversions that stored an item (C11 7.21.6.2p16)
-abbrev pub assigned : List Ran → ℕ
-assigned ran = count_by (λ r. is_conversion r.directive && stored r.end) ran
+abbrev pub count_assigned : List Ran → ℕ
+count_assigned ran = count_by (λ r. is_conversion r.directive && has_stored r.end) ran
 
 -- the conversions that completed (C11 7.21.6.2p16: "before the first conversion has completed")
-abbrev pub converted : List Ran → ℕ
-converted ran = count_by (λ r. is_conversion r.directive && passed r.end) ran
+abbrev pub count_converted : List Ran → ℕ
+count_converted ran = count_by (λ r. is_conversion r.directive && passed r.end) ran
 
 -- ---- reports
 
@@ -123,16 +123,16 @@ abbrev pub report_of : List Ran → Option Ending → RunReport
 report_of ran met = record {
   status = status_of ran;
   at = place_of_failure ran;
-  assigned = assigned ran;
-  converted = converted ran;
-  used = used ran;
+  assigned = count_assigned ran;
+  converted = count_converted ran;
+  used = bytes_used ran;
   met = met;
-  values = values ran;
+  values = values_stored ran;
 }
 
 -- the run on x uses k bytes
 abbrev pub Uses : List Directive → List ℕ → ℕ → Type 0
-Uses ds x k = (ran : List Ran) × Steps ds x 0 ran × (used ran ≡ k)
+Uses ds x k = (ran : List Ran) × Steps ds x 0 ran × (bytes_used ran ≡ k)
 
 -- after the bytes x the run would consume some byte next
 abbrev pub IsOpen : List Directive → List ℕ → Type 0

@@ -17,7 +17,7 @@ use Rattle.sf_format.specs.Leads.{is_strict, is_strict_lead}
 use Rattle.sf_format.specs.Proper.{IsProper}
 use Rattle.sf_item.specs.Columns.{column_width}
 use Rattle.sf_item.specs.ColumnTests.{column_text}
-use Rattle.sf_item.specs.Matching.{IsInteger, IsPrefixed, IsUnsigned}
+use Rattle.sf_item.specs.Matching.{IsInteger, IsPrefixed, IsUnsignedInteger}
 use Rattle.sf_item.specs.Radices.{first_radix, prefix_radix, zero_radix}
 use Rattle.sf_item.specs.Tests.{integer_at}
 use Rattle.sf_report.specs.Machine.{Skipping, shape_skips}
@@ -63,7 +63,7 @@ prefixed_ends numeral (b ∷ []) m is = absurd is
 prefixed_ends numeral (b ∷ letter ∷ ds) m is =
     ends_more (b ∷ letter ∷ []) ds (digits_end is.1.0 ds (prefix_small numeral letter is.1.0 is.1.1) is.1.2.0.0 is.1.2.0.1)
 
-unsigned_ends : (numeral : Numeral) (body : List ℕ) (m : ℕ) → IsUnsigned numeral body m → EndsWithInk body
+unsigned_ends : (numeral : Numeral) (body : List ℕ) (m : ℕ) → IsUnsignedInteger numeral body m → EndsWithInk body
 unsigned_ends numeral body m (inl is) = digits_end (first_radix numeral) body (first_small numeral) is.1.0.0 is.1.0.1
 unsigned_ends numeral body m (inr (inl is)) = digits_end (zero_radix numeral) body (zero_small numeral) is.1.0.0 is.1.0.1
 unsigned_ends numeral body m (inr (inr is)) = prefixed_ends numeral body m is

@@ -24,7 +24,7 @@ use Rattle.sf_run.specs.declared.directive.Run.{Run}
 use Rattle.sf_run.specs.declared.directive.Phase.TheVariants as phase
 use Rattle.sf_report.specs.declared.outcome.Status.{Status}
 use Rattle.sf_report.specs.Steps.{StepEnd, Fails, Passes, Stores, Misses}
-use Rattle.sf_report.specs.Runs.{Ran, left_out, over, used}
+use Rattle.sf_report.specs.Runs.{Ran, left_out, over, bytes_used}
 use Rattle.sf_report.specs.Limits.{IsCut}
 use Rattle.sf_report.specs.Machine.{Stage, Skipping, Item, item_stepped, shape_skips}
 use Rattle.sf_report.specs.Computed.{go_on, part_of, ran_of, ran_past, skip, skip_under, skip_before, step_of}
@@ -95,7 +95,7 @@ module _ (ds : List Directive) (p : ℕ) (d : Directive) (at : slice_get ds p �
     (h : ComesBy ds p current opened n x y) where
   -- the bytes that the directive under way has consumed
   abbrev left : List ℕ
-  left = drop (used h.before) x
+  left = drop (bytes_used h.before) x
 
   pub showing : Shows d current h.stage × (opened ≡ opened_for d h.stage)
   showing = subst (λ rest. ShowsFirst rest current opened h.stage) (drop_at ds p d at) h.shown
@@ -103,15 +103,15 @@ module _ (ds : List Directive) (p : ℕ) (d : Directive) (at : slice_get ds p �
   pub leading : stepped_all d Skipping left ≡ Some h.stage
   leading = subst (λ rest. LedFirst rest left h.stage) (drop_at ds p d at) h.led
 
-  size : used h.before + length left ≡ n
-  size = let w = h.within in let c = h.consumed_is in omega (arith, w, c, length-drop (used h.before) x)
+  size : bytes_used h.before + length left ≡ n
+  size = let w = h.within in let c = h.consumed_is in omega (arith, w, c, length-drop (bytes_used h.before) x)
 
   -- it goes on with all of these bytes
   pub goes_on : (front g rest : List ℕ) (next : Phase) → y ≡ front ++ rest → ((q : Stage) → Shows d current q → Brings d q front g next)
       → ComesBy ds p next (opened_with (slot_in next) g opened) (n + length front) (x ++ front) rest
   goes_on front g rest next whole brings =
       let b = brings h.stage showing.0 in
-      let on : drop (used h.before) (x ++ front) ≡ left ++ front = drop-append-le (used h.before) x front h.within in
+      let on : drop (bytes_used h.before) (x ++ front) ≡ left ++ front = drop-append-le (bytes_used h.before) x front h.within in
       record {
         before = h.before;
         stage = b.stage;
@@ -122,12 +122,12 @@ module _ (ds : List Directive) (p : ℕ) (d : Directive) (at : slice_get ds p �
             ap (λ (l : List ℕ). ran_of ds l 0) (append_assoc x front (rest ++ z)
             ∙ ap (λ l. x ++ l) (sym (append_assoc front rest z) ∙ ap (λ l. l ++ z) (sym whole)))
             ∙ h.steps z
-            ∙ ap (λ (l : List ℕ). h.before ++ ran_of (drop p ds) l (used h.before))
+            ∙ ap (λ (l : List ℕ). h.before ++ ran_of (drop p ds) l (bytes_used h.before))
             (ap (λ l. left ++ l) (ap (λ l. l ++ z) whole ∙ append_assoc front rest z) ∙ sym (append_assoc left front (rest ++ z))
             ∙ ap (λ l. l ++ (rest ++ z)) (sym on));
         shown = subst (λ rest. ShowsFirst rest next (opened_with (slot_in next) g opened) b.stage) (sym (drop_at ds p d at))
             (b.shown, opened_grown d next h.stage b.stage g opened b.shown b.grown showing.1);
-        led = subst (λ rest. LedFirst rest (drop (used h.before) (x ++ front)) b.stage) (sym (drop_at ds p d at))
+        led = subst (λ rest. LedFirst rest (drop (bytes_used h.before) (x ++ front)) b.stage) (sym (drop_at ds p d at))
             (ap (stepped_all d Skipping) on ∙ all-append d Skipping h.stage left front leading ∙ b.stepped);
       }
 
@@ -175,11 +175,11 @@ passes_on ds p d at current opened n x y h k f ok within takes = record {
   steps = λ z.
       ap (λ (l : List ℕ). ran_of ds l 0) (append_assoc x (take k y) (drop k y ++ z) ∙ ap (λ l. x ++ l) (parted y k z))
       ∙ h.steps z
-      ∙ ap (λ (rest : List Directive). h.before ++ ran_of rest (bytes ++ (y ++ z)) (used h.before)) (drop_at ds p d at)
-      ∙ ap (λ (l : List Ran). h.before ++ l) (made_step d (drop (p + 1) ds) (bytes ++ (y ++ z)) (drop k y ++ z) (used h.before)
+      ∙ ap (λ (rest : List Directive). h.before ++ ran_of rest (bytes ++ (y ++ z)) (bytes_used h.before)) (drop_at ds p d at)
+      ∙ ap (λ (l : List Ran). h.before ++ l) (made_step d (drop (p + 1) ds) (bytes ++ (y ++ z)) (drop k y ++ z) (bytes_used h.before)
       (length bytes + k) f (step z)
-      ∙ ap (λ (l : List Ran). own ∷ l) (go_ok f _ ok ∙ ran_from ds p d at f (drop k y ++ z) (used h.before + (length bytes + k))))
-      ∙ sym (append_assoc h.before ends (ran_of (drop q ds) (drop k y ++ z) (used h.before + (length bytes + k))))
+      ∙ ap (λ (l : List Ran). own ∷ l) (go_ok f _ ok ∙ ran_from ds p d at f (drop k y ++ z) (bytes_used h.before + (length bytes + k))))
+      ∙ sym (append_assoc h.before ends (ran_of (drop q ds) (drop k y ++ z) (bytes_used h.before + (length bytes + k))))
       ∙ ap₂ (λ (l : List ℕ) (m : ℕ). (h.before ++ ends) ++ ran_of (drop q ds) (l ++ (drop k y ++ z)) m) (sym nothing)
       (let a = all in let s = bytes_size in omega (arith, a, s));
   shown = shows_fresh (drop q ds);
@@ -192,7 +192,7 @@ passes_on ds p d at current opened n x y h k f ok within takes = record {
     bytes : List ℕ
     bytes = left ds p d at current opened n x y h
 
-    bytes_size : used h.before + length bytes ≡ n
+    bytes_size : bytes_used h.before + length bytes ≡ n
     bytes_size = size ds p d at current opened n x y h
 
     own : Ran
@@ -202,25 +202,25 @@ passes_on ds p d at current opened n x y h k f ok within takes = record {
     ends : List Ran
     ends = own ∷ map left_out (others ds p d at f)
 
-    ends_used : used ends ≡ length bytes + k
+    ends_used : bytes_used ends ≡ length bytes + k
     ends_used =
         let all = sum_by-cons (λ (r : Ran). r.bytes) own (map left_out (others ds p d at f)) in
         omega (arith, all, used_nothing (others ds p d at f))
 
-    all : used (h.before ++ ends) ≡ n + k
+    all : bytes_used (h.before ++ ends) ≡ n + k
     all = (let s = bytes_size in omega (arith, s, ends_used, sum_by-append (λ (r : Ran). r.bytes) h.before ends))
 
     whole : n + k ≡ length (x ++ take k y)
     whole = (let c = h.consumed_is in omega (arith, c, length-append x (take k y), length-take-le k y within))
 
-    nothing : drop (used (h.before ++ ends)) (x ++ take k y) ≡ []
-    nothing = drop_all (used (h.before ++ ends)) (x ++ take k y) (let a = all in let w = whole in omega (arith, a, w))
+    nothing : drop (bytes_used (h.before ++ ends)) (x ++ take k y) ≡ []
+    nothing = drop_all (bytes_used (h.before ++ ends)) (x ++ take k y) (let a = all in let w = whole in omega (arith, a, w))
 
-    step : (z : List ℕ) → one_from d Skipping (used h.before) (bytes ++ (y ++ z))
-        ≡ record { used = used h.before + (length bytes + k); left = drop k y ++ z; end = f }
+    step : (z : List ℕ) → one_from d Skipping (bytes_used h.before) (bytes ++ (y ++ z))
+        ≡ record { used = bytes_used h.before + (length bytes + k); left = drop k y ++ z; end = f }
     step z =
         let shows = showing ds p d at current opened n x y h in
-        one_from-all d Skipping h.stage (used h.before) bytes (y ++ z) (leading ds p d at current opened n x y h)
+        one_from-all d Skipping h.stage (bytes_used h.before) bytes (y ++ z) (leading ds p d at current opened n x y h)
         ∙ ap (λ m. one_from d h.stage m (y ++ z)) bytes_size
         ∙ takes h.stage shows.0 shows.1 z
         ∙ ap (λ m. record { used = m; left = drop k y ++ z; end = f }) (let s = bytes_size in omega (arith, s))
@@ -429,14 +429,14 @@ module _ (ds : List Directive) (proper : AreProper ds) (p : ℕ) (d : Directive)
   shows : Shows d current h.stage × (opened ≡ opened_for d h.stage)
   shows = showing ds p d at current opened n x [] h
 
-  led : stepped_all d Skipping (drop (used h.before) x) ≡ Some h.stage
+  led : stepped_all d Skipping (drop (bytes_used h.before) x) ≡ Some h.stage
   led = leading ds p d at current opened n x [] h
 
-  pub text_of_cut : IsTextUnderWay cut.cut.directive (drop (used before) x) opened
-  text_of_cut = subst (λ (e : Directive). IsTextUnderWay e (drop (used before) x) opened) (sym own)
-      (subst (λ (l : List Ran). IsTextUnderWay d (drop (used l) x) opened) same
-      (subst (IsTextUnderWay d (drop (used h.before) x)) (sym shows.1) (text_at d (drop (used h.before) x) h.stage led)))
+  pub text_of_cut : IsTextUnderWay cut.cut.directive (drop (bytes_used before) x) opened
+  text_of_cut = subst (λ (e : Directive). IsTextUnderWay e (drop (bytes_used before) x) opened) (sym own)
+      (subst (λ (l : List Ran). IsTextUnderWay d (drop (bytes_used l) x) opened) same
+      (subst (IsTextUnderWay d (drop (bytes_used h.before) x)) (sym shows.1) (text_at d (drop (bytes_used h.before) x) h.stage led)))
 
-  pub item_of_cut : IsUnderWay cut.cut.directive (drop (used before) x) current
-  item_of_cut = subst (λ (e : Directive). IsUnderWay e (drop (used before) x) current) (sym own)
-      (subst (λ (l : List Ran). IsUnderWay d (drop (used l) x) current) same (h.stage, led, shows.0))
+  pub item_of_cut : IsUnderWay cut.cut.directive (drop (bytes_used before) x) current
+  item_of_cut = subst (λ (e : Directive). IsUnderWay e (drop (bytes_used before) x) current) (sym own)
+      (subst (λ (l : List Ran). IsUnderWay d (drop (bytes_used l) x) current) same (h.stage, led, shows.0))

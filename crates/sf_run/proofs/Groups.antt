@@ -12,7 +12,7 @@ use Rattle.sf_format.specs.declared.directive.Directive.{Directive}
 use Rattle.sf_format.specs.Proper.{more_of}
 use Rattle.sf_report.specs.Computed.{ran_of, ran_past}
 use Rattle.sf_report.specs.Residual.{Tally, run_of, run_past}
-use Rattle.sf_report.specs.Runs.{Ran, left_out, over, used}
+use Rattle.sf_report.specs.Runs.{Ran, left_out, over, bytes_used}
 use Rattle.sf_report.specs.Steps.{StepEnd, Passes, Stores, Misses, Fails}
 use Rattle.sf_run.specs.Standing.{passed_with}
 
@@ -114,7 +114,7 @@ module _ (ds : List Directive) (p : ℕ) (d : Directive) (at : slice_get ds p �
       ∙ ap (λ (l : List Directive). map left_out (others f) ++ ran_of l x n) (rest_is f)
 
 -- they take nothing
-pub used_nothing : (ds : List Directive) → used (map left_out ds) ≡ 0
+pub used_nothing : (ds : List Directive) → bytes_used (map left_out ds) ≡ 0
 used_nothing [] = refl
 used_nothing (d ∷ ds) =
     let all = sum_by-cons (λ (r : Ran). r.bytes) (left_out d) (map left_out ds) in

@@ -26,9 +26,9 @@ use Rattle.sf_report.specs.declared.outcome.Status.{Status}
 use Rattle.sf_report.specs.declared.outcome.Status.TheVariants.{Done, MatchingFailure, TooLong, NoMemory}
 use Rattle.sf_run.specs.declared.scanner.Stop.{Stop}
 use Rattle.sf_report.specs.Steps.{StepEnd, Passes, Stores, Misses, Fails, IsSkipUnder}
-use Rattle.sf_report.specs.Runs.{Ran, RunReport, report_of, used}
+use Rattle.sf_report.specs.Runs.{Ran, RunReport, report_of, bytes_used}
 use Rattle.sf_report.specs.Limits.{IsCut, TellsWithin, RunRefused}
-use Rattle.sf_report.specs.Limits.{Stores as StoresAt, StoresBy, StoresColumn, StoresShape}
+use Rattle.sf_report.specs.Limits.{StoresAt, StoresBy, StoresColumn, StoresShape}
 use Rattle.sf_report.specs.Machine.{Stage, Skipping, Taken, Item, stepped, finished, number_end, integer_end, real_at, real_end, stored_end}
 use Rattle.sf_report.specs.Machine.{passed_end, item_end, column_end, column_finished, conversion_finished, empty_end, finished_by}
 use Rattle.sf_report.specs.Machine as start
@@ -249,33 +249,34 @@ pub run_refused : (ds : List Directive) → AreProper ds → (m k : ℕ) (x u re
     → slice_get ds at ≡ Some d → StoresAfter ds at d u b rest → TellsWithin ds k x (out_of TooLong (at + 1) t)
     → RunRefused ds m x (out_of NoMemory (at + 1) t)
 run_refused ds proper m k x u rest z b at d t is all below place stores (inl w) =
-    let fits : used w.0 ≤ k = w.2 in
+    let fits : bytes_used w.0 ≤ k = w.2 in
     let full : run_of None ds 1 nothing_yet x ≡ report_of w.0 None = run_told ds proper x w.0 w.1 in
     absurd (run_not_too_long ds 1 nothing_yet x (ap (λ (r : RunReport). r.status) (full ∙ sym w.3)))
 run_refused ds proper m k x u rest z b at d t is all below place stores (inr w) =
     let v : List ℕ = rest ++ z in
     let before = w.0 in
     let cut : IsCut ds x k before = w.1 in
-    let low : used before ≤ k = cut.low in
+    let low : bytes_used before ≤ k = cut.low in
     let same : at + 1 ≡ length before + 1 = ap (λ (r : RunReport). r.at) w.2 in
     let here : at ≡ length before = omega (arith, same) in
     let own : cut.cut.directive ≡ d =
     some_is _ _ (sym (ran_at ds x 0 before cut.cut cut.rest cut.steps) ∙ ap (slice_get ds) (sym here) ∙ place) in
-    let front = drop_front (used before) u (b ∷ v) (omega (arith, low, all)) in
-    let tail : drop (used before) x ≡ drop (used before) u ++ b ∷ v = ap (drop (used before)) is ∙ front.0 in
+    let front = drop_front (bytes_used before) u (b ∷ v) (omega (arith, low, all)) in
+    let tail : drop (bytes_used before) x ≡ drop (bytes_used before) u ++ b ∷ v = ap (drop (bytes_used before)) is ∙ front.0 in
     let left = front.1 in
     let count = stores.count in
-    let steps_are : before ++ (cut.cut ∷ cut.rest) ≡ stores.before ++ ran_of (drop at ds) (drop (used stores.before) u ++ b ∷ v)
-    (used stores.before) = steps_only ds proper x 0 _ cut.steps ∙ ap (λ y. ran_of ds y 0) is ∙ stores.steps z in
+    let steps_are : before ++ (cut.cut ∷ cut.rest) ≡ stores.before ++ ran_of (drop at ds) (drop (bytes_used stores.before) u ++ b ∷ v)
+    (bytes_used stores.before) = steps_only ds proper x 0 _ cut.steps ∙ ap (λ y. ran_of ds y 0) is ∙ stores.steps z in
     let same_steps : stores.before ≡ before = sym (same_front before stores.before _ _ (omega (arith, here, count)) steps_are) in (
       k,
       below,
       (
         before,
         cut,
-        subst (λ (e : Directive). StoresAt e (drop (used before) x) (k - used before)) (sym own)
-            (subst (λ y. StoresAt d y (k - used before)) (sym tail) (stores_at d b (drop (used before) u) v (k - used before)
-            (subst (λ (l : List Ran). StoresByte d (drop (used l) u) b) same_steps stores.stores)
+        subst (λ (e : Directive). StoresAt e (drop (bytes_used before) x) (k - bytes_used before)) (sym own)
+            (subst (λ y. StoresAt d y (k - bytes_used before)) (sym tail)
+            (stores_at d b (drop (bytes_used before) u) v (k - bytes_used before)
+            (subst (λ (l : List Ran). StoresByte d (drop (bytes_used l) u) b) same_steps stores.stores)
             (omega (arith, left, all, low)))),
         ap (λ (r : RunReport). record r { status = NoMemory }) w.2,
       ),
@@ -320,8 +321,8 @@ runs_out_refuses new old d before item piece at waits r within limit uses stores
         ∙ ap (λ n. out_of TooLong (old.passed + 1) (with_used n old.tally)) used_is ∙ ap (out_of TooLong (old.passed + 1)) (sym r.tally);
   };
   stores = λ x h.
-      let on : drop (used h.before) (x ++ take i piece) ≡ drop (used h.before) x ++ take i piece =
-      drop-append-le (used h.before) x (take i piece) h.within in
+      let on : drop (bytes_used h.before) (x ++ take i piece) ≡ drop (bytes_used h.before) x ++ take i piece =
+      drop-append-le (bytes_used h.before) x (take i piece) h.within in
       record {
         before = h.before;
         count = h.count;
@@ -330,12 +331,12 @@ runs_out_refuses new old d before item piece at waits r within limit uses stores
             ap (λ (y : List ℕ). ran_of old.directives y 0) (append_assoc x (take i piece) (get_or piece i 0 ∷ (drop (i + 1) piece ++ z))
             ∙ ap (λ y. x ++ y) (parts z))
             ∙ h.steps z
-            ∙ ap (λ (y : List ℕ). h.before ++ ran_of (drop old.passed old.directives) y (used h.before))
-            (ap (λ y. drop (used h.before) x ++ y) (sym (parts z))
-            ∙ sym (append_assoc (drop (used h.before) x) (take i piece) (get_or piece i 0 ∷ (drop (i + 1) piece ++ z)))
+            ∙ ap (λ (y : List ℕ). h.before ++ ran_of (drop old.passed old.directives) y (bytes_used h.before))
+            (ap (λ y. drop (bytes_used h.before) x ++ y) (sym (parts z))
+            ∙ sym (append_assoc (drop (bytes_used h.before) x) (take i piece) (get_or piece i 0 ∷ (drop (i + 1) piece ++ z)))
             ∙ ap (λ y. y ++ get_or piece i 0 ∷ (drop (i + 1) piece ++ z)) (sym on));
         stores = subst (λ u. StoresByte d u (get_or piece i 0)) (sym on)
-            (stores_led d h.stage (drop (used h.before) x) (take i piece) (get_or piece i 0)
+            (stores_led d h.stage (drop (bytes_used h.before) x) (take i piece) (get_or piece i 0)
             (leading old.directives old.passed d at old.phase old.opened old.tally.used x piece h)
             (stores h.stage (showing old.directives old.passed d at old.phase old.opened old.tally.used x piece h).0 r.stored r.short));
       };

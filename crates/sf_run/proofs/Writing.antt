@@ -12,7 +12,7 @@ use Rattle.sf_base.specs.stores.Kept.{Kept, texts_in}
 use Rattle.sf_format.specs.declared.directive.Directive.{Directive}
 use Rattle.sf_report.specs.Machine.{Skipping}
 use Rattle.sf_report.specs.Residual.{Part as Part', one_from}
-use Rattle.sf_report.specs.Runs.{passed, stored}
+use Rattle.sf_report.specs.Runs.{passed, has_stored}
 use Rattle.sf_report.specs.Steps.{StepEnd, Passes, Stores, Misses, Fails}
 use Rattle.sf_run.specs.declared.directive.Ended.{Ended}
 use Rattle.sf_run.specs.declared.directive.Finished.{Finished}
@@ -40,7 +40,7 @@ kept_with end k = record {
 pub keeps : (text : Datum → List ℕ) (d : Directive) (n : ℕ) (piece : List ℕ) (taken : ℕ) (old new : List ℕ) (k : Kept)
     → (w : PassesWriting text d n piece taken old new) → quick.Passes d n piece taken k (kept_with w.end k)
 keeps text d n piece taken old new k w = (
-  stored w.end,
+  has_stored w.end,
   record {
     end = w.end;
     takes = w.takes;

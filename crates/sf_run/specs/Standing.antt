@@ -12,7 +12,7 @@ use Rattle.sf_report.specs.declared.outcome.Ending.{Ending}
 use Rattle.sf_report.specs.declared.outcome.Status.TheVariants.{TooLong, NoMemory}
 use Rattle.sf_run.specs.declared.scanner.Stop.{Stop}
 use Rattle.sf_report.specs.Steps.{StepEnd, Misses, Fails, IsSkipBefore}
-use Rattle.sf_report.specs.Runs.{RunReport, Ran, assigned, converted, used, values}
+use Rattle.sf_report.specs.Runs.{RunReport, Ran, count_assigned, count_converted, bytes_used, values_stored}
 use Rattle.sf_report.specs.Limits.{IsCut, RunTold, TellsWithin}
 use Rattle.sf_report.specs.Computed.{ran_of}
 use Rattle.sf_report.specs.Machine.{Stage, is_full}
@@ -79,11 +79,11 @@ pub record ComesBy (ds : List Directive) (passed : ℕ) (phase : Phase) (opened 
   pub stage : Stage
   pub count : passed ≡ length before
   pub consumed_is : consumed ≡ length x
-  pub within : used before ≤ length x
-  pub steps : (z : List ℕ) → ran_of ds (x ++ (y ++ z)) 0 ≡ before ++ ran_of (drop passed ds) (drop (used before) x ++ (y ++ z))
-      (used before)
+  pub within : bytes_used before ≤ length x
+  pub steps : (z : List ℕ) → ran_of ds (x ++ (y ++ z)) 0 ≡ before ++ ran_of (drop passed ds) (drop (bytes_used before) x ++ (y ++ z))
+      (bytes_used before)
   pub shown : ShowsFirst (drop passed ds) phase opened stage
-  pub led : LedFirst (drop passed ds) (drop (used before) x) stage
+  pub led : LedFirst (drop passed ds) (drop (bytes_used before) x) stage
 
 abbrev pub Comes : Standing → List ℕ → List ℕ → Type 0
 Comes s x y = ComesBy s.directives s.passed s.phase s.opened s.tally.used x y
@@ -158,10 +158,10 @@ pub record Refuses (new old : Standing) (at : ℕ) (directive : Directive) (b : 
 pub record StoresAfter (ds : List Directive) (at : ℕ) (d : Directive) (x : List ℕ) (b : ℕ) (rest : List ℕ) : Type 0 where
   pub before : List Ran
   pub count : at ≡ length before
-  pub within : used before ≤ length x
+  pub within : bytes_used before ≤ length x
   pub steps : (z : List ℕ) → ran_of ds (x ++ b ∷ (rest ++ z)) 0
-      ≡ before ++ ran_of (drop at ds) (drop (used before) x ++ b ∷ (rest ++ z)) (used before)
-  pub stores : StoresByte d (drop (used before) x) b
+      ≡ before ++ ran_of (drop at ds) (drop (bytes_used before) x ++ b ∷ (rest ++ z)) (bytes_used before)
+  pub stores : StoresByte d (drop (bytes_used before) x) b
 
 -- the same within a piece: the bytes of its front were taken before
 pub record RefusesIn (new old : Standing) (piece : List ℕ) : Type 0 where
@@ -259,8 +259,8 @@ pub record HasCome (ds : List Directive) (x : List ℕ) (s : Standing) : Type 0 
   pub first : (next : ℕ) (other : List Ran) → IsCut ds (x ++ next ∷ []) (length x) other → length before ≤ length other
   pub passed : s.passed ≡ length before
   pub used_are : s.tally.used ≡ length x
-  pub assigned_are : s.tally.assigned ≡ assigned before
-  pub converted_are : s.tally.converted ≡ converted before
-  pub values_are : s.tally.values ≡ values before
-  pub item_is : IsUnderWay steps.cut.directive (drop (used before) x) s.phase
-  pub text_is : IsTextUnderWay steps.cut.directive (drop (used before) x) s.opened
+  pub assigned_are : s.tally.assigned ≡ count_assigned before
+  pub converted_are : s.tally.converted ≡ count_converted before
+  pub values_are : s.tally.values ≡ values_stored before
+  pub item_is : IsUnderWay steps.cut.directive (drop (bytes_used before) x) s.phase
+  pub text_is : IsTextUnderWay steps.cut.directive (drop (bytes_used before) x) s.opened

@@ -3,7 +3,7 @@ use Rattle.std.specs.Prelude.{◌≡◌, Bool, true, List, [], ◌∷◌, ◌++�
 use Rattle.sf_base.specs.Data.{Assigned}
 use Rattle.sf_run.specs.declared.tally.Tally as code
 use Rattle.sf_report.specs.Residual.{Tally}
-use Rattle.sf_report.specs.Runs.{passed, stored}
+use Rattle.sf_report.specs.Runs.{passed, has_stored}
 use Rattle.sf_report.specs.Steps.{StepEnd, Stores}
 
 -- the counts with what the destinations were given
@@ -18,4 +18,4 @@ values_with _ values = values
 -- a directive that ends so passes, and stores something or not
 pub record PassesSo (end : StepEnd) (stores : Bool) : Type 0 where
   pub passes : passed end ≡ true
-  pub stored : stored end ≡ stores
+  pub stored : has_stored end ≡ stores

@@ -50,7 +50,8 @@ use sf_format::{
 };
 use sf_item::{
     ColumnScan, ItemEnd, ItemScan, WholeInteger, characters_item, decimal_within, hex_within,
-    members_item, text_item, until_item, whole_auto, whole_decimal, whole_hex,
+    members_item, radices_of, text_item, unprefixed_within, until_item, whole_decimal, whole_hex,
+    whole_unprefixed,
 };
 use sf_report::Status;
 
@@ -655,8 +656,7 @@ fn whole_integer(base: Base, width: Option<u16>, piece: &[u8]) -> Option<WholeIn
     match base {
         Base::Dec => whole_decimal(width, piece),
         Base::Hex => whole_hex(width, piece),
-        Base::Auto | Base::AutoBin => whole_auto(base, width, piece),
-        Base::Oct | Base::Bin => None,
+        _ => whole_unprefixed(base, width, piece),
     }
 }
 
@@ -970,9 +970,10 @@ fn integer_within(lead: Lead, base: Base, most: usize, piece: &[u8]) -> Option<W
     ensures { (width : Option ℕ) → most ≡ most_of width
         → IfSome result (EndsWithin (led_by lead base) width piece.now) }
 {
-    match base {
-        Base::Dec => decimal_within(lead, most, piece),
-        Base::Hex => hex_within(lead, most, piece),
+    match (lead, base) {
+        (_, Base::Dec) => decimal_within(lead, most, piece),
+        (_, Base::Hex) => hex_within(lead, most, piece),
+        (Lead::Any, _) => unprefixed_within(base, most, piece),
         _ => None,
     }
 }
@@ -1293,7 +1294,9 @@ fn begins_none(shape: &Shape, b: u8) -> bool
     ensures item { result ≡ true → is_count shape.now ≡ false }
 {
     match shape {
-        Shape::Int(_) => b != b'+' && b != b'-' && digit_value(b, 16).is_none(),
+        Shape::Int(numeral) => {
+            b != b'+' && b != b'-' && digit_value(b, radices_of(numeral.base).first).is_none()
+        }
         Shape::Set(members) => !members.contains(b),
         Shape::Text(_) | Shape::Chars | Shape::Float(_) | Shape::Count => false,
     }
@@ -1319,46 +1322,6 @@ fn without_item(conversion: &Conversion, piece: &[u8]) -> Option<Ended>
         item: 0,
         finished: finish_nothing(conversion, Status::MatchingFailure),
     })
-}
-
-/// As `number_within`, of an integer whose base its digits say: no row reads it.
-#[inline(always)]
-fn number_of_any_base(conversion: &Conversion, piece: &[u8]) -> Option<Ended>
-    requires { conversion.now.column ≡ false }
-    ensures answers { IsProper (directive.Conv conversion.now)
-        → (0 < length piece.now → (shape_skips conversion.now.shape && is_white (get_or piece.now 0 0)) ≡ false)
-        → (n : ℕ)
-        → IfSome result (λ e. Answers (directive.Conv conversion.now) Skipping n piece.now (run_of e)) }
-    ensures fits { IfSome result (IsEndIn (directive.Conv conversion.now) piece.now) }
-    ensures before { IfSome result (λ e. e.before ≡ 0) }
-{
-    match conversion.shape {
-        Shape::Int(
-            Numeral {
-                base: Base::Auto | Base::AutoBin,
-                ..
-            },
-        ) => number_within(conversion, piece),
-        _ => None,
-    }
-}
-
-/// How a conversion ends, whose first byte is that of the piece, where that is seen at once: by such an integer, or
-/// without an item.
-#[inline(always)]
-fn item_at_once(conversion: &Conversion, piece: &[u8]) -> Option<Ended>
-    requires { conversion.now.column ≡ false }
-    ensures answers { IsProper (directive.Conv conversion.now)
-        → (0 < length piece.now → (shape_skips conversion.now.shape && is_white (get_or piece.now 0 0)) ≡ false)
-        → (n : ℕ)
-        → IfSome result (λ e. Answers (directive.Conv conversion.now) Skipping n piece.now (run_of e)) }
-    ensures fits { IfSome result (IsEndIn (directive.Conv conversion.now) piece.now) }
-    ensures before { IfSome result (λ e. e.before ≡ 0) }
-{
-    if let Some(ended) = number_of_any_base(conversion, piece) {
-        return Some(ended);
-    }
-    without_item(conversion, piece)
 }
 
 /// How a directive ends that may be missing: it is, where it fails.
@@ -1391,9 +1354,10 @@ fn opener_at_once(directive: &Directive, piece: &[u8]) -> Option<Ended>
     })
 }
 
-/// How a directive ends that took nothing yet, where that is seen at once, and its row doesn't say so.
+/// How a directive ends that took nothing yet, where that is seen at once without its row: by a byte, or without an
+/// item.
 #[inline(always)]
-fn seen_at_once(directive: &Directive, piece: &[u8]) -> Option<Ended>
+pub(crate) fn seen_at_once(directive: &Directive, piece: &[u8]) -> Option<Ended>
     ensures { (n : ℕ) → IfSome result (EndsAtOnce directive.now n piece.now) }
 {
     match directive {
@@ -1405,7 +1369,7 @@ fn seen_at_once(directive: &Directive, piece: &[u8]) -> Option<Ended>
             }
             let before = skipped(&conversion.shape, piece);
             let (_, rest) = piece.split_at(before);
-            let ended = item_at_once(conversion, rest)?;
+            let ended = without_item(conversion, rest)?;
             Some(Ended {
                 before,
                 item: ended.item,
@@ -1414,6 +1378,31 @@ fn seen_at_once(directive: &Directive, piece: &[u8]) -> Option<Ended>
         }
         Directive::Space | Directive::Percent | Directive::Opens(_) => None,
     }
+}
+
+/// A number that is read in neither ten nor sixteen, or whose first digits say in which radix: no row reads it. The
+/// directive took nothing yet.
+#[inline(always)]
+pub(crate) fn rarer_at_once(directive: &Directive, piece: &[u8]) -> Option<Ended>
+    ensures { (n : ℕ) → IfSome result (EndsAtOnce directive.now n piece.now) }
+{
+    let Directive::Conv(conversion) = directive else {
+        return None;
+    };
+    let Shape::Int(numeral) = conversion.shape else {
+        return None;
+    };
+    if matches!(numeral.base, Base::Dec | Base::Hex) || conversion.column {
+        return None;
+    }
+    let before = skipped(&conversion.shape, piece);
+    let (_, rest) = piece.split_at(before);
+    let ended = number_within(conversion, rest)?;
+    Some(Ended {
+        before,
+        item: ended.item,
+        finished: ended.finished,
+    })
 }
 
 /// How many bytes of white space stand from the place on up to the end of the column that the piece begins with: of
@@ -1550,7 +1539,7 @@ fn column_at_once(directive: &Directive, piece: &[u8]) -> Option<EndedColumn>
 /// As `ended_within`, whichever directive it is. It stands apart, since what it makes on the way is large.
 #[cold]
 #[inline(never)]
-fn ended_by_run(directive: &Directive, piece: &[u8], used: u32) -> Option<EndedColumn>
+pub(crate) fn ended_by_run(directive: &Directive, piece: &[u8], used: u32) -> Option<EndedColumn>
     ensures ends { IfSome result (EndsWithAll directive.now used piece.now) }
     ensures waits { IsNone result → IsSound directive.now → (room : ℕ) → IsSure directive.now used piece.now room → ⊥ }
 {

@@ -22,9 +22,9 @@ ghost use Rattle.sf_run.specs.Texts.{IsSound, slot_of};
 ghost use Rattle.sf_report.specs.Views.{report_by};
 
 use crate::directive::{
-    Ended, EndedColumn, Finished, byte_at_once, characters_at_once, ended_within, members_at_once,
-    number_at_once, real_at_once, strict_number_at_once, strict_text_at_once, text_at_once,
-    until_at_once, whole_space,
+    Ended, EndedColumn, Finished, byte_at_once, characters_at_once, ended_by_run, members_at_once,
+    number_at_once, rarer_at_once, real_at_once, seen_at_once, strict_number_at_once,
+    strict_text_at_once, text_at_once, until_at_once, whole_space,
 };
 use crate::number::real_within;
 use crate::tally::is_conversion;
@@ -290,7 +290,16 @@ fn pass_whole<S: Store>(
     if let Some(passage) = pass_real(store, directive, piece, used) {
         return Some(passage);
     }
-    let ended = ended_within(directive, piece, used);
+    // what is seen at once stores nothing, and goes its own way to the end
+    if let Some(ended) = seen_at_once(directive, piece) {
+        let seen = EndedColumn { ended, after: 0 };
+        return end_so(store, directive, Some(seen), piece, used);
+    }
+    if let Some(ended) = rarer_at_once(directive, piece) {
+        let number = EndedColumn { ended, after: 0 };
+        return end_so(store, directive, Some(number), piece, used);
+    }
+    let ended = ended_by_run(directive, piece, used);
     end_so(store, directive, ended, piece, used)
 }
 
@@ -368,7 +377,7 @@ fn pass<S: Store>(
             let ended = characters_at_once(row, piece);
             pass_so(store, directive, ended, piece, used)
         }
-        Way::Another => None,
+        Way::Octal | Way::Automatic | Way::AutomaticBinary | Way::Another => None,
     }
 }
 

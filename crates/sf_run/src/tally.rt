@@ -3,7 +3,7 @@ ghost use Rattle.std.specs.Prelude.{◌≡◌, ◌+◌, ◌-◌, ◌<◌, ◌≤
 ghost use Rattle.sf_base.specs.Data.{Assigned};
 ghost use Rattle.sf_format.specs.Layout.{takes_item};
 ghost use Rattle.sf_report.specs.Residual.{counted};
-ghost use Rattle.sf_report.specs.Runs.{is_conversion, stored};
+ghost use Rattle.sf_report.specs.Runs.{has_stored, is_conversion};
 ghost use Rattle.sf_report.specs.Steps.{StepEnd};
 ghost use Rattle.sf_run.specs.Tallies.{tally_of, values_with, PassesSo};
 

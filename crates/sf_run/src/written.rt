@@ -1,6 +1,6 @@
 //! Runs that begin and pass within a piece of the input, read at once, whose values are written as they are read.
 ghost use Rattle.std.specs.Prelude.{◌≡◌, ◌≢◌, ◌↔◌, ◌<◌, ◌≤◌, ◌+◌, ◌-◌, ◌++◌, ℕ, List, [], length, slice_get, take};
-ghost use Rattle.std.specs.Prelude.{drop, true, false, Some, IfSome, IsSome};
+ghost use Rattle.std.specs.Prelude.{drop, true, false, Some, IfSome, IsNone, IsSome};
 ghost use Rattle.sf_base.specs.Data.{Assigned, Bytes, Datum, Real as RealOf, datum_of_number};
 ghost use Rattle.sf_format.specs.declared.directive.Directive.{Directive};
 ghost use Rattle.sf_format.specs.Layout.{row_of};
@@ -10,14 +10,14 @@ ghost use Rattle.sf_report.specs.Steps.{StepEnd};
 ghost use Rattle.sf_run.specs.Phases.{IsNumberGiven, end_of};
 ghost use Rattle.sf_run.specs.Pieces.{EndsAtOnce, EndsWithAll};
 ghost use Rattle.sf_run.specs.Texts.{IsSound};
-ghost use Rattle.sf_run.specs.Quick.{IsDoneWithin};
+ghost use Rattle.sf_run.specs.Quick.{IsDoneWithin, IsSure};
 ghost use Rattle.sf_run.specs.Written.{AreRecords, CanFollow, IsRecord, IsWritten, IsWrittenSurely, PassesWriting};
 ghost use Rattle.sf_run.specs.Written.{text_given, texts_by};
 
 use crate::directive::{
     Ended, EndedColumn, Finished, ReadReal, byte_at_once, characters_at_once, ended_within,
-    members_at_once, number_at_once, real_at_once, strict_number_at_once, strict_text_at_once,
-    text_at_once, until_at_once, whole_space,
+    members_at_once, number_at_once, rarer_at_once, real_at_once, strict_number_at_once,
+    strict_text_at_once, text_at_once, until_at_once, whole_space,
 };
 use crate::number::real_within;
 use sf_base::{Number, Real};
@@ -80,9 +80,10 @@ struct WrittenRun {
 }
 
 /// How a directive ends that took nothing yet, where it is seen at once to do so within the piece, the way that its row
-/// says. It is the first of so many directives of a format that are left.
+/// says. It is the first of so many directives of a format that are left. Each writer has an instance of its own, which
+/// is called at one place, and so compiled in there.
 #[inline(always)]
-fn ended_at_once(
+fn ended_at_once<W: ValueWriter>(
     format: &ScanFormat,
     left: usize,
     directive: &Directive,
@@ -109,7 +110,7 @@ fn ended_at_once(
         Way::Until => until_at_once(row, piece),
         Way::Members => members_at_once(row, format, left, piece),
         Way::Characters => characters_at_once(row, piece),
-        Way::Another => None,
+        Way::Octal | Way::Automatic | Way::AutomaticBinary | Way::Another => None,
     }
 }
 
@@ -250,6 +251,19 @@ fn pass_column<W: ValueWriter>(
     })
 }
 
+/// How the directive ends, which took nothing yet and is read by its shape, where it does so within the piece, which
+/// comes so many bytes into the run.
+#[inline(always)]
+fn ended_by_shape(directive: &Directive, piece: &[u8], used: u32) -> Option<EndedColumn>
+    ensures ends { IfSome result (EndsWithAll directive.now used piece.now) }
+    ensures waits { IsNone result → IsSound directive.now → (room : ℕ) → IsSure directive.now used piece.now room → ⊥ }
+{
+    if let Some(ended) = rarer_at_once(directive, piece) {
+        return Some(EndedColumn { ended, after: 0 });
+    }
+    ended_within(directive, piece, used)
+}
+
 /// As `pass_so`, whichever directive it is. None only where it may go on after the piece, where it fails, or where
 /// there is no room.
 #[inline(always)]
@@ -271,7 +285,7 @@ fn pass_whole<W: ValueWriter>(
     if let Some(read) = real_at_once(directive, piece) {
         return pass_real::<W>(directive, read, piece, used, room, at);
     }
-    let ended = ended_within(directive, piece, used)?;
+    let ended = ended_by_shape(directive, piece, used)?;
     pass_column::<W>(directive, ended, piece, used, room, at)
 }
 
@@ -333,7 +347,7 @@ fn write_values<W: ValueWriter>(
         let at = rows.len() - left.len();
         let directive = &directives[at];
         let used = (front.len() - rest.len()) as u32;
-        let passed = match ended_at_once(format, left.len(), directive, row, rest) {
+        let passed = match ended_at_once::<W>(format, left.len(), directive, row, rest) {
             Some(ended) => pass_so::<W>(directive, ended, rest, used, room, end)?,
             None => pass_later::<W>(format, left.len(), rest, used, room, end)?,
         };

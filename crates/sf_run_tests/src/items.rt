@@ -6,8 +6,8 @@ use sf_base::{ByteSet, Kind};
 use sf_format::{Base, Conversion, Lead, Numeral, Shape};
 use sf_item::{
     ItemEnd, ItemScan, Radices, Step, WholeInteger, characters_item, decimal_within, hex_within,
-    members_item, prefix_radix, radices_of, text_item, until_item, whole_auto, whole_decimal,
-    whole_hex,
+    members_item, prefix_radix, radices_of, text_item, unprefixed_within, until_item,
+    whole_decimal, whole_hex, whole_unprefixed,
 };
 use sf_rows::{DecimalRow, Found, ItemRow, Reader, decimals, is, items};
 use std::test::Fail;
@@ -182,7 +182,7 @@ static HEXES: [DecimalRow; 25] = [
     (Some(8), b"123456789", Some((8, false, 0x12345678))),
 ];
 
-/// Texts whose first bytes may be an integer of `%i`, which is known at once where no zero begins it.
+/// Texts whose first bytes may be an integer of `%i`, which is read at once where no zero begins it.
 static AUTOS: [DecimalRow; 10] = [
     (None, b"12,", Some((2, false, 12))),
     (None, b"-70 ", Some((3, true, 70))),
@@ -236,8 +236,35 @@ fn whole_hexadecimals_end_within(_rt: HostRuntime) -> Result<(), Fail> {
 fn whole_integers_of_any_base_end_within(_rt: HostRuntime) -> Result<(), Fail> {
     for row in &AUTOS {
         let (width, text, _) = row;
-        let binary = whole_auto(Base::AutoBin, *width, text);
-        is_whole([whole_auto(Base::Auto, *width, text), binary], row)?;
+        for base in [Base::Auto, Base::AutoBin] {
+            let within = unprefixed_within(base, most_of(*width), text);
+            is_whole([whole_unprefixed(base, *width, text), within], row)?;
+        }
+    }
+    Ok(())
+}
+
+/// Texts whose first bytes may be an octal integer.
+static OCTALS: [DecimalRow; 7] = [
+    (None, b"17,", Some((2, false, 15))),
+    (None, b"-20 ", Some((3, true, 16))),
+    (None, b"18,", Some((1, false, 1))),
+    (Some(2), b"777,", Some((2, false, 63))),
+    (
+        None,
+        b"1777777777777777777777,",
+        Some((22, false, u64::MAX)),
+    ),
+    (None, b"2000000000000000000000,", None),
+    (None, b"8,", None),
+];
+
+#[test]
+fn whole_octals_end_within(_rt: HostRuntime) -> Result<(), Fail> {
+    for row in &OCTALS {
+        let (width, text, _) = row;
+        let within = unprefixed_within(Base::Oct, most_of(*width), text);
+        is_whole([whole_unprefixed(Base::Oct, *width, text), within], row)?;
     }
     Ok(())
 }

@@ -1,14 +1,15 @@
 //! scanf and printf with typed values, for programs: what a program calls, under one name.
 //!
 //! Each name stands here, and in one of five modules by what it is for: `scan`, `print`, `pair`, `io`, `store`. The
-//! twelve that most programs use are in `prelude`.
+//! twelve that most programs use are in `prelude`. The laws of loops are in `laws` alone.
 //!
 //! A scan format reads bytes into values, a print format writes values as bytes (C11 7.21.6.1 and 7.21.6.2, with
 //! POSIX's numbered conversions). Both are parsed once, and used as often as one likes:
 //!
 //! - `ScanFormat::parse(alloc, Profile::One, b"%d ,%d")?`, and `PrintFormat::parse` likewise. `Profile::One` is C's
-//!   grammar, `Profile::Two` has base 2 beside, and `Profile::Three` also floats, and `?` in scan formats for what may
-//!   be missing. A text that is no format is a `FormatFault`: why (F1 to F19), and at which byte.
+//!   grammar, `Profile::Two` has base 2 beside. `Profile::Three` also has floats, and in scan formats marks: `?` and
+//!   groups (`%?(`, `%)`) for what may be missing, `=` for columns, `!` for what is read strictly. A text that is no
+//!   format is a `FormatFault`: why (F1 to F21), and at which byte.
 //! - A scan has a limit, the most bytes that it may use, up to 2147483647.
 //!
 //! To scan
@@ -16,9 +17,9 @@
 //! - **records of an input**: `Records::<(i32, i32), _, 4096>::new(alloc, source, &format, LIMIT)?`, and then
 //! `for row in records`, where `row?` is the row; or `read_row()?` until it is None. A row is a tuple of one to twelve
 //! of `i8` to `i64`, `u8` to `u64`, `f32`, `f64` and `Vec<u8>`, or a type of your own (`Row`). A conversion that may be
-//! missing (`%?d`) wants an `Option` in its slot. `4096` is how many bytes are read at once. A `RecordFault` says the
-//! record, the line and what failed. `Reports` lends each report instead. After a header line, `Records::over` takes
-//! the `Lookahead` from which that was read, and `into_lookahead` gives it back.
+//! missing (`%?d`, or one in a group) wants an `Option` in its slot. `4096` is how many bytes are read at once. A
+//! `RecordFault` says the record, the line and what failed. `Reports` lends each report instead. After a header line,
+//! `Records::over` takes the `Lookahead` from which that was read, and `into_lookahead` gives it back.
 //! - **lines of an input**, each an input of its own: `Lines`, made as `Records` is. A line that is no match is a
 //! `LineFault` with its number and text, and the next call goes on with the line after it. By
 //! `.matching(Match::Whole)` so is a line of which bytes are left over. `LineReports` lends each report instead.
@@ -45,6 +46,7 @@
 #![tactic(auto)]
 
 pub mod io;
+pub mod laws;
 mod outcomes;
 pub mod pair;
 pub mod prelude;

@@ -17,7 +17,8 @@ pub trait Ended {
         ensures { IsTrue result ↔ ((outcome self.now).status ≡ status.Done) };
 
     /// Whether the input has no further record: it ended before the first conversion had completed, so that fscanf
-    /// would return EOF (C11 7.21.6.2p16), and no read failed; or each item of a format with a `?` was missing there.
+    /// would return EOF (C11 7.21.6.2p16), and no read failed; or each item of a format with a `?` or a group was
+    /// missing there.
     fn is_end(&self, format: &ScanFormat) -> bool
         ensures { IsTrue result ↔ IsEnd format.now (outcome self.now) };
 }
@@ -42,8 +43,8 @@ pub fn is_done(outcome: Outcome) -> bool
 }
 
 /// Whether the input has no further record: it ended before the first conversion had completed, so that fscanf would
-/// return EOF (C11 7.21.6.2p16), and no read failed; or each item of a format with a `?` was missing there. A loop over
-/// records ends there, as `Reports` does.
+/// return EOF (C11 7.21.6.2p16), and no read failed; or each item of a format with a `?` or a group was missing there.
+/// A loop over records ends there, as `Reports` does.
 pub fn is_end(format: &ScanFormat, outcome: Outcome) -> bool
     ensures { IsTrue result ↔ IsEnd format.now outcome }
 {

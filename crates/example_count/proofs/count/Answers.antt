@@ -1,7 +1,7 @@
 use Rattle.std.proofs.Common.{◌≡◌, ◌∙◌, List, Some, Ok, ap, refl, subst}
-use Rattle.sf_format.specs.declared.directive.Directive.{Directive}
-use Rattle.sf_read.specs.field.Rows.{slots_by}
-use Rattle.sf_loops.specs.Counts.{AnswersNext, IsCount}
+use Rattle.sf_scanf.specs.Counts.{AnswersNext, IsCount}
+use Rattle.sf_scanf.specs.Rows.{slots_by}
+use Rattle.sf_scanf.specs.directive.Directive.{Directive}
 use Rattle.example_count.proofs.count.Goals as goal
 
 pub loop-number-init : goal.loop-number-init

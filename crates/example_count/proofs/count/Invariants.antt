@@ -1,6 +1,6 @@
 use Rattle.std.proofs.Common.{Some}
-use Rattle.sf_read.specs.field.Rows.{slots_by}
-use Rattle.sf_loops.specs.Counts.{Counting}
+use Rattle.sf_scanf.specs.Counts.{Counting}
+use Rattle.sf_scanf.specs.Rows.{slots_by}
 use Rattle.example_count.proofs.count.Given as goal
 
 -- so many rows were answered

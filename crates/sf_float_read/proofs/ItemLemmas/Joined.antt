@@ -7,7 +7,7 @@ use Rattle.sf_float_read.specs.declared.item.reached.Radix.{Radix}
 use Rattle.sf_float_read.specs.declared.item.reached.Radix.TheVariants.{Ten, Sixteen}
 use Rattle.sf_float_read.specs.item.Sequences.{is_digit, is_sign, AllDecimal, IsDecimal, IsSignedDecimal, IsExponentPart, IsFraction}
 use Rattle.sf_float_read.specs.item.Sequences.{IsWhole}
-use Rattle.sf_float_read.specs.item.Sequences.{IsNumber, Spells, Begins, IsPayload, IsNanTail, IsInfinityTail, IsZeroTail, IsUnsigned}
+use Rattle.sf_float_read.specs.item.Sequences.{IsNumber, SpellsWord, Begins, IsPayload, IsNanTail, IsInfinityTail, IsZeroTail, IsUnsigned}
 use Rattle.sf_float_read.specs.item.Sequences.{IsFloat, IsDecimalFloat}
 use Rattle.sf_float_read.specs.item.Parts.{AreDigits, IsSign, IsExponent, IsNumeral, IsHexadecimal, IsInfinity, IsCharSequence, IsNan}
 use Rattle.sf_float_read.specs.item.Parts.{IsFloatInParts, IsDecimalInParts, PartsAreSequences}
@@ -253,46 +253,46 @@ number_of radix t n = subst (IsNumber radix) (sym n.joined) (number_from radix n
 
 -- ---- words
 
-begun : (ws t : List ℕ) (P : List ℕ → Type 0) → Begins ws P t → (name : List ℕ) × (rest : List ℕ) × (t ≡ name ++ rest) × Spells ws name
+begun : (ws t : List ℕ) (P : List ℕ → Type 0) → Begins ws P t → (name : List ℕ) × (rest : List ℕ) × (t ≡ name ++ rest) × SpellsWord ws name
     × P rest
 begun [] t P h = ([], t, refl, tt, h)
 begun (w ∷ ws) [] P h = absurd h
 begun (w ∷ ws) (b ∷ t) P h = let r = begun ws t P h.1 in (b ∷ r.0, r.1, ap (λ x. b ∷ x) r.2, (h.0, r.3), r.4)
 
-begins_from : (ws name rest : List ℕ) (P : List ℕ → Type 0) → Spells ws name → P rest → Begins ws P (name ++ rest)
+begins_from : (ws name rest : List ℕ) (P : List ℕ → Type 0) → SpellsWord ws name → P rest → Begins ws P (name ++ rest)
 begins_from [] [] rest P s h = h
 begins_from [] (b ∷ t) rest P s h = absurd s
 begins_from (w ∷ ws) [] rest P s h = absurd s
 begins_from (w ∷ ws) (b ∷ t) rest P s h = (s.0, begins_from ws t rest P s.1 h)
 
-spells_join : (ws vs name rest : List ℕ) → Spells ws name → Spells vs rest → Spells (ws ++ vs) (name ++ rest)
+spells_join : (ws vs name rest : List ℕ) → SpellsWord ws name → SpellsWord vs rest → SpellsWord (ws ++ vs) (name ++ rest)
 spells_join [] vs [] rest s h = h
 spells_join [] vs (b ∷ t) rest s h = absurd s
 spells_join (w ∷ ws) vs [] rest s h = absurd s
 spells_join (w ∷ ws) vs (b ∷ t) rest s h = (s.0, spells_join ws vs t rest s.1 h)
 
-spells_alone : (ws name rest : List ℕ) → Spells ws name → rest ≡ [] → Spells ws (name ++ rest)
-spells_alone [] [] rest s e = subst (Spells []) (sym e) tt
+spells_alone : (ws name rest : List ℕ) → SpellsWord ws name → rest ≡ [] → SpellsWord ws (name ++ rest)
+spells_alone [] [] rest s e = subst (SpellsWord []) (sym e) tt
 spells_alone [] (b ∷ t) rest s e = absurd s
 spells_alone (w ∷ ws) [] rest s e = absurd s
 spells_alone (w ∷ ws) (b ∷ t) rest s e = (s.0, spells_alone ws t rest s.1 e)
 
-pub infinity_of : (ws t : List ℕ) → Begins ws IsInfinityTail t → Spells ws t ⊎ Spells (ws ++ 105 ∷ 110 ∷ 105 ∷ 116 ∷ 121 ∷ []) t
+pub infinity_of : (ws t : List ℕ) → Begins ws IsInfinityTail t → SpellsWord ws t ⊎ SpellsWord (ws ++ 105 ∷ 110 ∷ 105 ∷ 116 ∷ 121 ∷ []) t
 infinity_of ws t h =
     let r = begun ws t IsInfinityTail h in
     elim r.4 [
-      | inl e ↦ inl (subst (Spells ws) (sym r.2) (spells_alone ws r.0 r.1 r.3 e))
-      | inr s ↦ inr (subst (Spells (ws ++ 105 ∷ 110 ∷ 105 ∷ 116 ∷ 121 ∷ [])) (sym r.2)
+      | inl e ↦ inl (subst (SpellsWord ws) (sym r.2) (spells_alone ws r.0 r.1 r.3 e))
+      | inr s ↦ inr (subst (SpellsWord (ws ++ 105 ∷ 110 ∷ 105 ∷ 116 ∷ 121 ∷ [])) (sym r.2)
           (spells_join ws (105 ∷ 110 ∷ 105 ∷ 116 ∷ 121 ∷ []) r.0 r.1 r.3 s))
     ]
 
-short_from : (ws t : List ℕ) → Spells ws t → Begins ws IsInfinityTail t
+short_from : (ws t : List ℕ) → SpellsWord ws t → Begins ws IsInfinityTail t
 short_from [] [] s = inl refl
 short_from [] (b ∷ t) s = absurd s
 short_from (w ∷ ws) [] s = absurd s
 short_from (w ∷ ws) (b ∷ t) s = (s.0, short_from ws t s.1)
 
-long_from : (ws t : List ℕ) → Spells (ws ++ 105 ∷ 110 ∷ 105 ∷ 116 ∷ 121 ∷ []) t → Begins ws IsInfinityTail t
+long_from : (ws t : List ℕ) → SpellsWord (ws ++ 105 ∷ 110 ∷ 105 ∷ 116 ∷ 121 ∷ []) t → Begins ws IsInfinityTail t
 long_from [] t s = inr s
 long_from (w ∷ ws) [] s = absurd s
 long_from (w ∷ ws) (b ∷ t) s = (s.0, long_from ws t s.1)

@@ -8,7 +8,7 @@ use Rattle.std.specs.Char.{to_ascii_lowercase}
 use Rattle.std.specs.Float.Parse.{completes_number, is_infinity_text, is_nan_text, is_float_text, lowercases_to, float_scan_step}
 use Rattle.sf_float_read.specs.declared.item.reached.Radix.TheVariants.{Ten}
 use Rattle.sf_float_read.specs.item.Sequences.{AllDecimal, IsDecimal, IsSignedDecimal, IsFraction, IsSomeFraction, IsWhole, IsNumber}
-use Rattle.sf_float_read.specs.item.Sequences.{Spells}
+use Rattle.sf_float_read.specs.item.Sequences.{SpellsWord}
 use Rattle.sf_float_read.specs.item.Sequences.{Begins, IsInfinityTail, IsNanTail, IsZeroTail, IsUnsigned, is_sign}
 use Rattle.sf_float_read.specs.item.Laws.{is_plain, PlainFloatsParse}
 use Rattle.sf_float_read.specs.item.Parts.{IsSign}
@@ -61,7 +61,7 @@ number_completes (b ∷ t) (inr p) = subst (λ c. completes_number (float_scan_s
 
 -- ---- words
 
-spells : (ws t : List ℕ) → Spells ws t → lowercases_to t ws ≡ true
+spells : (ws t : List ℕ) → SpellsWord ws t → lowercases_to t ws ≡ true
 spells [] [] h = refl
 spells [] (b ∷ t) h = absurd h
 spells (w ∷ ws) [] h = absurd h

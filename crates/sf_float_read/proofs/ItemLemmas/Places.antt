@@ -12,7 +12,7 @@ use Rattle.sf_float_read.specs.declared.item.reached.Reached.{Reached}
 use Rattle.sf_float_read.specs.declared.item.reached.Reached.TheVariants as at
 use Rattle.sf_float_read.specs.item.Sequences.{is_digit, opens_exponent, is_sign, AllDecimal, IsSignedDecimal, IsExponentPart}
 use Rattle.sf_float_read.specs.item.Sequences.{IsSomeFraction}
-use Rattle.sf_float_read.specs.item.Sequences.{IsFraction, IsWhole, IsNumber, Spells, IsPayload, IsNanTail, IsInfinityTail, IsZeroTail}
+use Rattle.sf_float_read.specs.item.Sequences.{IsFraction, IsWhole, IsNumber, SpellsWord, IsPayload, IsNanTail, IsInfinityTail, IsZeroTail}
 use Rattle.sf_float_read.specs.item.Sequences.{IsUnsigned}
 use Rattle.sf_float_read.specs.item.Steps.{Completes, Goes}
 use Rattle.sf_float_read.specs.item.Tests as tests
@@ -152,7 +152,7 @@ not_nil b t e = absurd (omega (arith, ap length e))
 
 inf_goes : (b : ℕ) → Goes (λ t. IsInfinityTail (b ∷ t)) (tests.letter b 105 at.Infi)
 inf_goes b =
-    goes_as (λ t. (to_ascii_lowercase b ≡ 105) × Spells (110 ∷ 105 ∷ 116 ∷ 121 ∷ []) t) (λ t. IsInfinityTail (b ∷ t))
+    goes_as (λ t. (to_ascii_lowercase b ≡ 105) × SpellsWord (110 ∷ 105 ∷ 116 ∷ 121 ∷ []) t) (λ t. IsInfinityTail (b ∷ t))
     (tests.letter b 105 at.Infi) (λ t. ((λ h. elim h [ inl e ↦ absurd (not_nil b t e) | inr s ↦ s ]), (λ s. inr s)))
     (letter_goes b 105 at.Infi)
 
@@ -305,15 +305,15 @@ next_goes at.Infini b = letter_goes b 116 at.Infinit
 next_goes at.Infinit b = letter_goes_last b
   where
     letter_goes_last : (b : ℕ) → Goes (λ t. Completes at.Infinit (b ∷ t)) (tests.letter b 121 at.Infinity)
-    letter_goes_last b = goes_as (λ t. (to_ascii_lowercase b ≡ 121) × (t ≡ [])) (λ t. (to_ascii_lowercase b ≡ 121) × Spells [] t)
+    letter_goes_last b = goes_as (λ t. (to_ascii_lowercase b ≡ 121) × (t ≡ [])) (λ t. (to_ascii_lowercase b ≡ 121) × SpellsWord [] t)
         (tests.letter b 121 at.Infinity) (λ t. (spelt t, spells t)) (letter_goes b 121 at.Infinity)
       where
-        spelt : (t : List ℕ) → (to_ascii_lowercase b ≡ 121) × Spells [] t → (to_ascii_lowercase b ≡ 121) × (t ≡ [])
+        spelt : (t : List ℕ) → (to_ascii_lowercase b ≡ 121) × SpellsWord [] t → (to_ascii_lowercase b ≡ 121) × (t ≡ [])
         spelt [] h = (h.0, refl)
         spelt (c ∷ t) h = absurd h.1
 
-        spells : (t : List ℕ) → (to_ascii_lowercase b ≡ 121) × (t ≡ []) → (to_ascii_lowercase b ≡ 121) × Spells [] t
-        spells t h = (h.0, subst (Spells []) (sym h.1) tt)
+        spells : (t : List ℕ) → (to_ascii_lowercase b ≡ 121) × (t ≡ []) → (to_ascii_lowercase b ≡ 121) × SpellsWord [] t
+        spells t h = (h.0, subst (SpellsWord []) (sym h.1) tt)
 next_goes at.Infinity b = λ t e. not_nil b t e
 next_goes at.N b = letter_goes b 97 at.Na
 next_goes at.Na b = letter_goes b 110 at.Nan

@@ -6,7 +6,7 @@ use Rattle.std.specs.Float.Ieee.{Float, Format}
 use Rattle.std.specs.Float.Parse.{parse_float}
 use Rattle.std.proofs.lemmas.Bool.{ne_eqb}
 use Rattle.sf_float_read.specs.declared.item.reached.Radix.TheVariants.{Ten}
-use Rattle.sf_float_read.specs.item.Sequences.{IsWhole, IsSomeFraction, IsNumber, Spells}
+use Rattle.sf_float_read.specs.item.Sequences.{IsWhole, IsSomeFraction, IsNumber, SpellsWord}
 use Rattle.sf_float_read.specs.item.Parts.{IsSign, IsInfinity, IsNan}
 use Rattle.sf_float_read.proofs.ItemLemmas.Joined.{number_of}
 use Rattle.sf_float_read.specs.value.Values.{is_minus, stored, IsHexValue, IsStoredSize}
@@ -95,7 +95,7 @@ infinity_tells (b ∷ t) (inr s) = letter_i b t s.0
 nan_tells : (t : List ℕ) → IsNan t → Tells 3 t
 nan_tells t (name, chars, spells, tail, is) = subst (Tells 3) (sym is) (by name spells)
   where
-    by : (n : List ℕ) → Spells (110 ∷ 97 ∷ 110 ∷ []) n → Tells 3 (n ++ chars)
+    by : (n : List ℕ) → SpellsWord (110 ∷ 97 ∷ 110 ∷ []) n → Tells 3 (n ++ chars)
     by [] s = absurd s
     by (b ∷ t) s = letter_n b (t ++ chars) s.0
 

@@ -4,7 +4,7 @@ use Rattle.std.specs.List.{AllByRecursion}
 use Rattle.std.specs.Char.{is_ascii_alphanumeric}
 use Rattle.sf_float_read.specs.declared.item.reached.Radix.{Radix}
 use Rattle.sf_float_read.specs.declared.item.reached.Radix.TheVariants.{Ten, Sixteen}
-use Rattle.sf_float_read.specs.item.Sequences.{is_digit, opens_exponent, Spells, IsFloat, IsDecimalFloat}
+use Rattle.sf_float_read.specs.item.Sequences.{is_digit, opens_exponent, SpellsWord, IsFloat, IsDecimalFloat}
 
 -- digits, or none
 abbrev pub AreDigits : Radix → List ℕ → Type 0
@@ -44,7 +44,7 @@ IsHexadecimal t = (x : ℕ) × (numeral : List ℕ) × ((x ≡ 120) ⊎ (x ≡ 8
 
 -- `inf` or `infinity`, in either case
 abbrev pub IsInfinity : List ℕ → Type 0
-IsInfinity t = Spells (105 ∷ 110 ∷ 102 ∷ []) t ⊎ Spells (105 ∷ 110 ∷ 102 ∷ 105 ∷ 110 ∷ 105 ∷ 116 ∷ 121 ∷ []) t
+IsInfinity t = SpellsWord (105 ∷ 110 ∷ 102 ∷ []) t ⊎ SpellsWord (105 ∷ 110 ∷ 102 ∷ 105 ∷ 110 ∷ 105 ∷ 116 ∷ 121 ∷ []) t
 
 -- nothing, or letters, digits and underscores in parentheses, or none in them (7.22.1.3p3: n-char-sequence)
 abbrev pub IsCharSequence : List ℕ → Type 0
@@ -53,7 +53,7 @@ IsCharSequence t = (t ≡ []) ⊎ ((chars : List ℕ) × AllByRecursion (λ b. i
 
 -- `nan`, in either case, and such a sequence or none
 abbrev pub IsNan : List ℕ → Type 0
-IsNan t = (name : List ℕ) × (chars : List ℕ) × Spells (110 ∷ 97 ∷ 110 ∷ []) name × IsCharSequence chars × (t ≡ name ++ chars)
+IsNan t = (name : List ℕ) × (chars : List ℕ) × SpellsWord (110 ∷ 97 ∷ 110 ∷ []) name × IsCharSequence chars × (t ≡ name ++ chars)
 
 -- a sign or none, and one of the four
 abbrev pub IsFloatInParts : List ℕ → Type 0

@@ -59,11 +59,11 @@ IsNumber radix [] = ⊥
 IsNumber radix (b ∷ t) = (is_digit radix b ≡ true) × IsWhole radix t ⊎ (b ≡ 46) × IsSomeFraction radix t
 
 -- the word in either case, and nothing else
-abbrev pub Spells : List ℕ → List ℕ → Type 0
-Spells [] [] = ⊤
-Spells [] (b ∷ t) = ⊥
-Spells (w ∷ ws) [] = ⊥
-Spells (w ∷ ws) (b ∷ t) = (to_ascii_lowercase b ≡ w) × Spells ws t
+abbrev pub SpellsWord : List ℕ → List ℕ → Type 0
+SpellsWord [] [] = ⊤
+SpellsWord [] (b ∷ t) = ⊥
+SpellsWord (w ∷ ws) [] = ⊥
+SpellsWord (w ∷ ws) (b ∷ t) = (to_ascii_lowercase b ≡ w) × SpellsWord ws t
 
 -- digits, letters and underscores, up to a closing parenthesis at the end
 abbrev pub IsPayload : List ℕ → Type 0
@@ -83,7 +83,7 @@ Begins (w ∷ ws) P (b ∷ t) = (to_ascii_lowercase b ≡ w) × Begins ws P t
 
 -- after `inf`: nothing, or the rest of `infinity`
 abbrev pub IsInfinityTail : List ℕ → Type 0
-IsInfinityTail t = (t ≡ []) ⊎ Spells (105 ∷ 110 ∷ 105 ∷ 116 ∷ 121 ∷ []) t
+IsInfinityTail t = (t ≡ []) ⊎ SpellsWord (105 ∷ 110 ∷ 105 ∷ 116 ∷ 121 ∷ []) t
 
 -- after a first 0: the decimal number goes on, or x and a hexadecimal number
 abbrev pub IsZeroTail : List ℕ → Type 0

@@ -5,7 +5,7 @@ use Rattle.sf_float_read.specs.declared.item.reached.Radix.TheVariants.{Ten, Six
 use Rattle.sf_float_read.specs.declared.item.reached.Reached.{Reached}
 use Rattle.sf_float_read.specs.declared.item.reached.Reached.TheVariants as at
 use Rattle.sf_float_read.specs.item.Sequences.{IsDecimal, AllDecimal, IsSignedDecimal, IsFraction, IsSomeFraction, IsWhole, IsNumber}
-use Rattle.sf_float_read.specs.item.Sequences.{Spells, Begins, IsPayload, IsNanTail, IsInfinityTail, IsZeroTail, IsUnsigned}
+use Rattle.sf_float_read.specs.item.Sequences.{SpellsWord, Begins, IsPayload, IsNanTail, IsInfinityTail, IsZeroTail, IsUnsigned}
 use Rattle.sf_float_read.specs.item.Sequences.{IsFloat, IsDecimalFloat, IsFloatOf}
 
 abbrev pub AllBytes : List ℕ → Type 0
@@ -28,10 +28,10 @@ Completes at.Exponent t = AllDecimal t
 Completes at.I t = Begins (110 ∷ 102 ∷ []) IsInfinityTail t
 Completes at.In t = Begins (102 ∷ []) IsInfinityTail t
 Completes at.Inf t = IsInfinityTail t
-Completes at.Infi t = Spells (110 ∷ 105 ∷ 116 ∷ 121 ∷ []) t
-Completes at.Infin t = Spells (105 ∷ 116 ∷ 121 ∷ []) t
-Completes at.Infini t = Spells (116 ∷ 121 ∷ []) t
-Completes at.Infinit t = Spells (121 ∷ []) t
+Completes at.Infi t = SpellsWord (110 ∷ 105 ∷ 116 ∷ 121 ∷ []) t
+Completes at.Infin t = SpellsWord (105 ∷ 116 ∷ 121 ∷ []) t
+Completes at.Infini t = SpellsWord (116 ∷ 121 ∷ []) t
+Completes at.Infinit t = SpellsWord (121 ∷ []) t
 Completes at.Infinity t = t ≡ []
 Completes at.N t = Begins (97 ∷ 110 ∷ []) IsNanTail t
 Completes at.Na t = Begins (110 ∷ []) IsNanTail t

@@ -10,6 +10,7 @@ use Rattle.sf_base.specs.declared.real.Real.TheVariants as reals
 use Rattle.sf_base.specs.declared.values.Kind.{Kind}
 use Rattle.sf_base.specs.declared.values.Kind.TheVariants as kind
 use Rattle.sf_format.specs.declared.directive.Directive.{Directive}
+use Rattle.sf_format.specs.declared.unit.PrintConv.{PrintConv}
 use Rattle.sf_format.specs.declared.unit.Unit.{Unit as PrintUnit}
 use Rattle.sf_format.specs.Proper.{destinations_of, kind_at}
 use Rattle.sf_format.specs.Slots.{kind_with, slots_from}
@@ -101,6 +102,15 @@ printed_row units n values = map (printed_at units values) (slots_from 1 n)
 
 abbrev pub printed_in : List PrintUnit → List Directive → RunReport → List (Option Datum)
 printed_in units ds r = printed_row units (length (destinations_of ds)) r.values
+
+-- the value that a conversion prints of a record, as one of its kind
+abbrev pub value_found : List Assigned → PrintConv → Option Datum
+value_found values c = option_map (in_kind (Some c.kind)) (datum_at c.slot values)
+
+-- the text is what is printed of the record with so many values, which fit
+pub record IsPrint (units : List PrintUnit) (n : ℕ) (values : List Assigned) (text : List ℕ) : Type 0 where
+  pub fits : is_ok (given_measured units (printed_row units n values)) ≡ true
+  pub text_is : text ≡ given_printed units (printed_row units n values)
 
 -- The text of the values by the print format is written, where the format can print them: there are as many as it prints, of its
 -- kinds, a text that `c` prints has one byte, and the printed text has no more bytes than one may have. A missing value is blanks, as

@@ -5,6 +5,7 @@ ghost use Rattle.sf_report.specs.Runs.{RunReport};
 ghost use Rattle.sf_forms.specs.Written.{WritesText, is_sink_fault};
 ghost use Rattle.sf_print.specs.sink.Sinks.{counted_on};
 ghost use Rattle.sf_forms.specs.makers.Forms.{IsBare, bare, bare_form_of, header_text, headed_text, writing_under};
+ghost use Rattle.sf_forms.specs.Heads.{tag_of};
 ghost use Rattle.sf_forms.specs.makers.Works.{Writes, sink_failed};
 
 use crate::makers::maker::{Maker, Unwritten};
@@ -90,8 +91,16 @@ impl<'n> FormMaker<'n> {
         }
     }
 
-    /// Writes a record under heads. It is a call of its own, with a report of its own, so that other records
-    /// don't pay for it.
+    /// The number of the format that counted, where a first column has it.
+    #[inline(always)]
+    fn tag_of(&self, number: u64) -> Option<u64>
+        ensures { result ≡ tag_of self.now.tagged number }
+    {
+        if self.tagged { Some(number) } else { None }
+    }
+
+    /// Writes a record under names, or with the number of its format. It is a call of its own, with a report of its
+    /// own, so that other records don't pay for it.
     #[inline(never)]
     fn write_headed<K: Sink, T: Store>(
         &mut self,
@@ -106,11 +115,11 @@ impl<'n> FormMaker<'n> {
         ensures failures { K.failures to.new
             ≡ (if is_sink_fault result then counted_on (K.failures to.old) else K.failures to.old) }
     {
-        let tag = if self.tagged { Some(number) } else { None };
+        let tag = self.tag_of(number);
         match &self.names {
             Some(names) => {
                 self.writer
-                    .write_named(to, names.as_slice(), tag, &report, destinations)
+                    .write_named(to, names, tag, &report, destinations)
             }
             None => self.writer.write_columns(to, tag, &report, destinations),
         }

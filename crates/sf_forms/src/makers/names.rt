@@ -4,10 +4,12 @@ ghost use Rattle.std.specs.Prelude.{MatchOption};
 ghost use Rattle.std.specs.List.{AllByRecursion, Contains, join_with_byte, slice_split};
 ghost use Rattle.sf_format.specs.declared.directive.Directive.{Directive};
 ghost use Rattle.sf_forms.specs.Columns.{name_at, texts};
+ghost use Rattle.sf_forms.specs.Heads.{head};
 ghost use Rattle.sf_forms.specs.makers.Names.{AreGoodBelow, AreNames, IsCounted, IsGood, IsNamesFault};
 ghost use Rattle.sf_forms.specs.makers.Names.{names_before};
 
 use crate::TAG_NAME;
+use crate::heads::heads_of;
 use sf_format::ScanFormat;
 use std::alloc::{AllocError, Global};
 use std::marker::Model;
@@ -27,15 +29,20 @@ pub enum NamesFault {
 #[derive(Drop)]
 pub struct Names<'n> {
     names: Vec<&'n str>,
+    /// What stands before the value of each in an object of JSON.
+    heads: Vec<Vec<u8>>,
 }
 
 impl<'n> Model for Names<'n> {
-    ghost use Rattle.std.specs.Prelude.{List, ℕ};
+    ghost use Rattle.std.specs.Prelude.{◌≡◌, List, ℕ, map};
     ghost use Rattle.sf_forms.specs.Columns.{texts};
+    ghost use Rattle.sf_forms.specs.Heads.{head};
 
     ghost Value = { List (List ℕ) };
 
     ghost view = { λ n. texts n.names.items };
+
+    ghost invariant = { λ n. map (λ text. text.items) n.heads.items ≡ map head (texts n.names.items) };
 }
 
 /// The parts of a text between its commas.
@@ -130,9 +137,9 @@ impl<'n> Names<'n> {
         ensures split { IfOk result (λ names. names ≡ slice_split (λ b. b == 44) text.now) }
         ensures joined { IfOk result (λ names. join_with_byte 44 names ≡ text.now) }
     {
-        Ok(Names {
-            names: parts(alloc, text)?,
-        })
+        let names = parts(alloc, text)?;
+        let heads = heads_of(alloc, &names)?;
+        Ok(Names { names, heads })
     }
 
     /// How many there are.
@@ -157,6 +164,19 @@ impl<'n> Names<'n> {
         match self.names.get(number - 1) {
             Some(name) => name,
             None => "",
+        }
+    }
+
+    /// What stands before the value with this number, counted from 1, in an object of JSON: its name, or an empty one,
+    /// and a colon.
+    #[inline(always)]
+    pub(crate) fn head(&self, number: usize) -> &[u8]
+        requires { 1 ≤ number }
+        ensures { result.now ≡ head (name_at self.now number) }
+    {
+        match self.heads.get(number - 1) {
+            Some(text) => text,
+            None => b"\"\":",
         }
     }
 

@@ -7,7 +7,8 @@ ghost use Rattle.sf_format.specs.Units.{values_of};
 ghost use Rattle.sf_print.specs.Given.{given_measured, given_printed};
 ghost use Rattle.sf_print.specs.Printed.{measured, printed};
 ghost use Rattle.sf_print.specs.sink.Sinks.{counted_on};
-ghost use Rattle.sf_forms.specs.makers.Prints.{in_kind, printed_at, printed_row, printing, real_in};
+ghost use Rattle.sf_forms.specs.makers.Prints.{IsPrint, in_kind, printed_at, printed_row, printing, real_in};
+ghost use Rattle.sf_forms.specs.makers.Prints.{value_found};
 ghost use Rattle.sf_forms.specs.makers.Works.{Writes, sink_failed};
 
 use crate::makers::maker::{Maker, Unwritten};
@@ -15,11 +16,14 @@ use crate::makers::printable::holds_all;
 use crate::makers::rows::{FEW_VALUES, MOST_VALUES};
 use arrayvec::ArrayVec;
 use sf_base::{Kind, Number, Real, Shown, Store, Value};
-use sf_format::{PrintFormat, ScanFormat};
-use sf_print::{PrintFault, Sink, fprint, fprint_given};
+use sf_format::{PrintConv, PrintFormat, ScanFormat};
+use sf_print::{PrintFault, Printables, Sink, WritesInPlace, fprint, fprint_given, write_printed};
 use sf_report::Report;
 use std::marker::Model;
 use std::num::{f32_from_bits_with_nan, f64_to_bits_with_nan};
+
+/// The greatest length of a printed text.
+const MOST_BYTES: usize = 2147483647;
 
 /// Prints the values of each report by a print format.
 #[derive(Drop)]
@@ -49,6 +53,9 @@ impl<'p> PrintMaker<'p> {
 fn widened(number: Number, wide: Kind) -> Number
     ensures { datum_of_number result ≡ in_kind (Some wide) (datum_of_number number) }
 {
+    if number.kind == wide {
+        return number;
+    }
     if !holds_all(wide, number.kind) {
         return number;
     }
@@ -71,18 +78,19 @@ fn real_in(real: Real, kind: Kind) -> Real
 }
 
 /// The value, a number as one of the kind where that holds each of its own.
-fn in_kind<'a>(shown: Shown<'a>, kind: Option<Kind>) -> Value<'a>
-    ensures { datum_of result ≡ in_kind kind (datum_of_shown shown.entry) }
+#[inline(always)]
+fn in_kind<'a>(shown: Shown<'a>, kind: Option<Kind>) -> Shown<'a>
+    ensures { datum_of_shown result ≡ in_kind kind (datum_of_shown shown.entry) }
 {
     match (shown, kind) {
-        (Shown::Number(number), Some(wide)) => widened(number, wide).value(),
-        (Shown::Real(real), Some(wide)) => real_in(real, wide).value(),
-        _ => shown.value(),
+        (Shown::Number(number), Some(wide)) => Shown::Number(widened(number, wide)),
+        (Shown::Real(real), Some(wide)) => Shown::Real(real_in(real, wide)),
+        _ => shown,
     }
 }
 
 /// The value of a slot, as one of the kind that the print format has there. None where it is missing.
-#[inline(always)]
+#[inline]
 fn value_at<'r, T: Store>(
     report: &Report<'r, T>,
     print: &PrintFormat,
@@ -92,7 +100,7 @@ fn value_at<'r, T: Store>(
     ensures { option_map datum_of result ≡ printed_at print.now report.now.values slot }
 {
     match report.shown(slot) {
-        Some(shown) => Some(in_kind(shown, print.kind(slot))),
+        Some(shown) => Some(in_kind(shown, print.kind(slot)).value()),
         None => None,
     }
 }
@@ -194,6 +202,67 @@ fn print_missing<K: Sink, T: Store>(
     print_given(to, print, &given)
 }
 
+/// Prints a record that isn't printed in the sink's block. It is a call of its own, so that others don't pay for it.
+#[inline(never)]
+fn print_apart<K: Sink, T: Store>(
+    to: &mut K,
+    print: &PrintFormat,
+    report: &Report<'_, T>,
+    destinations: u8,
+) -> Result<(), Unwritten>
+    requires { destinations ≤ 32 }
+    ensures made { Writes (is_ok (given_measured print.now (printed_row print.now destinations report.now.values)))
+        (given_printed print.now (printed_row print.now destinations report.now.values)) (K.contents to.old)
+        (K.contents to.new) result }
+    ensures failures { K.failures to.new
+        ≡ (if sink_failed result then counted_on (K.failures to.old) else K.failures to.old) }
+{
+    if destinations as usize <= FEW_VALUES {
+        if let Some(values) = row::<T, FEW_VALUES>(report, print, destinations) {
+            return print_row(to, print, &values);
+        }
+    } else if let Some(values) = row::<T, MOST_VALUES>(report, print, destinations) {
+        return print_row(to, print, &values);
+    }
+    print_missing(to, print, report, destinations)
+}
+
+/// The print of a record.
+#[derive(Drop)]
+struct RecordPrint<'a, 'r, T: Store> {
+    print: &'a PrintFormat,
+    report: &'a Report<'r, T>,
+    destinations: u8,
+}
+
+impl<T: Store> Printables for RecordPrint<'_, '_, T> {
+    ghost value_of = { λ printed conv. value_found printed.report.now.values conv };
+
+    #[inline(always)]
+    fn shown_by(&self, conv: &PrintConv) -> Option<Shown<'_>> {
+        Some(in_kind(self.report.shown(conv.slot)?, Some(conv.kind)))
+    }
+}
+
+impl<T: Store> WritesInPlace for RecordPrint<'_, '_, T> {
+    ghost Writes = { λ old new text. IsPrint old.print.now old.destinations old.report.now.values text };
+
+    // It may write nothing: the values are judged as they are written.
+    ghost Surely = { λ printed room. ⊥ };
+
+    #[inline(always)]
+    fn write_in(&mut self, room: &mut [u8]) -> Option<usize> {
+        if self.print.values() != self.destinations {
+            return None;
+        }
+        let len = write_printed(self.print, &*self, room)?;
+        if len > MOST_BYTES {
+            return None;
+        }
+        Some(len)
+    }
+}
+
 impl Maker for PrintMaker<'_> {
     ghost work = { λ units number ds. printing units ds };
 
@@ -205,14 +274,15 @@ impl Maker for PrintMaker<'_> {
         report: &Report<'_, T>,
     ) -> Result<(), Unwritten> {
         let destinations = format.destinations();
-        if destinations as usize <= FEW_VALUES {
-            if let Some(values) = row::<T, FEW_VALUES>(report, self.print, destinations) {
-                return print_row(to, self.print, &values);
-            }
-        } else if let Some(values) = row::<T, MOST_VALUES>(report, self.print, destinations) {
-            return print_row(to, self.print, &values);
+        let mut record = RecordPrint {
+            print: self.print,
+            report,
+            destinations,
+        };
+        if to.lend(&mut record) {
+            return Ok(());
         }
-        print_missing(to, self.print, report, destinations)
+        print_apart(to, self.print, report, destinations)
     }
 
     ghost unmet = { λ units number ds report met. record { fits = refl; text = refl } };

@@ -8,17 +8,12 @@ use Rattle.sf_format.specs.declared.unit.PrintConv.{PrintConv}
 use Rattle.sf_format.specs.declared.unit.PrintLetter.{PrintLetter}
 use Rattle.sf_format.specs.declared.unit.PrintLetter.TheVariants as letter
 use Rattle.sf_print.specs.texts.Text.{base_of, is_upper, integer_text, with_sign, sign, mark, prefix, numeral, all_digits, filled}
-use Rattle.sf_print.specs.texts.Text.{with_octal_zero, blanks, zeros, left_blanks, inner_zeros, right_blanks}
+use Rattle.sf_print.specs.texts.Text.{with_octal_zero, blanks, zeros, left_blanks, inner_zeros, right_blanks, text_around}
 
 pub abs_of : (negative : Bool) (m : ℕ) → unsigned_abs (with_sign negative m) ≡ m
 abs_of true zero = refl
 abs_of true (suc n) = refl
 abs_of false m = refl
-
--- the text from its prefix and its digits
-abbrev pub text_around : PrintConv → List ℕ → List ℕ → List ℕ
-text_around c p ds = let len = length p + length ds in
-    blanks (left_blanks c len) ++ p ++ zeros (inner_zeros c len) ++ ds ++ blanks (right_blanks c len)
 
 regroup : (b s m z l d r : List ℕ) → b ++ (s ++ (m ++ ((z ++ l) ++ (d ++ (r ++ []))))) ≡ b ++ (s ++ m) ++ z ++ (l ++ d) ++ r
 regroup b s m z l d r = simp (append_assoc, append-nil)

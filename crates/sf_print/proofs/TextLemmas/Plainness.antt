@@ -21,12 +21,12 @@ use Rattle.sf_format.specs.declared.unit.PrintConv.{PrintConv}
 use Rattle.sf_print.specs.texts.Text.{base_of, is_upper, is_octal, base_mark, integer_text, value_text, with_sign, prefix, numeral}
 use Rattle.sf_print.specs.texts.Text.{all_digits}
 use Rattle.sf_print.specs.texts.Text.{filled, with_octal_zero, least_digits, opens_with_zero, blanks, zeros, left_blanks, inner_zeros}
-use Rattle.sf_print.specs.texts.Text.{right_blanks, pads_with_zeros, short_by}
+use Rattle.sf_print.specs.texts.Text.{right_blanks, pads_with_zeros, short_by, text_around}
 use Rattle.sf_print.specs.texts.Plain.{minus, is_decimal, is_plain}
 use Rattle.sf_print.specs.texts.Printables.{IsOf}
 use Rattle.sf_print.specs.declared.texts.text.Printable.TheVariants as printable
 use Rattle.sf_print.proofs.DigitLemmas.FourDigits.{length_at_most}
-use Rattle.sf_print.proofs.TextLemmas.Around.{text_around, abs_of}
+use Rattle.sf_print.proofs.TextLemmas.Around.{abs_of}
 use Rattle.sf_print.proofs.DigitLemmas.Digits.{length_some}
 
 none_of : (b : Bool) (n : ℕ) → n ≡ 0 → cond b n 0 ≡ 0
@@ -65,7 +65,7 @@ no_mark : (b : Bool) (m : List ℕ) → m ≡ [] → cond b m [] ≡ []
 no_mark true m e = e
 no_mark false m e = refl
 
-least_one : (p : Option ℕ) → is_none p ≡ true → unwrap_or p 1 ≡ 1
+pub least_one : (p : Option ℕ) → is_none p ≡ true → unwrap_or p 1 ≡ 1
 least_one None e = refl
 least_one (Some n) e = absurd cc
 
@@ -76,7 +76,7 @@ plain_prefix c true (suc n) h p b k = ap (λ (t : List ℕ). 45 ∷ [] ++ t) (no
 plain_prefix c false m h p b k =
     (λ i. cond (p i) (43 ∷ []) (cond (b i) (32 ∷ []) []) ++ no_mark (c.alt && not (m == 0)) (base_mark c.letter) k i)
 
-some_least : (b : Bool) (k : ℕ) (ds : List ℕ) → k ≡ 1 → cond (b && k == 0) [] ds ≡ ds
+pub some_least : (b : Bool) (k : ℕ) (ds : List ℕ) → k ≡ 1 → cond (b && k == 0) [] ds ≡ ds
 some_least b k ds e = ap (λ (n : ℕ). cond (b && n == 0) [] ds) e ∙ by b
   where
     by : (t : Bool) → cond (t && false) [] ds ≡ ds
@@ -90,7 +90,7 @@ octal_kept c ds e = by (is_octal c.letter) c.alt (not (opens_with_zero ds)) e
     by true b t h = absurd cc
     by false b t h = refl
 
-negated : (b : Bool) → not b ≡ true → b ≡ false
+pub negated : (b : Bool) → not b ≡ true → b ≡ false
 negated true e = absurd cc
 negated false e = refl
 
@@ -173,7 +173,7 @@ some_less m b e = by (nat_lt 0 m) refl e
     by true h e = ltb-true 0 m h
     by false h e = absurd cc
 
-some_below : (k : Kind) (negative : Bool) (m : ℕ) → is_held k negative m ≡ true → negative ≡ true → 0 < m
+pub some_below : (k : Kind) (negative : Bool) (m : ℕ) → is_held k negative m ≡ true → negative ≡ true → 0 < m
 some_below k false m held e = absurd cc
 some_below I8 true m held e = some_less m (nat_le m (2 ^ 7)) held
 some_below I16 true m held e = some_less m (nat_le m (2 ^ 15)) held
@@ -191,7 +191,7 @@ most_of : (m n : ℕ) (a : Bool) → a && nat_le m n ≡ true → m ≤ n
 most_of m n true e = leb-true m n e
 most_of m n false e = absurd cc
 
-small_of : (k : Kind) (negative : Bool) (m : ℕ) → is_held k negative m ≡ true → m < 2 ^ 64
+pub small_of : (k : Kind) (negative : Bool) (m : ℕ) → is_held k negative m ≡ true → m < 2 ^ 64
 small_of I8 false m held = omega (arith, ltb-true m (2 ^ 7) held)
 small_of I16 false m held = omega (arith, ltb-true m (2 ^ 15) held)
 small_of I32 false m held = omega (arith, ltb-true m (2 ^ 31) held)

@@ -16,6 +16,10 @@ is_decimal _ = false
 abbrev pub is_plain : PrintConv → Bool
 is_plain c = is_decimal c.letter && (c.width == 0) && not c.plus && not c.blank && is_none c.precision
 
+-- no precision, no flag but `-` and `0`: a number is a minus and its digits, padded to the width
+abbrev pub is_field : PrintConv → Bool
+is_field c = not c.plus && not c.blank && not c.alt && is_none c.precision
+
 -- a number whose text is a minus and digits alone
 abbrev pub is_plain_number : PrintConv → Datum → Bool
 is_plain_number c (Number kind z) = is_plain c

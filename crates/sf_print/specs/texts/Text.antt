@@ -100,9 +100,13 @@ right_blanks c len = if c.minus then short_by c len else 0
 
 -- ---- texts of values
 
+-- digits after a prefix, padded to the width
+abbrev pub text_around : PrintConv → List ℕ → List ℕ → List ℕ
+text_around c p ds = let len = length p + length ds in
+    blanks (left_blanks c len) ++ p ++ zeros (inner_zeros c len) ++ ds ++ blanks (right_blanks c len)
+
 abbrev pub integer_text : PrintConv → ℤ → List ℕ
-integer_text c z = let ds = all_digits c (unsigned_abs z) in let len = length (prefix c z) + length ds in
-    blanks (left_blanks c len) ++ prefix c z ++ zeros (inner_zeros c len) ++ ds ++ blanks (right_blanks c len)
+integer_text c z = text_around c (prefix c z) (all_digits c (unsigned_abs z))
 
 -- the first bytes up to the precision, or all
 abbrev pub first_bytes : Option ℕ → List ℕ → List ℕ

@@ -16,7 +16,9 @@ fn glyph(upper: bool, digit: u8) -> u8
     }
 }
 
-/// Writes the digits of a number so that they end at `end`, and answers where they start.
+/// Writes the digits of a number so that they end at `end`, and answers where they start. It is compiled in place, so
+/// that a base that is known is divided by without a division.
+#[inline(always)]
 pub fn write_digits(base: u8, upper: bool, number: u64, buf: &mut [u8], end: usize) -> usize
     requires base { (2 ≤ base) × (base ≤ 16) }
     requires room { (length (digits base upper number) ≤ end) × (end ≤ length buf.old) }

@@ -133,7 +133,8 @@ fn around_digits<'a>(
 }
 
 /// Writes the digits of a magnitude in the letter's base to the buffer, and answers where they start and end.
-fn write_magnitude(
+#[inline(always)]
+pub(crate) fn write_magnitude(
     letter: PrintLetter,
     magnitude: u64,
     buf: &mut [u8; DIGIT_BYTES],

@@ -3,7 +3,7 @@
 ghost use Rattle.std.specs.Prelude.{◌≡◌, ◌≤◌, ◌<◌, ◌^◌, ◌++◌, is_some, length, IfSome};
 ghost use Rattle.std.specs.Fmt.{decimal};
 ghost use Rattle.sf_base.specs.Data.{datum_of};
-ghost use Rattle.sf_print.specs.texts.Plain.{is_decimal, is_plain, is_plain_number, is_plain_text, minus};
+ghost use Rattle.sf_print.specs.texts.Plain.{is_decimal, is_field, is_plain, is_plain_number, is_plain_text, minus};
 ghost use Rattle.sf_print.specs.texts.Text.{value_text};
 
 use crate::texts::text::{Printable, printable_of};
@@ -30,6 +30,14 @@ pub fn is_plain_conv(conv: &PrintConv) -> bool
         && !conv.plus
         && !conv.blank
         && conv.precision.is_none()
+}
+
+/// Whether the conversion prints a number as a minus, if there is one, and its digits, padded to the width.
+#[inline(always)]
+pub fn is_field_conv(conv: &PrintConv) -> bool
+    ensures { result ≡ is_field conv.now }
+{
+    !conv.plus && !conv.blank && !conv.alt && conv.precision.is_none()
 }
 
 /// The sign (true: a minus) and the magnitude of a value that is printed by its digits alone.

@@ -23,7 +23,7 @@ fn shown<'a>(conv: &PrintConv, bytes: &'a [u8]) -> &'a [u8]
 }
 
 /// The pieces of a text.
-fn text_pieces<'a>(conv: &PrintConv, bytes: &'a [u8]) -> Pieces<'a>
+pub(crate) fn text_pieces<'a>(conv: &PrintConv, bytes: &'a [u8]) -> Pieces<'a>
     ensures { flat_map piece_bytes result ≡ bytes_text conv.now bytes.entry.now }
 {
     let shown = shown(conv, bytes);

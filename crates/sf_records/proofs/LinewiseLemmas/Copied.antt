@@ -23,7 +23,8 @@ use Rattle.sf_run.specs.outcome.Status.TheVariants.{Done}
 use Rattle.sf_run.specs.outcome.Outcome.{Outcome}
 use Rattle.sf_run.specs.Rows.{AreRowOf}
 use Rattle.sf_run.specs.Steps.{StepEnd, Passes, Stores, Misses, Fails, EmptyItem, ItemEnds, Step}
-use Rattle.sf_run.specs.Runs.{Ran, GoesOn, Steps, StepsPast, over, RunReport, used, values, value_stored, failure_of, status_of}
+use Rattle.sf_run.specs.Runs.{Ran, GoesOn, Steps, StepsPast, over, RunReport, bytes_used, values_stored, value_stored, failure_of}
+use Rattle.sf_run.specs.Runs.{status_of}
 use Rattle.sf_run.specs.Runs.{place_of_failure, report_of}
 use Rattle.sf_run.specs.Limits.{RunWithin}
 use Rattle.sf_run.specs.Laws.{EachHasOneReport, EachRunIsComputed, EachDoneRunStays}
@@ -78,10 +79,10 @@ goes_so (Stores slot v) rest ran none h = h
 goes_so Misses rest ran none h = h
 goes_so (Fails status) rest ran none h = absurd (true≢false none)
 
-cons_values : (r : Ran) (a b : List Ran) → values a ≡ values b → values (r ∷ a) ≡ values (r ∷ b)
+cons_values : (r : Ran) (a b : List Ran) → values_stored a ≡ values_stored b → values_stored (r ∷ a) ≡ values_stored (r ∷ b)
 cons_values r a b e = by (value_stored r) refl
   where
-    by : (o : Option Assigned) → value_stored r ≡ o → values (r ∷ a) ≡ values (r ∷ b)
+    by : (o : Option Assigned) → value_stored r ≡ o → values_stored (r ∷ a) ≡ values_stored (r ∷ b)
     by None h = rw h e
     by (Some v) h = rw h (ap (λ t. v ∷ t) e)
 
@@ -109,7 +110,7 @@ passes_one members x n bytes end (s, j, skip, item, sum, ends) none = by j item.
 none_stored : (r : Ran) → r.end ≡ Passes → value_stored r ≡ None
 none_stored r e = rw e refl
 
-none_of : (r : Ran) → value_stored r ≡ None → values (r ∷ []) ≡ []
+none_of : (r : Ran) → value_stored r ≡ None → values_stored (r ∷ []) ≡ []
 none_of r e = rw e refl
 
 -- ---- a run of directives, none of which may be missing, and then of that one
@@ -132,8 +133,8 @@ record Fronted (front : List Directive) (x : List ℕ) (n : ℕ) (ran : List Ran
   pub before : List Ran
   pub steps : Steps front x n before
   pub none : fails before ≡ false
-  pub used_is : used ran ≡ used before + 1
-  pub values_are : values ran ≡ values before
+  pub used_is : bytes_used ran ≡ bytes_used before + 1
+  pub values_are : values_stored ran ≡ values_stored before
 
 fronted : (front : List Directive) (members : List Bool) (x : List ℕ) (n : ℕ) (ran : List Ran)
     → has_optional front ≡ false → Steps (front ++ reads_one members ∷ []) x n ran → fails ran ≡ false → Fronted front x n ran
@@ -255,7 +256,7 @@ module _ (back : RoundTrip) (agree : AlignedSlotsAgree) (tests : FitsIsFit) (one
       (subst (λ (y : List ℕ). Steps (front ++ reads_one members ∷ []) y 0 run.0) same
       (subst (λ (d : List Directive). Steps d (printed units row ++ []) 0 run.0) ends run.1))
       (none_failed run.0 (ap (λ (r : RunReport). r.at) run.4)) in
-      let size : used f.before ≡ length line = omega (
+      let size : bytes_used f.before ≡ length line = omega (
         arith,
         f.used_is,
         ap (λ (r : RunReport). r.used) run.4,
@@ -265,8 +266,9 @@ module _ (back : RoundTrip) (agree : AlignedSlotsAgree) (tests : FitsIsFit) (one
       let all = one front proper options.limit x End in
       by run.0 f size all.report all.is (ap (λ (r : RunReport). r.values) run.4)
     where
-      by : (ran : List Ran) (f : Fronted front (line ++ 10 ∷ []) 0 ran) → used f.before ≡ length line → (report : RunReport)
-          → RunWithin front options.limit (line ++ 10 ∷ []) End report → (read_back units ds row).values ≡ values ran → IsRead line row
+      by : (ran : List Ran) (f : Fronted front (line ++ 10 ∷ []) 0 ran) → bytes_used f.before ≡ length line → (report : RunReport)
+          → RunWithin front options.limit (line ++ 10 ∷ []) End report → (read_back units ds row).values ≡ values_stored ran
+          → IsRead line row
       by ran f size report (inl h) vs =
           let is = h.1.4 ∙ ap (λ (t : List Ran). report_of t h.1.2)
           ((computed front proper (line ++ 10 ∷ []) 0 h.1.0).0 h.1.1
@@ -290,7 +292,7 @@ module _ (back : RoundTrip) (agree : AlignedSlotsAgree) (tests : FitsIsFit) (one
             size,
             short,
             cut.high,
-            ap used same,
+            ap bytes_used same,
             sum_by-append (λ (s : Ran). s.bytes) h.0 (cut.cut ∷ cut.rest),
             sum_by-cons (λ (s : Ran). s.bytes) cut.cut cut.rest,
           ))

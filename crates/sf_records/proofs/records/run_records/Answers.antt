@@ -55,10 +55,11 @@ returns-in_default-clause-loops g c t e =
 pub records-preserved-in-Ok-write_held : goal.records-preserved-in-Ok-write_held
 records-preserved-in-Ok-write_held g c = record {
   going = λ t e.
+      let written = c.write_records.ensures.written in
       let going = goes_further g.S.Source.failures told.one_report c.destinations.ensures.proper
-      (λ some. bare_lines _ _ (c.is_plain-plain.ensures.order (c.write_plain.ensures.asked some))
-      (c.is_plain-plain.ensures.form (c.write_plain.ensures.asked some) 1))
-      c.write_plain.ensures.told c.write_plain.ensures.written (c.records.invariant.going t e) in
+      (λ some. bare_lines written.0 _ _ (c.form_in_place-asked.ensures.order written.0 (written.1 some))
+      (c.form_in_place-asked.ensures.form written.0 (written.1 some) 1))
+      c.write_records.ensures.told written.2 (c.records.invariant.going t e) in
       let judged = c.in-Ok-write_held.ensures.written in
       next told.one_report c.destinations.ensures.proper going c.new-report.result
       (scan_as c.new-report.ensures (c.in-Some.ensures.scan going.left going.input))
@@ -68,48 +69,51 @@ records-preserved-in-Ok-write_held g c = record {
       (rw (← c.records.invariant.same) judged.0) (rw (← c.records.invariant.same) judged.1);
   same = c.write_held.ensures.same ∙ c.records.invariant.same;
   roomy = enough_still c.records.invariant.roomy c.fscan_held.ensures.room;
-  unread = λ at_end. c.fscan_held.ensures.no_read ∙ c.write_plain.ensures.written.source ∙ c.records.invariant.unread at_end;
-  ended = λ at_end. c.fscan_held.ensures.stays ∙ c.write_plain.ensures.written.at_end ∙ c.records.invariant.ended at_end;
-  most = omega (arith, c.write_plain.ensures.most, c.records.invariant.most, c.if-passed-eq-MOST_RECORDS.false);
-  sound = c.in-Ok-write_held.ensures.failures ∙ c.write_plain.ensures.failures ∙ c.records.invariant.sound;
+  unread = λ at_end. c.fscan_held.ensures.no_read ∙ c.write_records.ensures.written.2.source ∙ c.records.invariant.unread at_end;
+  ended = λ at_end. c.fscan_held.ensures.stays ∙ c.write_records.ensures.written.2.at_end ∙ c.records.invariant.ended at_end;
+  most = omega (arith, c.write_records.ensures.most, c.records.invariant.most, c.if-passed-eq-MOST_RECORDS.false);
+  sound = c.in-Ok-write_held.ensures.failures ∙ c.write_records.ensures.failures ∙ c.records.invariant.sound;
 }
 
 pub returns-in-Err-clause-loops : goal.returns-in-Err-clause-loops
 returns-in-Err-clause-loops g c t e =
+    let written = c.write_records.ensures.written in
     let going = goes_further g.S.Source.failures told.one_report c.destinations.ensures.proper
-    (λ some. bare_lines _ _ (c.is_plain-plain.ensures.order (c.write_plain.ensures.asked some))
-    (c.is_plain-plain.ensures.form (c.write_plain.ensures.asked some) 1))
-    c.write_plain.ensures.told c.write_plain.ensures.written (c.records.invariant.going t e) in
+    (λ some. bare_lines written.0 _ _ (c.form_in_place-asked.ensures.order written.0 (written.1 some))
+    (c.form_in_place-asked.ensures.form written.0 (written.1 some) 1))
+    c.write_records.ensures.told written.2 (c.records.invariant.going t e) in
     ends_at told.one_report c.destinations.ensures.proper going c.new-report.result
     (scan_as c.new-report.ensures (c.in-Some.ensures.scan going.left going.input)) (λ at_end. c.fscan_held.ensures.stays ∙ at_end)
     (quiet _ (ap (λ r. r.met) c.new-report.ensures ∙ c.in-Some.ensures.met) (ap g.S.Source.failures c.fscan_held.ensures.no_read))
     (λ _. done_fine _ (ap (λ r. r.status) c.new-report.ensures ∙ c.in-Some.ensures.done))
-    (omega (arith, c.write_plain.ensures.most, c.records.invariant.most, c.if-passed-eq-MOST_RECORDS.false))
+    (omega (arith, c.write_records.ensures.most, c.records.invariant.most, c.if-passed-eq-MOST_RECORDS.false))
     c.ended_by-in-Err.result _
     (rw (← c.records.invariant.same, c.ended_by-in-Err.ensures) c.in-Err.ensures.unwritten)
 
 pub returns-in-Some-judge-clause-loops : goal.returns-in-Some-judge-clause-loops
 returns-in-Some-judge-clause-loops g c t e =
+    let written = c.write_records.ensures.written in
     let going = goes_further g.S.Source.failures told.one_report c.destinations.ensures.proper
-    (λ some. bare_lines _ _ (c.is_plain-plain.ensures.order (c.write_plain.ensures.asked some))
-    (c.is_plain-plain.ensures.form (c.write_plain.ensures.asked some) 1))
-    c.write_plain.ensures.told c.write_plain.ensures.written (c.records.invariant.going t e) in
+    (λ some. bare_lines written.0 _ _ (c.form_in_place-asked.ensures.order written.0 (written.1 some))
+    (c.form_in_place-asked.ensures.form written.0 (written.1 some) 1))
+    c.write_records.ensures.told written.2 (c.records.invariant.going t e) in
     let judged = c.in-Some-judge.ensures.judged in
     ends_at told.one_report c.destinations.ensures.proper going c.new-report.result
     (scan_as c.new-report.ensures (c.in-Some.ensures.scan going.left going.input)) (λ at_end. c.fscan_held.ensures.stays ∙ at_end)
     (quiet _ (ap (λ r. r.met) c.new-report.ensures ∙ c.in-Some.ensures.met) (ap g.S.Source.failures c.fscan_held.ensures.no_read))
     (λ _. done_fine _ (ap (λ r. r.status) c.new-report.ensures ∙ c.in-Some.ensures.done))
-    (omega (arith, c.write_plain.ensures.most, c.records.invariant.most, c.if-passed-eq-MOST_RECORDS.false))
+    (omega (arith, c.write_records.ensures.most, c.records.invariant.most, c.if-passed-eq-MOST_RECORDS.false))
     c.in-Some-judge.end _
     (rw (← c.records.invariant.same) judged)
 
 pub records-preserved-in-Some : goal.records-preserved-in-Some
 records-preserved-in-Some g c = record {
   going = λ t e.
+      let written = c.write_records.ensures.written in
       let going = goes_further g.S.Source.failures told.one_report c.destinations.ensures.proper
-      (λ some. bare_lines _ _ (c.is_plain-plain.ensures.order (c.write_plain.ensures.asked some))
-      (c.is_plain-plain.ensures.form (c.write_plain.ensures.asked some) 1))
-      c.write_plain.ensures.told c.write_plain.ensures.written (c.records.invariant.going t e) in
+      (λ some. bare_lines written.0 _ _ (c.form_in_place-asked.ensures.order written.0 (written.1 some))
+      (c.form_in_place-asked.ensures.form written.0 (written.1 some) 1))
+      c.write_records.ensures.told written.2 (c.records.invariant.going t e) in
       let judged = c.in_default-judge.ensures.judged in
       next told.one_report c.destinations.ensures.proper going c.new-report.result
       (scan_as c.new-report.ensures (c.in-Some.ensures.scan going.left going.input))
@@ -119,10 +123,10 @@ records-preserved-in-Some g c = record {
       (rw (← c.records.invariant.same) judged.0) (rw (← c.records.invariant.same) judged.1);
   same = c.in_default-judge.ensures.same ∙ c.records.invariant.same;
   roomy = enough_still c.records.invariant.roomy c.fscan_held.ensures.room;
-  unread = λ at_end. c.fscan_held.ensures.no_read ∙ c.write_plain.ensures.written.source ∙ c.records.invariant.unread at_end;
-  ended = λ at_end. c.fscan_held.ensures.stays ∙ c.write_plain.ensures.written.at_end ∙ c.records.invariant.ended at_end;
-  most = omega (arith, c.write_plain.ensures.most, c.records.invariant.most, c.if-passed-eq-MOST_RECORDS.false);
-  sound = c.in_default-judge.ensures.failures ∙ c.write_plain.ensures.failures ∙ c.records.invariant.sound;
+  unread = λ at_end. c.fscan_held.ensures.no_read ∙ c.write_records.ensures.written.2.source ∙ c.records.invariant.unread at_end;
+  ended = λ at_end. c.fscan_held.ensures.stays ∙ c.write_records.ensures.written.2.at_end ∙ c.records.invariant.ended at_end;
+  most = omega (arith, c.write_records.ensures.most, c.records.invariant.most, c.if-passed-eq-MOST_RECORDS.false);
+  sound = c.in_default-judge.ensures.failures ∙ c.write_records.ensures.failures ∙ c.records.invariant.sound;
 }
 
 pub returns-in_default-fscan_over-clause-loops : goal.returns-in_default-fscan_over-clause-loops
@@ -132,26 +136,28 @@ returns-in_default-fscan_over-clause-loops g c t e =
 
 pub returns-in-Some-judge-2-clause-loops : goal.returns-in-Some-judge-2-clause-loops
 returns-in-Some-judge-2-clause-loops g c t e =
+    let written = c.write_records.ensures.written in
     let going = same_ahead g.S.Source.failures (c.in_default-fscan_held.ensures.none refl)
     (goes_further g.S.Source.failures told.one_report c.destinations.ensures.proper
-    (λ some. bare_lines _ _ (c.is_plain-plain.ensures.order (c.write_plain.ensures.asked some))
-    (c.is_plain-plain.ensures.form (c.write_plain.ensures.asked some) 1))
-    c.write_plain.ensures.told c.write_plain.ensures.written (c.records.invariant.going t e)) in
+    (λ some. bare_lines written.0 _ _ (c.form_in_place-asked.ensures.order written.0 (written.1 some))
+    (c.form_in_place-asked.ensures.form written.0 (written.1 some) 1))
+    c.write_records.ensures.told written.2 (c.records.invariant.going t e)) in
     let judged = c.in-Some-judge-2.ensures.judged in
     ends_at told.one_report c.destinations.ensures.proper going c.in-Ok-fscan_over.scanned.report
     (c.in-Ok-fscan_over.ensures.scan going.left going.input) c.in-Ok-fscan_over.ensures.stays c.in-Ok-fscan_over.ensures.failures
     c.in-Ok-fscan_over.ensures.bounded
-    (omega (arith, c.write_plain.ensures.most, c.records.invariant.most, c.if-passed-eq-MOST_RECORDS.false)) c.in-Some-judge-2.end _
+    (omega (arith, c.write_records.ensures.most, c.records.invariant.most, c.if-passed-eq-MOST_RECORDS.false)) c.in-Some-judge-2.end _
     (rw (← c.report.ensures, ← c.records.invariant.same) judged)
 
 pub records-preserved : goal.records-preserved
 records-preserved g c = record {
   going = λ t e.
+      let written = c.write_records.ensures.written in
       let going = same_ahead g.S.Source.failures (c.in_default-fscan_held.ensures.none refl)
       (goes_further g.S.Source.failures told.one_report c.destinations.ensures.proper
-      (λ some. bare_lines _ _ (c.is_plain-plain.ensures.order (c.write_plain.ensures.asked some))
-      (c.is_plain-plain.ensures.form (c.write_plain.ensures.asked some) 1))
-      c.write_plain.ensures.told c.write_plain.ensures.written (c.records.invariant.going t e)) in
+      (λ some. bare_lines written.0 _ _ (c.form_in_place-asked.ensures.order written.0 (written.1 some))
+      (c.form_in_place-asked.ensures.form written.0 (written.1 some) 1))
+      c.write_records.ensures.told written.2 (c.records.invariant.going t e)) in
       let judged = c.in_default-judge-2.ensures.judged in
       next told.one_report c.destinations.ensures.proper going c.in-Ok-fscan_over.scanned.report
       (c.in-Ok-fscan_over.ensures.scan going.left going.input) c.in-Ok-fscan_over.ensures.stays
@@ -162,20 +168,21 @@ records-preserved g c = record {
   roomy = rw (c.into_store-store.ensures.kept) c.in-Ok-fscan_over.ensures.room;
   unread = λ at_end.
       c.in-Ok-fscan_over.ensures.no_read
-      (c.in_default-fscan_held.ensures.stays ∙ c.write_plain.ensures.written.at_end ∙ c.records.invariant.ended at_end)
-      ∙ c.in_default-fscan_held.ensures.no_read ∙ c.write_plain.ensures.written.source ∙ c.records.invariant.unread at_end;
+      (c.in_default-fscan_held.ensures.stays ∙ c.write_records.ensures.written.2.at_end ∙ c.records.invariant.ended at_end)
+      ∙ c.in_default-fscan_held.ensures.no_read ∙ c.write_records.ensures.written.2.source ∙ c.records.invariant.unread at_end;
   ended = λ at_end.
       c.in-Ok-fscan_over.ensures.stays
-      (c.in_default-fscan_held.ensures.stays ∙ c.write_plain.ensures.written.at_end ∙ c.records.invariant.ended at_end);
-  most = omega (arith, c.write_plain.ensures.most, c.records.invariant.most, c.if-passed-eq-MOST_RECORDS.false);
-  sound = c.in_default-judge-2.ensures.failures ∙ c.write_plain.ensures.failures ∙ c.records.invariant.sound;
+      (c.in_default-fscan_held.ensures.stays ∙ c.write_records.ensures.written.2.at_end ∙ c.records.invariant.ended at_end);
+  most = omega (arith, c.write_records.ensures.most, c.records.invariant.most, c.if-passed-eq-MOST_RECORDS.false);
+  sound = c.in_default-judge-2.ensures.failures ∙ c.write_records.ensures.failures ∙ c.records.invariant.sound;
 }
 
 pub returns-then-passed-eq-MOST_RECORDS-clause-loops : goal.returns-then-passed-eq-MOST_RECORDS-clause-loops
 returns-then-passed-eq-MOST_RECORDS-clause-loops g c t e =
+    let written = c.write_records.ensures.written in
     let going = goes_further g.S.Source.failures told.one_report c.destinations.ensures.proper
-    (λ some. bare_lines _ _ (c.is_plain-plain.ensures.order (c.write_plain.ensures.asked some))
-    (c.is_plain-plain.ensures.form (c.write_plain.ensures.asked some) 1))
-    c.write_plain.ensures.told c.write_plain.ensures.written (c.records.invariant.going t e) in
+    (λ some. bare_lines written.0 _ _ (c.form_in_place-asked.ensures.order written.0 (written.1 some))
+    (c.form_in_place-asked.ensures.form written.0 (written.1 some) 1))
+    c.write_records.ensures.told written.2 (c.records.invariant.going t e) in
     too_many told.one_report c.destinations.ensures.proper going c.if-passed-eq-MOST_RECORDS.true
     c.ended_by-then-passed-eq-MOST_RECORDS.result c.ended_by-then-passed-eq-MOST_RECORDS.ensures

@@ -4,4 +4,4 @@ use Rattle.std.specs.List.{join_with_byte}
 use Rattle.sf_forms.proofs.makers.names.Names.split.Goals as goal
 
 pub returns-clause-joined : goal.returns-clause-joined
-returns-clause-joined c = ap (join_with_byte 44) c.in_ok-parts.ensures ∙ join_with_byte-slice_split 44 c.args.text.now
+returns-clause-joined c = ap (join_with_byte 44) c.in_ok-names.ensures ∙ join_with_byte-slice_split 44 c.args.text.now
