@@ -44,8 +44,8 @@ pub fn early_runs_stay()
 {}
 
 /// A run of an accepted format that is Done has given each slot, from 1 to the count of the destinations, a value of
-/// the slot's kind: a number that the kind holds, the bytes of a text, or a float. Only a slot with a `?` may have
-/// been given nothing; without one there is a row of values.
+/// the slot's kind: a number that the kind holds, the bytes of a text, or a float. Only a slot with a `?`,
+/// or in a group that may be missing, may have been given nothing; without one there is a row of values.
 pub fn done_runs_have_rows()
     ensures slots { EachDoneRunFillsSlots }
     ensures row { EachDoneRunHasItsRow }

@@ -61,6 +61,9 @@ pub(crate) fn decimal_real(kind: Kind, decimal: Decimal) -> Option<Real>
     }
 }
 
+/// The most bytes of an item that `numeral_within` reads: a minus, a point and nineteen digits.
+const LONGEST_NUMERAL: usize = 21;
+
 /// As `real_of`, of an item of so many bytes at the front of the piece. It stands apart, so that a run that reads no
 /// float so is as it was.
 #[inline(never)]
@@ -68,9 +71,11 @@ pub(crate) fn real_within(kind: Kind, piece: &[u8], bytes: usize) -> Option<Real
     requires within { bytes ≤ length piece.now }
     ensures { result ≡ real_at kind (take bytes piece.now) }
 {
-    if let Some(decimal) = numeral_within(piece) {
-        if decimal.bytes == bytes {
-            return decimal_real(kind, decimal);
+    if bytes <= LONGEST_NUMERAL {
+        if let Some(decimal) = numeral_within(piece) {
+            if decimal.bytes == bytes {
+                return decimal_real(kind, decimal);
+            }
         }
     }
     let (item, _) = piece.split_at(bytes);
