@@ -23,7 +23,7 @@ use Rattle.sf_records.proofs.InPlaceTexts.{record_in}
 use Rattle.sf_records.proofs.Looping.{Going, next, next_front, plain_goes}
 
 -- a lookahead with these parts
-ahead_is : {S : Type 0} (now new : Ahead S) → new.held ≡ now.held → new.source ≡ now.source → new.at_end ≡ now.at_end → new ≡ now
+pub ahead_is : {S : Type 0} (now new : Ahead S) → new.held ≡ now.held → new.source ≡ now.source → new.at_end ≡ now.at_end → new ≡ now
 ahead_is now new held source at_end = λ i. record { held = held i; source = source i; at_end = at_end i }
 
 -- what is made of a run whose values are written is its record in this form

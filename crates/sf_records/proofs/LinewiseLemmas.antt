@@ -2,6 +2,7 @@ pub mod Choosing
 pub mod Coming
 pub mod Copied
 pub mod Holding
+pub mod InPlace
 pub mod Looping
 pub mod OneTurn
 pub mod Reading

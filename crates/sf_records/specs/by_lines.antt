@@ -1,5 +1,6 @@
 pub mod Coming
 pub mod Copied
+pub mod InPlace
 pub mod Judging
 pub mod Laws
 pub mod Loops

@@ -2,6 +2,7 @@
 
 mod end;
 mod formats;
+mod in_place;
 mod judge;
 pub mod laws;
 mod lines;

@@ -1,19 +1,24 @@
 //! Records whose values are written as they are read.
 ghost use Rattle.std.specs.Prelude.{◌≡◌, ◌+◌, ◌-◌, ◌<◌, ◌≤◌, ℕ, List, Option, Some, length, drop, take, true};
 ghost use Rattle.std.specs.Io.KnownBytes.{IsAtEnd};
+ghost use Rattle.sf_format.specs.Proper.{AreInOrder};
 ghost use Rattle.sf_forms.specs.declared.form.OutputForm.{OutputForm};
 ghost use Rattle.sf_forms.specs.declared.form.OutputForm.TheVariants.{Plain, Tsv, Json, Csv};
 ghost use Rattle.sf_forms.specs.Forms.{value_text};
 ghost use Rattle.sf_forms.specs.InPlace.{parted};
+ghost use Rattle.sf_forms.specs.makers.Forms.{IsBare};
+ghost use Rattle.sf_run.specs.Runs.{RunReport};
 ghost use Rattle.sf_run.specs.Written.{AreRecords, CanFollow};
 ghost use Rattle.sf_records.specs.InPlace.{WritesRecords, line_in, value_in};
 
 use sf_base::{Number, Real};
 use sf_format::ScanFormat;
-use sf_forms::{OutputForm, end_values, write_number_value, write_real_value, write_text_value};
+use sf_forms::{
+    Maker, OutputForm, end_values, write_number_value, write_real_value, write_text_value,
+};
 use sf_print::{Sink, WritesInPlace};
 use sf_read::{Lookahead, Source};
-use sf_run::{ValueWriter, WrittenRuns, write_runs};
+use sf_run::{ValueWriter, WrittenRuns, is_in_order, write_runs};
 use std::marker::PhantomData;
 
 /// A form of records, as a type.
@@ -105,7 +110,7 @@ impl<F: TypedForm> ValueWriter for FormValues<F> {
 
 /// As `write_runs`, in this form.
 #[inline(always)]
-fn write_runs_in(
+pub(crate) fn write_runs_in(
     form: OutputForm,
     format: &ScanFormat,
     limit: u32,
@@ -127,6 +132,20 @@ fn write_runs_in(
         OutputForm::Json => write_runs::<FormValues<JsonForm>>(format, limit, piece, room, most),
         OutputForm::Csv => write_runs::<FormValues<CsvForm>>(format, limit, piece, room, most),
     }
+}
+
+/// In which form the records of the format may be written as they are read. None where they have heads, or are printed,
+/// or where the values don't come in the order of their slots.
+pub(crate) fn form_in_place<M: Maker>(maker: &M, format: &ScanFormat) -> Option<OutputForm>
+    ensures form { (form : OutputForm) → result ≡ Some form → (number : ℕ) (report : RunReport)
+        → IsBare form (M.work maker.now number format.now) format.now report }
+    ensures order { (form : OutputForm) → result ≡ Some form → AreInOrder format.now }
+{
+    let form = maker.bare_form()?;
+    if !is_in_order(format) {
+        return None;
+    }
+    Some(form)
 }
 
 /// Runs over a piece of the input whose records are written as they are read.

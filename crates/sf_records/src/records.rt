@@ -2,9 +2,6 @@
 ghost use Rattle.std.specs.Prelude.{◌≡◌, ◌≢◌, ◌<◌, ◌≤◌, ℕ, List, Some, None, true, if◌then◌else◌, IfOk, IfErr, IfSome};
 ghost use Rattle.std.specs.Prelude.{MatchOption};
 ghost use Rattle.std.specs.Result.{result_err};
-ghost use Rattle.sf_format.specs.Proper.{AreInOrder};
-ghost use Rattle.sf_forms.specs.declared.form.OutputForm.{OutputForm};
-ghost use Rattle.sf_forms.specs.makers.Forms.{IsBare};
 ghost use Rattle.sf_print.specs.sink.Sinks.{counted_on};
 ghost use Rattle.sf_read.specs.source.Ahead.{input_of};
 ghost use Rattle.sf_records.specs.Judging.{Judges, fault_by, fault_of, is_write};
@@ -14,14 +11,14 @@ ghost use Rattle.sf_records.specs.Records.{Loops, end_by, ended, status_by};
 ghost use Rattle.sf_records.specs.Works.{turn_in};
 
 use crate::end::{ToolEnd, ToolFault, ended_by};
-use crate::in_place::write_records;
+use crate::in_place::{form_in_place, write_records};
 use crate::turn::{Turn, next_turn};
 use sf_base::{HeapStore, Store};
 use sf_format::ScanFormat;
-use sf_forms::{Maker, OutputForm, Unwritten};
+use sf_forms::{Maker, Unwritten};
 use sf_print::Sink;
 use sf_read::{Lookahead, Source, fscan_held, fscan_over};
-use sf_run::{Report, is_in_order};
+use sf_run::Report;
 use std::alloc::Global;
 
 /// The most records that one loop writes.
@@ -132,20 +129,6 @@ fn write_held<M: Maker, K: Sink, T: Store>(
         Ok(()) => Ok(()),
         Err(why) => Err(fault_by(why, records + 1)),
     }
-}
-
-/// In which form the records of the format may be written as they are read. None where they have heads, or are printed,
-/// or where the values don't come in the order of their slots.
-fn form_in_place<M: Maker>(maker: &M, format: &ScanFormat) -> Option<OutputForm>
-    ensures form { (form : OutputForm) → result ≡ Some form → (number : ℕ) (report : RunReport)
-        → IsBare form (M.work maker.now number format.now) format.now report }
-    ensures order { (form : OutputForm) → result ≡ Some form → AreInOrder format.now }
-{
-    let form = maker.bare_form()?;
-    if !is_in_order(format) {
-        return None;
-    }
-    Some(form)
 }
 
 /// Scans record after record of what the lookahead holds and its source gives, by runs of at most `limit` bytes, and

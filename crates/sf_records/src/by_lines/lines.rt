@@ -13,6 +13,7 @@ ghost use Rattle.sf_records.specs.declared.by_lines.end.LineFault.{LineFault};
 
 use crate::by_lines::end::{Counts, LinesEnd, LinesFault, next_step};
 use crate::by_lines::formats::LineFormats;
+use crate::by_lines::in_place::{form_of_lines, write_lines};
 use crate::by_lines::options::LinesOptions;
 use crate::by_lines::teller::Teller;
 use crate::by_lines::turn::turn;
@@ -21,6 +22,7 @@ use sf_format::ScanFormat;
 use sf_forms::Maker;
 use sf_print::Sink;
 use sf_read::{Lookahead, Source};
+use sf_run::laws::done_runs_stay;
 use std::alloc::{AllocError, Global};
 
 /// The most lines that one loop reads.
@@ -131,15 +133,25 @@ pub fn run_lines<M: Maker, E: Teller<K>, S: Source, K: Sink, const N: usize>(
     };
     let mut store = Some(made);
     let mut line = Vec::new(alloc);
-    for before in 0..MOST_LINES {
+    let format = &formats.tried[0];
+    let asked = form_of_lines(maker, format, formats, &options);
+    done_runs_stay();
+    let mut number = 0;
+    'lines: loop {
+        let passed = write_lines(asked, from, to, format, &options, number);
+        counts.written += passed;
+        let before = number + passed;
+        if before == MOST_LINES {
+            return counts.ended(Some(LinesFault::TooMany));
+        }
+        number = before + 1;
         let judged = turn(
             alloc, from, &mut line, &mut store, to, maker, teller, formats, &options, before,
         );
         counts = counts.with(&judged);
-        match next_step(judged, options.keep_going, before + 1) {
+        match next_step(judged, options.keep_going, number) {
             Ok(()) => {}
             Err(fault) => return counts.ended(fault),
         }
     }
-    counts.ended(Some(LinesFault::TooMany))
 }
