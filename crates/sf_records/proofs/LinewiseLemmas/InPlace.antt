@@ -1,6 +1,6 @@
 -- Lines whose records are written as they are read.
-use Rattle.std.proofs.Common.{◌≡◌, ◌==◌, ℕ, zero, suc, ◌+◌, ◌-◌, ◌<◌, ◌≤◌, Bool, true, false, not, cond, List, [], ◌∷◌, ◌++◌, length, take, drop}
-use Rattle.std.proofs.Common.{get_or, Option, Some, None, Ok, refl, sym, ap, subst, ◌∙◌, arith, append-nil, append_assoc, true≢false}
+use Rattle.std.proofs.Common.{◌≡◌, ◌==◌, ℕ, zero, suc, ◌+◌, ◌-◌, ◌<◌, ◌≤◌, Bool, true, false, not, cond, List, [], ◌∷◌, ◌++◌, length, take}
+use Rattle.std.proofs.Common.{drop, get_or, Option, Some, None, Ok, refl, sym, ap, subst, ◌∙◌, arith, append-nil, append_assoc, true≢false}
 use Rattle.std.proofs.lemmas.Bool.Decides.{nat_tests}
 use Rattle.std.proofs.lemmas.Grind.{flat_map-append}
 use Rattle.std.proofs.lemmas.List.{drop-drop, length-append, length-take-le, take-take}
@@ -74,7 +74,8 @@ held_at (b ∷ piece) n is less = by (b == 10) refl (held_at piece (prefix_len (
           within = omega (arith, within);
           is_line = (e, h.is_line);
           ended = ap (λ (xs : List ℕ). b ∷ xs) h.ended
-              ∙ ap (λ (k : ℕ). (b ∷ take behind piece) ++ 10 ∷ drop k (b ∷ piece)) {x = suc (behind + 1)} {y = suc behind + 1} (omega arith);
+              ∙ ap (λ (k : ℕ). (b ∷ take behind piece) ++ 10 ∷ drop k (b ∷ piece)) {x = suc (behind + 1)} {y = suc behind + 1}
+              (omega arith);
         })
 
 -- and it is the only one
